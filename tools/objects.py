@@ -1,7 +1,7 @@
 #!/usr/bin/env python3
 """Writes what is made of the table of objects: the objects of mibs/DMS-PROFILE-MIB, and the tables of docs/PROFILE.md.
 
-The table is crates/dms_objects/specs/Objects.antt, whose limits have their numbers in
+The table is crates/dms_mib/specs/Objects.antt, whose limits have their numbers in
 crates/dms_codes/specs/Limits.antt. What is made stands between two marks; all else in a file is kept.
 With --check nothing is written, and the status is 1 where a file is not up to date."""
 
@@ -13,7 +13,7 @@ import textwrap
 from dataclasses import dataclass
 
 TOP = pathlib.Path(__file__).resolve().parent.parent
-TABLE, LIMITS = "crates/dms_objects/specs/Objects.antt", "crates/dms_codes/specs/Limits.antt"
+TABLE, LIMITS = "crates/dms_mib/specs/Objects.antt", "crates/dms_codes/specs/Limits.antt"
 MIB, PROFILE = "mibs/DMS-PROFILE-MIB", "docs/PROFILE.md"
 WIDTH = 120
 ROW = re.compile(r'(?:scalar|column)_row (\w+) = row \(codes "(\w+)"\) (\w+) (\d+) (\w+) (\w+|\(.*\))')

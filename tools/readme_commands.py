@@ -88,7 +88,7 @@ fn send(_reply: &[u8]) {{}}
 fn light(_is_lit: bool) {{}}
 
 fn main(rt: HostRuntime) -> ExitCode {{
-    let octets = dms_description::BENCH.as_bytes();
+    let octets = dms_sign_text::BENCH.as_bytes();
     let datagram: &[u8] = &{datagram};
 {body}    ExitCode::from(if reply.is_empty() {{ 3 }} else {{ 0 }})
 }}

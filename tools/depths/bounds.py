@@ -49,8 +49,8 @@ def plain(text: str) -> str:
 
 
 FONTS = "crates/dms_face/src/face.rt", r"pub const MAX_FONTS: usize = (\d+);"
-WHOLE = "crates/dms_causes/src/whole.rt"
-INTEGER = "crates/dms_ber/src/integer.rt"
+WHOLE = "crates/dms_sign_text_causes/src/whole.rt"
+INTEGER = "crates/dms_wire_ber/src/integer.rt"
 
 BOUNDS = (
     Bound(
@@ -61,14 +61,14 @@ BOUNDS = (
         guards=((FONTS[0], "fonts.len() <= MAX_FONTS && have_own_numbers(fonts)"),),
     ),
     Bound(
-        ("dms_causes::whole::number_twice",),
+        ("dms_sign_text_causes::whole::number_twice",),
         5,
         "a call for each font, once these are known to be at most four",
         *FONTS,
         guards=((WHOLE, "if fonts.len() > MAX_FONTS { return Some(SignCause::FifthFont); } number_twice(fonts)"),),
     ),
     Bound(
-        ("dms_causes::whole::rows_cause",),
+        ("dms_sign_text_causes::whole::rows_cause",),
         17,
         "a call for each permanent row, once these are known to be at most sixteen",
         "crates/dms_codes/src/limits.rt",
@@ -76,28 +76,28 @@ BOUNDS = (
         guards=(
             (WHOLE, "if permanent > MAX_PERMANENT { Some(SignCause::PermanentRows)"),
             (
-                "crates/dms_description/src/sign_reasons.rt",
+                "crates/dms_sign_text/src/sign_reasons.rt",
                 "counts_cause(permanent.len(), counts.changeable, counts.volatile) { return Some(cause); } rows_cause(",
             ),
         ),
     ),
     Bound(
-        ("dms_description::reasons::head_cause",),
+        ("dms_sign_text::reasons::head_cause",),
         8,
         "a call for each line with which a description begins",
-        "crates/dms_description/src/reasons.rt",
+        "crates/dms_sign_text/src/reasons.rt",
         r"const HEAD: \[Form; (\d+)\] =",
-        guards=(("crates/dms_description/src/reasons.rt", "head_cause(alloc, &HEAD, Lines::of(octets))"),),
+        guards=(("crates/dms_sign_text/src/reasons.rt", "head_cause(alloc, &HEAD, Lines::of(octets))"),),
     ),
     Bound(
-        ("dms_forms::form::fault_from",),
+        ("dms_text_forms::form::fault_from",),
         12,
         "a call for each word that the form of a line has; publish, of the events of a script, has most",
         "crates/*/src/*.rt",
         r"&\[( ?Wanted::[^\]]*)\]",
     ),
     Bound(
-        ("dms_ber::integer::put_number",),
+        ("dms_wire_ber::integer::put_number",),
         9,
         "a call for each octet of a number of 64 bits, and one where the highest is 128 or more",
         INTEGER,
@@ -105,7 +105,7 @@ BOUNDS = (
         times=1 / 8,
     ),
     Bound(
-        ("dms_ber::integer::put_inverted",),
+        ("dms_wire_ber::integer::put_inverted",),
         9,
         "a call for each octet of a number of 64 bits, and one where the highest is 128 or more",
         INTEGER,
@@ -113,17 +113,17 @@ BOUNDS = (
         times=1 / 8,
     ),
     Bound(
-        ("dms_ber::length::count_digits",),
+        ("dms_wire_ber::length::count_digits",),
         8,
         "a call for each octet of a number of 64 bits",
-        guards=(("crates/dms_ber/src/length.rt", "fn count_digits(number: usize) -> usize"),),
+        guards=(("crates/dms_wire_ber/src/length.rt", "fn count_digits(number: usize) -> usize"),),
     ),
     *(
         Bound(
             cycle,
             3,
             "a call for each level of subcommands: the program has one, and its help beside them",
-            guards=(("crates/dms_cli/src/subcommands.rt", ".subcommand("),),
+            guards=(("crates/signtool_cli/src/subcommands.rt", ".subcommand("),),
         )
         for cycle in (
             ("clap::builder::command::Command::depth",),
@@ -133,10 +133,10 @@ BOUNDS = (
             ("clap::parser::globals::fill_in_global_values",),
             ("clap::parser::parse::Parser::get_matches_with",),
             ("clap::parser::parse::help_of",),
-            ("dms_cli::clap++builder++command++Command+Destruct::drop",),
+            ("signtool_cli::clap++builder++command++Command+Destruct::drop",),
             (
-                "dms_cli::clap++parser++matches++ArgMatches+Destruct::drop",
-                "dms_cli::clap++parser++matches++SubCommand+Destruct::drop",
+                "signtool_cli::clap++parser++matches++ArgMatches+Destruct::drop",
+                "signtool_cli::clap++parser++matches++SubCommand+Destruct::drop",
             ),
         )
     ),

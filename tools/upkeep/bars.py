@@ -3,7 +3,7 @@
 from collections.abc import Callable
 from dataclasses import dataclass
 
-from . import code, counts, crates, documents, drawing, rows, tools, words, wrong
+from . import code, counts, crates, documents, drawing, families, rows, tools, words, wrong
 from .tree import Tree
 
 
@@ -28,6 +28,7 @@ BARS = (
     Bar("links", documents.links),
     Bar("crates are named", crates.named),
     Bar("houses are in one order", crates.ordered),
+    Bar("families of crates", families.kept),
     Bar("crates of few functions", crates.few),
     Bar("sizes of crates", crates.large),
     Bar("examples of crates", crates.examples),

@@ -7,6 +7,8 @@ from .tree import Tree
 LIST = "crates.txt"
 PAGES = ("docs/ARCHITECTURE.md", "docs/MAP.md", "docs/PROVED.md")
 REASONS = "docs/DECISIONS.md"
+# the line of a house: its name, and the families of its crates
+HOUSE = re.compile(r"## (?P<house>[a-z][a-z ]*): (?P<families>\w+(?:, \w+)*)")
 FEWEST = 10
 MOST_FUNCTIONS, MOST_LINES = 130, 2000
 FUNCTION = re.compile(r"(?m)^\s*(?:pub(?:\(\w+\))? )?(?:const )?(?:extern \"C\" )?fn \w+")
@@ -21,11 +23,12 @@ def names(tree: Tree) -> list[str]:
 
 
 def houses(tree: Tree) -> dict[str, list[str]]:
-    """The crates of each house: those below a comment of crates.txt that is a name and no sentence."""
+    """The crates of each house: those below its line of crates.txt."""
     found: dict[str, list[str]] = {}
     for _, line in tree.lines(LIST):
-        if re.fullmatch(r"# [a-z][a-z ]*", line):
-            found[line.removeprefix("# ")] = []
+        house = HOUSE.fullmatch(line)
+        if house:
+            found[house["house"]] = []
         elif found and re.match(r"\w", line):
             found[list(found)[-1]].append(line.split(":")[0].split()[0])
     return found

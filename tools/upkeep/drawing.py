@@ -78,7 +78,7 @@ def drawn(tree: Tree) -> list[str]:
 
 def told(tree: Tree) -> list[str]:
     """Rows of the page's table of crates that name other crates than those a crate stands on, nearest ones alone."""
-    rows = dict(re.findall(r"(?m)^\| (\w+) \| [^|\n]+ \| ([^|\n]*?) ?\|$", tree.text(PAGE)))
+    rows = dict(re.findall(r"(?m)^\| (\w+) \| [^|\n]+ \| ([^|\n]*?) ?\|", tree.text(PAGE)))
     return [
         f"{PAGE}: {crate} stands on {', '.join(sorted(lowers)) or 'none'}"
         for crate, lowers in nearest(tree).items()

@@ -4,22 +4,22 @@ use Rattle.std.proofs.lemmas.List.Elements.{All-cons, All-head, All-tail, All-ap
 use Rattle.std.proofs.lemmas.Bool.{false≢true}
 use Rattle.std.proofs.lemmas.Bool.Decides.{nat_tests}
 use Rattle.dms_wire.specs.Message.{SnmpMessage}
-use Rattle.dms_ber.specs.Element.{element}
+use Rattle.dms_wire_ber.specs.Element.{element}
 use Rattle.dms_wire.specs.Canonical.{canonical}
-use Rattle.dms_requests.specs.declared.job.Job.{Job as CodeJob}
+use Rattle.dms_centre_jobs.specs.declared.job.Job.{Job as CodeJob}
 use Rattle.dms_centre.specs.declared.pending.Pending.{Pending as CodePending}
 use Rattle.dms_centre.specs.declared.stage.Stage.{Stage}
 use Rattle.dms_centre.specs.declared.stage.Stage.TheVariants as stages
 use Rattle.dms_centre.specs.declared.outcome.Outcome.{Outcome}
 use Rattle.dms_centre.specs.declared.ended.Ended.{Ended}
-use Rattle.dms_requests.specs.declared.step.Step.TheVariants.{Explaining}
-use Rattle.dms_requests.specs.Job.{Job}
+use Rattle.dms_centre_jobs.specs.declared.step.Step.TheVariants.{Explaining}
+use Rattle.dms_centre_jobs.specs.Job.{Job}
 use Rattle.dms_centre.specs.State.{Pending, Phase, Idle, Awaits, Due, Entry, CentreState, is_busy}
-use Rattle.dms_requests.specs.Steps.{is_activating}
+use Rattle.dms_centre_jobs.specs.Steps.{is_activating}
 use Rattle.dms_centre.specs.Sending.{entered}
 use Rattle.dms_centre.specs.Replies.{with_outcome, most_polls}
 use Rattle.dms_centre.specs.Resending.{given_up, is_waiting}
-use Rattle.dms_requests.specs.Requests.{IsWork}
+use Rattle.dms_centre_jobs.specs.Requests.{IsWork}
 use Rattle.dms_centre.specs.CodeView.{sent_in, phase_model}
 use Rattle.dms_centre.specs.ByPhase.{is_awaiting, awaits_activation}
 use Rattle.dms_centre.specs.Invariant.{AllBelow, IsState, IsPhase, IsPending}

@@ -2,10 +2,11 @@
 -- phase cannot be, nothing happens (this profile).
 use Rattle.std.specs.Prelude.{ℕ, ℤ, Bool, true, false, List, []}
 use Rattle.dms_wire.specs.Message.{VarBind, SnmpMessage}
-use Rattle.dms_requests.specs.declared.step.Step.{Step}
-use Rattle.dms_requests.specs.declared.step.Step.TheVariants.{Opening, Opened, Filling, Validating, Polling, Comparing}
-use Rattle.dms_requests.specs.declared.step.Step.TheVariants.{Activating, Explaining}
-use Rattle.dms_requests.specs.Steps.{is_activating}
+use Rattle.dms_centre_jobs.specs.declared.step.Step.{Step}
+use Rattle.dms_centre_jobs.specs.declared.step.Step.TheVariants.{Opening, Opened, Filling, Validating, Polling}
+use Rattle.dms_centre_jobs.specs.declared.step.Step.TheVariants.{Comparing}
+use Rattle.dms_centre_jobs.specs.declared.step.Step.TheVariants.{Activating, Explaining}
+use Rattle.dms_centre_jobs.specs.Steps.{is_activating}
 use Rattle.dms_centre.specs.State.{CentreState, Phase, Idle, Awaits, Due}
 use Rattle.dms_centre.specs.Sending.{Move, rests, at_step, sends}
 use Rattle.dms_centre.specs.Replies.{is_answer, on_success, on_failure, on_read, on_number, number_read, asked}

@@ -1,8 +1,8 @@
 -- What the code's types say: the models of settings, waiting requests and the ledger (this profile).
 use Rattle.std.specs.Prelude.{ℕ, List, [], ◌∷◌, map, Option, Some, None, if◌then◌else◌}
-use Rattle.dms_requests.specs.declared.job.Job.{Job}
-use Rattle.dms_requests.specs.Job.{SettingsModel}
-use Rattle.dms_requests.specs.CodeView.{job_model}
+use Rattle.dms_centre_jobs.specs.declared.job.Job.{Job}
+use Rattle.dms_centre_jobs.specs.Job.{SettingsModel}
+use Rattle.dms_centre_jobs.specs.CodeView.{job_model}
 use Rattle.dms_centre.specs.declared.settings.Settings.{Settings}
 use Rattle.dms_centre.specs.declared.pending.Pending.{Pending}
 use Rattle.dms_centre.specs.declared.stage.Stage.{Stage}

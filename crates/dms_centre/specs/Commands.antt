@@ -1,8 +1,8 @@
 -- An operator's command (this profile): why it is refused, and what it makes of the state.
 use Rattle.std.specs.Prelude.{not, Option, Some, None, nat_lt, if◌then◌else◌}
-use Rattle.dms_requests.specs.Job.{Job}
-use Rattle.dms_requests.specs.Commands.{CommandModel, is_good, job_of}
-use Rattle.dms_requests.specs.Steps.{last_number}
+use Rattle.dms_centre_jobs.specs.Job.{Job}
+use Rattle.dms_centre_jobs.specs.Commands.{CommandModel, is_good, job_of}
+use Rattle.dms_centre_jobs.specs.Steps.{last_number}
 use Rattle.dms_centre.specs.declared.fault.CommandFault.{CommandFault}
 use Rattle.dms_centre.specs.declared.fault.CommandFault.TheVariants as faults
 use Rattle.dms_centre.specs.State.{CentreState, is_busy}

@@ -1,9 +1,9 @@
 -- The central system under one input after another, with all that it sent (this profile).
 use Rattle.std.specs.Prelude.{ℕ, List, [], ◌∷◌, ◌++◌, option_to_list}
-use Rattle.dms_requests.specs.Job.{SettingsModel}
+use Rattle.dms_centre_jobs.specs.Job.{SettingsModel}
 use Rattle.dms_centre.specs.State.{CentreState, start}
 use Rattle.dms_centre.specs.Sending.{Move, rests}
-use Rattle.dms_requests.specs.Commands.{CommandModel, IsCommand}
+use Rattle.dms_centre_jobs.specs.Commands.{CommandModel, IsCommand}
 use Rattle.dms_centre.specs.Commands.{commanded}
 use Rattle.dms_centre.specs.Inputs.{received, ticked, restarted}
 

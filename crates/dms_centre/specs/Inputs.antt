@@ -6,7 +6,7 @@ use Rattle.dms_centre.specs.declared.ended.Ended.TheVariants.{Failed}
 use Rattle.dms_centre.specs.declared.ended.Why.TheVariants as reasons
 use Rattle.dms_centre.specs.declared.outcome.Outcome.TheVariants.{Unknown}
 use Rattle.dms_centre.specs.State.{Phase, Idle, Awaits, Due, CentreState}
-use Rattle.dms_requests.specs.Steps.{step_number}
+use Rattle.dms_centre_jobs.specs.Steps.{step_number}
 use Rattle.dms_centre.specs.Sending.{Move, rests, ends, sends}
 use Rattle.dms_centre.specs.Replies.{on_reply, is_answer}
 use Rattle.dms_centre.specs.Resending.{gives_up, on_silence}

@@ -3,8 +3,8 @@ use Rattle.std.specs.Prelude.{ℕ, ◌≡◌, ◌<◌, ◌≤◌, Bool, true, fa
 use Rattle.dms_centre.specs.State.{CentreState, Pending, Phase, Idle, Awaits, Due, Entry}
 use Rattle.dms_centre.specs.Replies.{most_polls}
 use Rattle.dms_centre.specs.Resending.{ticks_to_wait, is_waiting}
-use Rattle.dms_requests.specs.Requests.{AreSettings, IsWork}
-use Rattle.dms_requests.specs.Steps.{is_activating}
+use Rattle.dms_centre_jobs.specs.Requests.{AreSettings, IsWork}
+use Rattle.dms_centre_jobs.specs.Steps.{is_activating}
 
 -- the waiting request has octets, and did not wait for long
 pub record IsPending (pending : Pending) : Type 0 where

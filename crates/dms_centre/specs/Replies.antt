@@ -15,12 +15,13 @@ use Rattle.dms_centre.specs.declared.ended.Why.TheVariants.{Status, WrongStatus,
 use Rattle.dms_centre.specs.declared.ended.Why.TheVariants.{OddReply, Cause}
 use Rattle.dms_centre.specs.declared.outcome.Outcome.{Outcome}
 use Rattle.dms_centre.specs.declared.outcome.Outcome.TheVariants.{Accepted, Refused}
-use Rattle.dms_requests.specs.declared.step.Step.{Step}
-use Rattle.dms_requests.specs.declared.step.Step.TheVariants.{Opening, Opened, Filling, Validating, Polling, Comparing}
-use Rattle.dms_requests.specs.declared.step.Step.TheVariants.{Activating, Explaining}
-use Rattle.dms_requests.specs.Job.{Work, Job}
+use Rattle.dms_centre_jobs.specs.declared.step.Step.{Step}
+use Rattle.dms_centre_jobs.specs.declared.step.Step.TheVariants.{Opening, Opened, Filling, Validating, Polling}
+use Rattle.dms_centre_jobs.specs.declared.step.Step.TheVariants.{Comparing}
+use Rattle.dms_centre_jobs.specs.declared.step.Step.TheVariants.{Activating, Explaining}
+use Rattle.dms_centre_jobs.specs.Job.{Work, Job}
 use Rattle.dms_centre.specs.State.{Entry, CentreState}
-use Rattle.dms_requests.specs.Steps.{is_activating, code_of, bindings_of}
+use Rattle.dms_centre_jobs.specs.Steps.{is_activating, code_of, bindings_of}
 use Rattle.dms_centre.specs.Sending.{Move, rests, ends, fails, waits, at_step, sends}
 
 -- ---- the ledger

@@ -4,7 +4,7 @@ use Rattle.std.specs.Prelude.{ℕ, ◌+◌, Bool, true, false, map, Some, nat_lt
 use Rattle.dms_centre.specs.declared.ended.Why.TheVariants as reasons
 use Rattle.dms_centre.specs.declared.outcome.Outcome.{Outcome}
 use Rattle.dms_centre.specs.declared.outcome.Outcome.TheVariants.{Waiting, NoReply}
-use Rattle.dms_requests.specs.Job.{Job}
+use Rattle.dms_centre_jobs.specs.Job.{Job}
 use Rattle.dms_centre.specs.State.{Pending, Awaits, Entry, CentreState}
 use Rattle.dms_centre.specs.Sending.{Move, rests, fails}
 

@@ -1,9 +1,9 @@
 -- When the central system takes memory (this profile): for an entry of the ledger, where the ledger has no room for it.
 use Rattle.std.specs.Prelude.{ℕ, Bool, false, ◌&&◌, nat_le, is_none}
-use Rattle.dms_requests.specs.Job.{Job}
+use Rattle.dms_centre_jobs.specs.Job.{Job}
 use Rattle.dms_centre.specs.State.{CentreState, Phase, Idle, Awaits, Due}
-use Rattle.dms_requests.specs.Steps.{is_activating, last_number}
-use Rattle.dms_requests.specs.Commands.{CommandModel, job_of}
+use Rattle.dms_centre_jobs.specs.Steps.{is_activating, last_number}
+use Rattle.dms_centre_jobs.specs.Commands.{CommandModel, job_of}
 use Rattle.dms_centre.specs.Commands.{refusal_of}
 
 -- spare: how many more entries the ledger takes without memory

@@ -6,10 +6,10 @@ use Rattle.dms_centre.specs.declared.ended.Ended.TheVariants.{Failed}
 use Rattle.dms_centre.specs.declared.ended.Why.{Why}
 use Rattle.dms_centre.specs.declared.ended.Why.TheVariants as reasons
 use Rattle.dms_centre.specs.declared.outcome.Outcome.TheVariants as outcomes
-use Rattle.dms_requests.specs.declared.step.Step.{Step}
-use Rattle.dms_requests.specs.Job.{Job}
+use Rattle.dms_centre_jobs.specs.declared.step.Step.{Step}
+use Rattle.dms_centre_jobs.specs.Job.{Job}
 use Rattle.dms_centre.specs.State.{Idle, Awaits, Due, Entry, CentreState}
-use Rattle.dms_requests.specs.Steps.{step_number, is_activating, code_of, last_number, request_of}
+use Rattle.dms_centre_jobs.specs.Steps.{step_number, is_activating, code_of, last_number, request_of}
 
 -- what it does at an input: the datagram that it sends, if any, and its state after
 pub record Move : Type 0 where

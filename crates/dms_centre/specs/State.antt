@@ -5,7 +5,7 @@ use Rattle.dms_codes.specs.declared.codes.Activation.{Activation}
 use Rattle.dms_centre.specs.declared.ended.Ended.{Ended}
 use Rattle.dms_centre.specs.declared.ended.Ended.TheVariants.{Never}
 use Rattle.dms_centre.specs.declared.outcome.Outcome.{Outcome}
-use Rattle.dms_requests.specs.Job.{SettingsModel, Job}
+use Rattle.dms_centre_jobs.specs.Job.{SettingsModel, Job}
 
 -- A request that waits for its reply: its number and octets, how many times they were sent, and the ticks since the
 -- last time.

@@ -3,8 +3,8 @@
 ghost use Rattle.std.specs.Prelude.{◌≡◌, ◌∷◌, [], true, false, Some, None};
 ghost use Rattle.dms_wire.specs.Message.{null};
 ghost use Rattle.dms_wire.specs.View.{snmp_message};
-ghost use Rattle.dms_objects.specs.Names.{name_of};
-ghost use Rattle.dms_requests.specs.Steps.{is_activating};
+ghost use Rattle.dms_mib.specs.Names.{name_of};
+ghost use Rattle.dms_centre_jobs.specs.Steps.{is_activating};
 ghost use Rattle.dms_centre.specs.Inputs.{received};
 ghost use Rattle.dms_centre.specs.Replies.{number_read};
 ghost use Rattle.dms_centre.specs.ByPhase.{is_awaiting, awaits_activation, is_answered, succeeds, is_refused, reads};
@@ -17,9 +17,9 @@ use crate::ledger::decide;
 use crate::outcome::Outcome;
 use crate::reply::number_read;
 use crate::stage::Stage;
+use dms_centre_jobs::Step;
 use dms_codes::{Order, Status};
-use dms_objects::{Column, Instance, Name, Scalar};
-use dms_requests::Step;
+use dms_mib::{Column, Instance, Name, Scalar};
 use dms_wire::{Binds, ErrorStatus, Kind, Message, Out, heard};
 
 /// How many times a row is polled that is being validated.
@@ -137,7 +137,7 @@ impl Centre {
     }
 
     /// The object that the waiting request asks for.
-    #[tactic(auto, unfolding(dms_objects::specs::Names::name_of))]
+    #[tactic(auto, unfolding(dms_mib::specs::Names::name_of))]
     fn asked(&self) -> Instance
         requires { is_reading self.now.state.phase ≡ true }
         ensures { record { name = name_of result; value = null } ∷ [] ≡ asked_at self.now.state self.now.state.phase }

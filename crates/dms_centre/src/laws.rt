@@ -1,6 +1,6 @@
 //! What holds of every central system, stated as a function with nothing to run.
 
-ghost use Rattle.dms_requests.specs.Requests.{AreSettings};
+ghost use Rattle.dms_centre_jobs.specs.Requests.{AreSettings};
 
 use crate::centre::Centre;
 

@@ -3,17 +3,17 @@
 ghost use Rattle.std.specs.Prelude.{◌≡◌, ◌<◌, ◌++◌, ◌∷◌, [], map, true, false};
 ghost use Rattle.indexmap.specs.IndexMap.{spare};
 ghost use Rattle.dms_centre.specs.declared.outcome.Outcome.TheVariants as outcomes;
-ghost use Rattle.dms_requests.specs.Steps.{is_activating};
+ghost use Rattle.dms_centre_jobs.specs.Steps.{is_activating};
 ghost use Rattle.dms_centre.specs.Sending.{entered};
 ghost use Rattle.dms_centre.specs.Replies.{with_outcome};
 ghost use Rattle.dms_centre.specs.Resending.{given_up};
-ghost use Rattle.dms_requests.specs.CodeView.{job_model};
+ghost use Rattle.dms_centre_jobs.specs.CodeView.{job_model};
 ghost use Rattle.dms_centre.specs.CodeView.{ledger_model};
 ghost use Rattle.dms_centre.specs.Invariant.{AllBelow, OnlyLastWaits};
 
 use crate::outcome::Outcome;
+use dms_centre_jobs::Job;
 use dms_codes::Activation;
-use dms_requests::Job;
 use indexmap::IndexMap;
 use std::fmt;
 

@@ -1,5 +1,5 @@
 //! The central system of a sign: it does one operator's command at a time, and keeps a ledger of the codes that it
-//! sent. What it is commanded, and the steps of a job, stand in dms_requests and are named here too.
+//! sent. What it is commanded, and the steps of a job, stand in dms_centre_jobs and are named here too.
 //!
 //! ```
 //! let settings = Settings { community: b"admin", order: Order::High };
@@ -25,7 +25,7 @@ pub mod settings;
 mod stage;
 
 pub use centre::Centre;
-pub use dms_requests::{Attributes, Command, Publication, Step, Terms};
+pub use dms_centre_jobs::{Attributes, Command, Publication, Step, Terms};
 pub use ended::{Ended, Why};
 pub use fault::{CommandFault, NoMemory};
 pub use ledger::Entry;

@@ -13,25 +13,25 @@ use Rattle.dms_centre.specs.declared.ended.Why.TheVariants as reasons
 use Rattle.dms_centre.specs.declared.fault.CommandFault.{CommandFault}
 use Rattle.dms_centre.specs.declared.fault.CommandFault.TheVariants as faults
 use Rattle.dms_centre.specs.declared.outcome.Outcome.TheVariants as outcomes
-use Rattle.dms_requests.specs.declared.step.Step.{Step}
-use Rattle.dms_requests.specs.declared.step.Step.TheVariants.{Opening, Opened, Filling, Validating, Polling, Comparing, Activating, Explaining}
-use Rattle.dms_requests.specs.Job.{SettingsModel, Job}
+use Rattle.dms_centre_jobs.specs.declared.step.Step.{Step}
+use Rattle.dms_centre_jobs.specs.declared.step.Step.TheVariants.{Opening, Opened, Filling, Validating, Polling, Comparing, Activating, Explaining}
+use Rattle.dms_centre_jobs.specs.Job.{SettingsModel, Job}
 use Rattle.dms_centre.specs.State.{Pending, Phase, Idle, Awaits, Due, CentreState}
-use Rattle.dms_requests.specs.Steps.{step_number, is_activating, last_number}
+use Rattle.dms_centre_jobs.specs.Steps.{step_number, is_activating, last_number}
 use Rattle.dms_centre.specs.Sending.{Move, rests, ends, fails, waits, at_step, sends, sends_octets, request_octets}
 use Rattle.dms_centre.specs.Replies.{decided, polled_again, is_status, own_checksum, on_number, number_read, on_read, asked, on_success, on_failure, on_reply, is_answer}
-use Rattle.dms_requests.specs.Commands.{CommandModel, IsCommand, job_of}
+use Rattle.dms_centre_jobs.specs.Commands.{CommandModel, IsCommand, job_of}
 use Rattle.dms_centre.specs.Commands.{refusal_of, begins, commanded}
 use Rattle.dms_centre.specs.Resending.{gives_up, older, sent_again, sends_again, on_silence}
 use Rattle.dms_centre.specs.Inputs.{on_message, on_datagram, received, on_tick, ticked, forgets, restarted}
-use Rattle.dms_requests.specs.Requests.{AreSettings, IsWork, IsRequest}
+use Rattle.dms_centre_jobs.specs.Requests.{AreSettings, IsWork, IsRequest}
 use Rattle.dms_centre.specs.History.{Input, IsInput, OfCommand, OfDatagram, OfTick, OfRestart, History, made, move_at, after_input, after_inputs}
 use Rattle.dms_centre_laws.specs.RequestNumbers.{HasNumber, Again, New}
 use Rattle.dms_centre_laws.specs.Numbered.{IsAwaited, IsAtWork, IsNumbered, HistoryIsNumbered, Keeps}
 use Rattle.dms_centre_laws.proofs.Lists.{either_way, by_test, on_left, at_end}
 use Rattle.dms_centre_laws.proofs.Numbers.{request_number, requests_push, rise_push, same_push, few_push, count_more, count_of_none, below_next}
-use Rattle.dms_requests.proofs.Requests.{request_reads}
-use Rattle.dms_requests.proofs.JobLaws.{is_job}
+use Rattle.dms_centre_jobs.proofs.Requests.{request_reads}
+use Rattle.dms_centre_jobs.proofs.JobLaws.{is_job}
 
 -- ---- three moves
 

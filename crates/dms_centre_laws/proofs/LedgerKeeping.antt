@@ -18,23 +18,23 @@ use Rattle.dms_centre.specs.declared.ended.Why.TheVariants as reasons
 use Rattle.dms_centre.specs.declared.fault.CommandFault.{CommandFault}
 use Rattle.dms_centre.specs.declared.outcome.Outcome.{Outcome}
 use Rattle.dms_centre.specs.declared.outcome.Outcome.TheVariants.{Waiting, Accepted, Refused, NoReply, Unknown}
-use Rattle.dms_requests.specs.declared.step.Step.{Step}
-use Rattle.dms_requests.specs.declared.step.Step.TheVariants.{Opening, Opened, Filling, Validating, Polling, Comparing, Activating, Explaining}
-use Rattle.dms_requests.specs.Job.{SettingsModel, Work, Job}
+use Rattle.dms_centre_jobs.specs.declared.step.Step.{Step}
+use Rattle.dms_centre_jobs.specs.declared.step.Step.TheVariants.{Opening, Opened, Filling, Validating, Polling, Comparing, Activating, Explaining}
+use Rattle.dms_centre_jobs.specs.Job.{SettingsModel, Work, Job}
 use Rattle.dms_centre.specs.State.{Pending, Phase, Idle, Awaits, Due, Entry, CentreState}
-use Rattle.dms_requests.specs.Steps.{is_activating, code_of, request_of, last_number}
+use Rattle.dms_centre_jobs.specs.Steps.{is_activating, code_of, request_of, last_number}
 use Rattle.dms_centre.specs.Sending.{Move, rests, ends, fails, waits, at_step, sends, sends_octets, request_octets}
 use Rattle.dms_centre.specs.Replies.{with_outcome, decided, polled_again, is_status, own_checksum, on_number, number_read, on_read, asked, on_success, on_failure, on_reply, is_response, is_answer}
-use Rattle.dms_requests.specs.Commands.{CommandModel, IsCommand, job_of}
+use Rattle.dms_centre_jobs.specs.Commands.{CommandModel, IsCommand, job_of}
 use Rattle.dms_centre.specs.Commands.{refusal_of, begins, commanded}
 use Rattle.dms_centre.specs.Resending.{is_waiting, given_up, gives_up, older, sends_again, on_silence}
 use Rattle.dms_centre.specs.Inputs.{on_message, on_datagram, received, on_tick, ticked, forgets, restarted}
-use Rattle.dms_requests.specs.Requests.{AreSettings, IsWork}
+use Rattle.dms_centre_jobs.specs.Requests.{AreSettings, IsWork}
 use Rattle.dms_centre.specs.History.{Input, Commands, Hears, Ticks, Restarts, IsInput, OfCommand, OfDatagram, OfTick, OfRestart, move_at}
 use Rattle.dms_centre_laws.specs.Numbered.{IsAtWork}
 use Rattle.dms_centre_laws.specs.Ledger.{Answers, Becomes, Stays, IsAccepted, IsRefused, IsUnheard, IsForgotten, EntryMoves, PutsUp, LedgerMoves}
 use Rattle.dms_centre_laws.proofs.Lists.{either_way, by_test, on_left, in_push}
-use Rattle.dms_requests.proofs.Requests.{request_reads}
+use Rattle.dms_centre_jobs.proofs.Requests.{request_reads}
 use Rattle.dms_centre_laws.proofs.Keeping.{is_begun}
 
 -- ---- what is kept up

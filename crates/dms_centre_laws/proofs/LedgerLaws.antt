@@ -3,12 +3,12 @@ use Rattle.std.proofs.Common.{◌≡◌, ℕ, ◌+◌, ◌<◌, ◌≤◌, inl, 
 use Rattle.std.specs.List.{AllByRecursion}
 use Rattle.std.proofs.lemmas.Option.{none-some, same_Some, slice_get_within}
 use Rattle.dms_codes.specs.declared.codes.Activation.{Activation}
-use Rattle.dms_requests.specs.declared.step.Step.TheVariants.{Activating}
-use Rattle.dms_requests.specs.Job.{SettingsModel, Showing}
+use Rattle.dms_centre_jobs.specs.declared.step.Step.TheVariants.{Activating}
+use Rattle.dms_centre_jobs.specs.Job.{SettingsModel, Showing}
 use Rattle.dms_centre.specs.State.{Entry}
-use Rattle.dms_requests.specs.Steps.{request_of}
+use Rattle.dms_centre_jobs.specs.Steps.{request_of}
 use Rattle.dms_centre.specs.Sending.{Move}
-use Rattle.dms_requests.specs.Requests.{AreSettings}
+use Rattle.dms_centre_jobs.specs.Requests.{AreSettings}
 use Rattle.dms_centre.specs.History.{Input, IsInput, History, made, move_at, with_move, after_input, after_inputs}
 use Rattle.dms_centre_laws.specs.RequestNumbers.{HasNumber, AreRequests, EqualNumbersMeanEqualOctets, Sends, Nothing, Again, New}
 use Rattle.dms_centre_laws.specs.Numbered.{HistoryIsNumbered, Keeps}

@@ -1,8 +1,8 @@
 -- The laws on numbers, under any list of inputs.
 use Rattle.std.proofs.Common.{◌≡◌, ℕ, List, [], ◌∷◌, refl, ◌∙◌, subst, arith}
 use Rattle.std.specs.List.{AllByRecursion}
-use Rattle.dms_requests.specs.Job.{SettingsModel}
-use Rattle.dms_requests.specs.Requests.{AreSettings}
+use Rattle.dms_centre_jobs.specs.Job.{SettingsModel}
+use Rattle.dms_centre_jobs.specs.Requests.{AreSettings}
 use Rattle.dms_centre.specs.History.{Input, IsInput, History, made, move_at, after_input, after_inputs}
 use Rattle.dms_centre_laws.specs.RequestNumbers.{AreRequests, NumbersRise, EqualNumbersMeanEqualOctets, ThreeSendsAtMost, Sends}
 use Rattle.dms_centre_laws.specs.Numbered.{HistoryIsNumbered}

@@ -3,9 +3,9 @@ use Rattle.std.proofs.Common.{◌≡◌, ℕ, pos, ◌+◌, ◌<◌, ◌≤◌, 
 use Rattle.std.specs.Prelude.{count_by}
 use Rattle.std.proofs.lemmas.Option.{slice_get_within}
 use Rattle.std.proofs.lemmas.Bool.Decides.{Decides-int_eq}
-use Rattle.dms_requests.specs.Job.{SettingsModel}
-use Rattle.dms_requests.specs.Steps.{request_of}
-use Rattle.dms_requests.specs.Requests.{IsRequest}
+use Rattle.dms_centre_jobs.specs.Job.{SettingsModel}
+use Rattle.dms_centre_jobs.specs.Steps.{request_of}
+use Rattle.dms_centre_jobs.specs.Requests.{IsRequest}
 use Rattle.dms_centre_laws.specs.RequestNumbers.{HasNumber, is_number_of, has_number, AreRequests, NumbersRise, EqualNumbersMeanEqualOctets, ThreeSendsAtMost}
 use Rattle.dms_centre_laws.proofs.Lists.{in_push, count_push, count_none}
 

@@ -2,10 +2,10 @@
 use Rattle.std.proofs.Common.{◌≡◌, ℕ, List, [], ◌∷◌, ◌++◌, length, take, Some, None, slice_get, refl, sym, ap, ◌∙◌, subst, append_assoc, append-nil, arith}
 use Rattle.std.specs.List.{AllByRecursion}
 use Rattle.std.proofs.lemmas.Option.{none-some}
-use Rattle.dms_requests.specs.Job.{SettingsModel}
-use Rattle.dms_requests.specs.Commands.{CommandModel, job_of}
+use Rattle.dms_centre_jobs.specs.Job.{SettingsModel}
+use Rattle.dms_centre_jobs.specs.Commands.{CommandModel, job_of}
 use Rattle.dms_centre.specs.Commands.{refusal_of}
-use Rattle.dms_requests.specs.Requests.{AreSettings}
+use Rattle.dms_centre_jobs.specs.Requests.{AreSettings}
 use Rattle.dms_centre.specs.History.{Input, Commands, IsInput, History, made, after_input, after_inputs}
 use Rattle.dms_centre_laws.specs.Ledger.{IsOrdered, CodesAreOrdered}
 use Rattle.dms_centre_laws.proofs.LedgerLaws.{HistoryIsKept, is_kept_input, is_kept_made}

@@ -1,8 +1,8 @@
 -- Given commands and replies, computed: the datagrams octet for octet, and the state after them.
 use Rattle.std.proofs.Common.{◌≡◌, ℕ, zero, suc, ◌+◌, pos, List, [], ◌∷◌, map, length, replicate, Option, Some, None, option_map, option_and_then, slice_get, refl}
-use Rattle.dms_ber.specs.Element.{element}
-use Rattle.dms_ber.specs.Integer.{integer_octets}
-use Rattle.dms_ber.specs.ObjectIdentifier.{name_octets}
+use Rattle.dms_wire_ber.specs.Element.{element}
+use Rattle.dms_wire_ber.specs.Integer.{integer_octets}
+use Rattle.dms_wire_ber.specs.ObjectIdentifier.{name_octets}
 use Rattle.dms_wire.specs.Canonical.{binding_octets, numbers_octets, pdu_octets, canonical}
 use Rattle.dms_wire.specs.MessageOf.{message_of}
 use Rattle.dms_codes.specs.declared.codes.Order.TheVariants.{High, Swapped}
@@ -15,11 +15,11 @@ use Rattle.dms_centre.specs.declared.fault.CommandFault.{CommandFault}
 use Rattle.dms_centre.specs.declared.fault.CommandFault.TheVariants as faults
 use Rattle.dms_centre.specs.declared.outcome.Outcome.{Outcome}
 use Rattle.dms_centre.specs.declared.outcome.Outcome.TheVariants as outcomes
-use Rattle.dms_requests.specs.Job.{SettingsModel, PublicationModel}
+use Rattle.dms_centre_jobs.specs.Job.{SettingsModel, PublicationModel}
 use Rattle.dms_centre.specs.State.{Entry, start}
-use Rattle.dms_requests.specs.Steps.{request_of}
+use Rattle.dms_centre_jobs.specs.Steps.{request_of}
 use Rattle.dms_centre.specs.Sending.{sends}
-use Rattle.dms_requests.specs.Commands.{CommandModel, Publish, Blank, Activate}
+use Rattle.dms_centre_jobs.specs.Commands.{CommandModel, Publish, Blank, Activate}
 use Rattle.dms_centre.specs.Commands.{refusal_of, commanded}
 use Rattle.dms_centre.specs.Inputs.{received, ticked, restarted}
 use Rattle.dms_centre.specs.History.{Input, Commands, Hears, Ticks, Restarts, History, made, after_inputs}

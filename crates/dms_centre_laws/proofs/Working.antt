@@ -8,14 +8,14 @@ use Rattle.dms_codes.specs.Status.{status_number}
 use Rattle.dms_centre.specs.declared.ended.Why.TheVariants as reasons
 use Rattle.dms_centre.specs.declared.fault.CommandFault.{CommandFault}
 use Rattle.dms_centre.specs.declared.outcome.Outcome.TheVariants as outcomes
-use Rattle.dms_requests.specs.declared.step.Step.{Step}
-use Rattle.dms_requests.specs.declared.step.Step.TheVariants.{Opening, Opened, Filling, Validating, Polling, Comparing, Activating, Explaining}
-use Rattle.dms_requests.specs.Job.{Work, Job}
+use Rattle.dms_centre_jobs.specs.declared.step.Step.{Step}
+use Rattle.dms_centre_jobs.specs.declared.step.Step.TheVariants.{Opening, Opened, Filling, Validating, Polling, Comparing, Activating, Explaining}
+use Rattle.dms_centre_jobs.specs.Job.{Work, Job}
 use Rattle.dms_centre.specs.State.{Phase, Idle, Awaits, Due, Entry, CentreState}
-use Rattle.dms_requests.specs.Steps.{is_activating, code_of, last_number}
+use Rattle.dms_centre_jobs.specs.Steps.{is_activating, code_of, last_number}
 use Rattle.dms_centre.specs.Sending.{Move, rests, fails, waits, at_step, sends, sends_octets, request_octets}
 use Rattle.dms_centre.specs.Replies.{decided, polled_again, is_status, own_checksum, on_number, number_read, on_read, asked, on_success, on_failure, on_reply, is_answer}
-use Rattle.dms_requests.specs.Commands.{CommandModel, job_of}
+use Rattle.dms_centre_jobs.specs.Commands.{CommandModel, job_of}
 use Rattle.dms_centre.specs.Commands.{refusal_of, begins, commanded}
 use Rattle.dms_centre.specs.Resending.{gives_up, older, sends_again}
 use Rattle.dms_centre.specs.Inputs.{on_message, on_datagram, received, on_tick, ticked, forgets, restarted}

@@ -6,12 +6,12 @@ use Rattle.dms_wire.specs.MessageOf.{message_of}
 use Rattle.dms_codes.specs.declared.codes.Activation.{Activation}
 use Rattle.dms_centre.specs.declared.outcome.Outcome.{Outcome}
 use Rattle.dms_centre.specs.declared.outcome.Outcome.TheVariants.{Waiting, Accepted, Refused, NoReply, Unknown}
-use Rattle.dms_requests.specs.declared.step.Step.TheVariants.{Activating}
-use Rattle.dms_requests.specs.Job.{SettingsModel, Work, Showing, Job}
+use Rattle.dms_centre_jobs.specs.declared.step.Step.TheVariants.{Activating}
+use Rattle.dms_centre_jobs.specs.Job.{SettingsModel, Work, Showing, Job}
 use Rattle.dms_centre.specs.State.{Pending, Awaits, Entry}
-use Rattle.dms_requests.specs.Steps.{code_of, request_of}
+use Rattle.dms_centre_jobs.specs.Steps.{code_of, request_of}
 use Rattle.dms_centre.specs.Sending.{Move}
-use Rattle.dms_requests.specs.Commands.{CommandModel, job_of}
+use Rattle.dms_centre_jobs.specs.Commands.{CommandModel, job_of}
 use Rattle.dms_centre.specs.Commands.{refusal_of}
 use Rattle.dms_centre.specs.History.{Input, Commands, Hears, Ticks, Restarts, made, after_inputs}
 use Rattle.dms_centre_laws.specs.RequestNumbers.{HasNumber}

@@ -1,9 +1,9 @@
 -- What the central system keeps up so that numbers are used once (this profile).
 use Rattle.std.specs.Prelude.{◌≡◌, ℕ, ◌+◌, ◌≤◌, List, count_by, Some, slice_get, option_to_list, ◌++◌}
-use Rattle.dms_requests.specs.Job.{SettingsModel}
+use Rattle.dms_centre_jobs.specs.Job.{SettingsModel}
 use Rattle.dms_centre.specs.State.{Pending, Phase, Idle, Awaits, Due}
 use Rattle.dms_centre.specs.Sending.{Move}
-use Rattle.dms_requests.specs.Requests.{AreSettings, IsWork, IsRequest}
+use Rattle.dms_centre_jobs.specs.Requests.{AreSettings, IsWork, IsRequest}
 use Rattle.dms_centre.specs.History.{History}
 use Rattle.dms_centre_laws.specs.RequestNumbers.{has_number, AreRequests, NumbersRise, EqualNumbersMeanEqualOctets}
 use Rattle.dms_centre_laws.specs.RequestNumbers.{ThreeSendsAtMost, Sends}

@@ -4,9 +4,9 @@ use Rattle.std.specs.Prelude.{◌≡◌, ℕ, ◌+◌, ◌<◌, ◌≤◌, pos, 
 use Rattle.std.specs.Ordering.{int_eq}
 use Rattle.dms_wire.specs.Message.{SnmpMessage}
 use Rattle.dms_wire.specs.MessageOf.{message_of}
-use Rattle.dms_requests.specs.Job.{SettingsModel}
+use Rattle.dms_centre_jobs.specs.Job.{SettingsModel}
 use Rattle.dms_centre.specs.Sending.{Move}
-use Rattle.dms_requests.specs.Requests.{IsRequest}
+use Rattle.dms_centre_jobs.specs.Requests.{IsRequest}
 
 -- ---- the number of a datagram
 

@@ -3,8 +3,8 @@
 
 ghost use Rattle.std.specs.Prelude.{ℕ, List};
 ghost use Rattle.std.specs.List.{AllByRecursion};
-ghost use Rattle.dms_requests.specs.Job.{SettingsModel};
-ghost use Rattle.dms_requests.specs.Requests.{AreSettings};
+ghost use Rattle.dms_centre_jobs.specs.Job.{SettingsModel};
+ghost use Rattle.dms_centre_jobs.specs.Requests.{AreSettings};
 ghost use Rattle.dms_centre.specs.History.{Input, IsInput, History, made, move_at, after_input, after_inputs};
 ghost use Rattle.dms_centre_laws.specs.RequestNumbers.{AreRequests, NumbersRise, EqualNumbersMeanEqualOctets};
 ghost use Rattle.dms_centre_laws.specs.RequestNumbers.{ThreeSendsAtMost, Sends};

@@ -8,15 +8,15 @@ use Rattle.dms_text.specs.Reading.{word_at, keyword_at}
 use Rattle.dms_text.proofs.WordLaws.{begun, word_found, keyword_found}
 use Rattle.dms_codes.specs.declared.codes.Order.{Order}
 use Rattle.dms_codes.proofs.Options.{mapped_some}
-use Rattle.dms_requests.specs.Commands.{CommandModel, Publish, Blank, Activate}
-use Rattle.dms_forms.specs.Fields.{SpellsOne}
-use Rattle.dms_forms.specs.FieldsReading.{last_octets_at}
-use Rattle.dms_forms.proofs.WordReading.{by_keyword, last_found}
-use Rattle.dms_forms.proofs.FieldLaws.{last_octets_found, last_octets_only}
-use Rattle.dms_commands.specs.CommandLine.{SpellsCommand}
-use Rattle.dms_commands.specs.CommandReading.{command_of}
-use Rattle.dms_commands.proofs.CommandLaws.{command_found, command_only}
-use Rattle.dms_lines.proofs.CallReading.{bare_found, nothing_found}
+use Rattle.dms_centre_jobs.specs.Commands.{CommandModel, Publish, Blank, Activate}
+use Rattle.dms_text_forms.specs.Fields.{SpellsOne}
+use Rattle.dms_text_forms.specs.FieldsReading.{last_octets_at}
+use Rattle.dms_text_forms.proofs.WordReading.{by_keyword, last_found}
+use Rattle.dms_text_forms.proofs.FieldLaws.{last_octets_found, last_octets_only}
+use Rattle.dms_centre_text.specs.CommandLine.{SpellsCommand}
+use Rattle.dms_centre_text.specs.CommandReading.{command_of}
+use Rattle.dms_centre_text.proofs.CommandLaws.{command_found, command_only}
+use Rattle.dms_face_lines.proofs.CallReading.{bare_found, nothing_found}
 use Rattle.dms_centre_lines.specs.Calls.{CentreCall, command, datagram, tick, restart, status, status_last}
 use Rattle.dms_centre_lines.specs.CallReading.{last_alone_at, status_after, call_after, plain_call_at, or_command, call_of}
 use Rattle.dms_centre_lines.specs.SpelledCalls.{SpellsCallWords, SpellsCentreCall, SpellsNoCall}

@@ -1,20 +1,20 @@
 -- What a line makes of the central system, and the lines that answer it (this profile).
 use Rattle.std.specs.Prelude.{ℕ, ◌+◌, ◌*◌, Bool, true, false, List, ◌++◌, codes, flat_map, Option, Some, None}
 use Rattle.hex.specs.Hex.{encode_lower}
-use Rattle.dms_ber.specs.Limits.{longest_datagram}
+use Rattle.dms_wire_ber.specs.Limits.{longest_datagram}
 use Rattle.dms_centre.specs.declared.fault.CommandFault.{CommandFault}
 use Rattle.dms_centre.specs.declared.fault.CommandFault.TheVariants as faults
 use Rattle.dms_centre.specs.declared.ended.Ended.{Ended}
 use Rattle.dms_centre.specs.declared.ended.Ended.TheVariants.{Never, Accepted, Failed}
 use Rattle.dms_centre.specs.State.{CentreState, is_busy}
-use Rattle.dms_requests.specs.Commands.{CommandModel}
+use Rattle.dms_centre_jobs.specs.Commands.{CommandModel}
 use Rattle.dms_centre.specs.Commands.{refusal_of, commanded}
 use Rattle.dms_centre.specs.Inputs.{received, ticked, restarted}
 use Rattle.dms_centre.specs.Texts.{command_fault_text, ended_text}
-use Rattle.dms_forms.specs.LineText.{ended}
-use Rattle.dms_commands.specs.LedgerLine.{ledger_line}
-use Rattle.dms_lines.specs.AnswerLines.{ok_line}
-use Rattle.dms_streams.specs.Conversation.{bad_line}
+use Rattle.dms_text_forms.specs.LineText.{ended}
+use Rattle.dms_centre_text.specs.LedgerLine.{ledger_line}
+use Rattle.dms_face_lines.specs.AnswerLines.{ok_line}
+use Rattle.dms_text_streams.specs.Conversation.{bad_line}
 use Rattle.dms_centre_lines.specs.BadValue.{value_text, bad_value}
 use Rattle.dms_centre_lines.specs.Calls.{CentreCall, command, datagram, tick, restart, status, status_last}
 use Rattle.dms_centre_lines.specs.CallReading.{call_of}

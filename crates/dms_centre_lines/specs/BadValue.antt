@@ -2,8 +2,8 @@
 use Rattle.std.specs.Prelude.{ℕ, ◌==◌, ◌||◌, not, if◌then◌else◌, List, length, codes, nat_lt}
 use Rattle.dms_codes.specs.Limits.{longest_text, longest_owner}
 use Rattle.dms_codes.specs.Memory.{changeable_memory, volatile_memory}
-use Rattle.dms_requests.specs.Job.{PublicationModel}
-use Rattle.dms_requests.specs.Commands.{CommandModel, Publish, Blank, Activate}
+use Rattle.dms_centre_jobs.specs.Job.{PublicationModel}
+use Rattle.dms_centre_jobs.specs.Commands.{CommandModel, Publish, Blank, Activate}
 use Rattle.dms_centre_lines.specs.declared.bad_value.Value.{Value}
 use Rattle.dms_centre_lines.specs.declared.bad_value.Value.TheVariants as values
 

@@ -3,9 +3,9 @@ use Rattle.std.specs.Prelude.{ℕ, if◌then◌else◌, List, codes, Option, Som
 use Rattle.dms_text.specs.Words.{words_of}
 use Rattle.dms_text.specs.Reading.{same_octets, word_at, keyword_at, is_end, ◌>>=◌}
 use Rattle.dms_codes.specs.declared.codes.Order.{Order}
-use Rattle.dms_requests.specs.Commands.{CommandModel}
-use Rattle.dms_forms.specs.FieldsReading.{if_last, last_octets_at}
-use Rattle.dms_commands.specs.CommandReading.{command_of}
+use Rattle.dms_centre_jobs.specs.Commands.{CommandModel}
+use Rattle.dms_text_forms.specs.FieldsReading.{if_last, last_octets_at}
+use Rattle.dms_centre_text.specs.CommandReading.{command_of}
 use Rattle.dms_centre_lines.specs.Calls.{CentreCall, command, datagram, tick, restart, status, status_last}
 
 -- `last`, and nothing after it

@@ -1,6 +1,6 @@
 -- What a line asks of the central system (this profile).
 use Rattle.std.specs.Prelude.{ℕ, List}
-use Rattle.dms_requests.specs.Commands.{CommandModel}
+use Rattle.dms_centre_jobs.specs.Commands.{CommandModel}
 
 -- an operator's command; a datagram that reached it; a tick of its clock; a restart; how it stands, with its ledger; or
 -- without it

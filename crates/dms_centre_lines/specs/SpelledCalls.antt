@@ -3,8 +3,8 @@ use Rattle.std.specs.Prelude.{◌≡◌, ℕ, List, [], ◌∷◌, codes}
 use Rattle.dms_text.specs.Words.{words_of}
 use Rattle.dms_text.specs.Octets.{SpellsOctets}
 use Rattle.dms_codes.specs.declared.codes.Order.{Order}
-use Rattle.dms_forms.specs.Fields.{SpellsOne}
-use Rattle.dms_commands.specs.CommandLine.{SpellsCommand}
+use Rattle.dms_text_forms.specs.Fields.{SpellsOne}
+use Rattle.dms_centre_text.specs.CommandLine.{SpellsCommand}
 use Rattle.dms_centre_lines.specs.Calls.{CentreCall, command, datagram, tick, restart, status, status_last}
 
 -- a command as in a script, a datagram as octets, or words alone

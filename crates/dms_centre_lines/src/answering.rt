@@ -1,11 +1,11 @@
 //! A line to a central system, and its answer.
 
 ghost use Rattle.std.specs.Prelude.{◌≡◌, IfOk, OnOk, OnErr, Some, None};
-ghost use Rattle.dms_requests.specs.CodeView.{command_model};
+ghost use Rattle.dms_centre_jobs.specs.CodeView.{command_model};
 ghost use Rattle.dms_centre.specs.Commands.{commanded, refusal_of};
 ghost use Rattle.dms_centre.specs.Inputs.{received, ticked, restarted};
-ghost use Rattle.dms_commands.specs.CommandReading.{command_of};
-ghost use Rattle.dms_lines.specs.AnswerLines.{ok_line};
+ghost use Rattle.dms_centre_text.specs.CommandReading.{command_of};
+ghost use Rattle.dms_face_lines.specs.AnswerLines.{ok_line};
 ghost use Rattle.dms_centre_lines.specs.Answers.{answer_text, after_line, call_answer, after_call, command_line};
 ghost use Rattle.dms_centre_lines.specs.Answers.{sent_line};
 ghost use Rattle.dms_centre_lines.specs.CallReading.{or_command};
@@ -15,9 +15,9 @@ use crate::reading::{Call, plain_call};
 use crate::status::{status, status_last};
 use crate::text::{put_sent, refused, room};
 use dms_centre::{Centre, Command};
-use dms_commands::read_command;
-use dms_lines::ok_line;
-use dms_streams::bad_line;
+use dms_centre_text::read_command;
+use dms_face_lines::ok_line;
+use dms_text_streams::bad_line;
 use dms_wire::Out;
 use std::alloc::{AllocError, Global};
 

@@ -1,7 +1,7 @@
 //! Which value of a command is out of its range.
 
 ghost use Rattle.std.specs.Prelude.{◌≡◌};
-ghost use Rattle.dms_requests.specs.CodeView.{command_model};
+ghost use Rattle.dms_centre_jobs.specs.CodeView.{command_model};
 ghost use Rattle.dms_centre_lines.specs.BadValue.{bad_value};
 
 use dms_centre::Command;

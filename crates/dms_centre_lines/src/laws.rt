@@ -3,7 +3,7 @@
 ghost use Rattle.std.specs.Prelude.{◌≡◌, ℕ, List, Some};
 ghost use Rattle.dms_codes.specs.declared.codes.Order.{Order};
 ghost use Rattle.dms_centre.specs.State.{CentreState};
-ghost use Rattle.dms_streams.specs.Conversation.{bad_line};
+ghost use Rattle.dms_text_streams.specs.Conversation.{bad_line};
 ghost use Rattle.dms_centre_lines.specs.Answers.{answer_text, after_line, call_answer, after_call};
 ghost use Rattle.dms_centre_lines.specs.Calls.{CentreCall};
 ghost use Rattle.dms_centre_lines.specs.CallReading.{call_of};

@@ -4,7 +4,7 @@ ghost use Rattle.std.specs.Prelude.{◌≡◌, ◌++◌, IfOk, OnOk};
 ghost use Rattle.dms_centre_lines.specs.Answers.{job_line, last_line, status_lines, last_lines};
 
 use dms_centre::{Centre, Ended};
-use dms_commands::put_ledger;
+use dms_centre_text::put_ledger;
 use std::alloc::{AllocError, Global};
 use std::io;
 use std::io::Write;

@@ -1,17 +1,17 @@
 //! The lines of answers.
 
 ghost use Rattle.std.specs.Prelude.{◌≡◌, ◌≤◌, ◌++◌, [], codes, IfOk, vec_capacity};
-ghost use Rattle.dms_requests.specs.CodeView.{command_model};
+ghost use Rattle.dms_centre_jobs.specs.CodeView.{command_model};
 ghost use Rattle.dms_centre.specs.Texts.{command_fault_text};
 ghost use Rattle.dms_centre.specs.declared.fault.CommandFault.TheVariants.{BadCommand};
-ghost use Rattle.dms_forms.specs.LineText.{ended};
+ghost use Rattle.dms_text_forms.specs.LineText.{ended};
 ghost use Rattle.dms_centre_lines.specs.BadValue.{value_text};
 ghost use Rattle.dms_centre.specs.CodeView.{sent_in};
 ghost use Rattle.dms_centre_lines.specs.Answers.{refused_line, sent_line, longest_sent};
 
 use crate::bad_value::{Value, bad_value};
 use dms_centre::{Command, CommandFault};
-use dms_lines::{put, put_digits};
+use dms_face_lines::{put, put_digits};
 use dms_wire::{MAX_DATAGRAM, Out};
 use std::alloc::{AllocError, Global};
 use std::io::Write;

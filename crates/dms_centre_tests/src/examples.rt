@@ -1,10 +1,10 @@
-//! The examples of the first pages of dms_requests, dms_centre and dms_world.
+//! The examples of the first pages of dms_centre_jobs, dms_centre and dms_world.
 
-use dms_bench_sign::{face, stock};
 use dms_centre::{Centre, Command, Settings};
+use dms_centre_jobs::{Job, put_request};
 use dms_codes::Order;
-use dms_requests::{Job, put_request};
 use dms_sign::{Config, Sign};
+use dms_sign_bench::{face, stock};
 use dms_wire::Out;
 use dms_world::{Event, World, run};
 use std::test::Fail;

@@ -2,10 +2,10 @@
 
 use crate::centres;
 use crate::centres::cases;
-use dms_bench_sign::{face, stock};
 use dms_centre::{Centre, Command, Outcome, Settings};
 use dms_codes::{Activation, Order};
 use dms_sign::{Config, Sign};
+use dms_sign_bench::{face, stock};
 use dms_table::Stock;
 use dms_world::{Datagrams, Event, World, run};
 use std::alloc::Global;

@@ -10,8 +10,8 @@ use Rattle.dms_multi.specs.declared.item.Item.{Item}
 use Rattle.dms_multi.specs.declared.item.Item.TheVariants.{Char, Background, Foreground, Font, FlashOn, FlashEnd, JustLine, JustPage, NewLine, NewPage, PageTime}
 use Rattle.dms_multi.specs.Outcomes.{items_of}
 use Rattle.dms_multi.proofs.ReadLaws.{items_read}
-use Rattle.dms_font.specs.Glyph.{GlyphModel}
-use Rattle.dms_font.specs.Font.{FontModel, IsFont, IsGlyph, glyph_of}
+use Rattle.dms_face_font.specs.Glyph.{GlyphModel}
+use Rattle.dms_face_font.specs.Font.{FontModel, IsFont, IsGlyph, glyph_of}
 use Rattle.dms_face.specs.declared.justification.Place.{Place}
 use Rattle.dms_face.specs.declared.justification.Place.TheVariants.{Start, Halfway, End}
 use Rattle.dms_face.specs.declared.room.Block.{Block}

@@ -9,8 +9,8 @@ use Rattle.dms_face.specs.declared.cell.Cell.{Cell}
 use Rattle.dms_face.specs.declared.multi_fault.MultiFault.{MultiFault}
 use Rattle.dms_face.specs.declared.multi_fault.MultiFaultCode.{MultiFaultCode}
 use Rattle.dms_face.specs.declared.multi_fault.MultiFaultCode.TheVariants.{UnsupportedTag, UnsupportedTagValue, TextTooBig, FontNotDefined, CharacterNotDefined, TagConflict, TooManyPages, FontVersionId}
-use Rattle.dms_font.specs.Glyph.{glyph_from}
-use Rattle.dms_font.specs.Font.{FontModel}
+use Rattle.dms_face_font.specs.Glyph.{glyph_from}
+use Rattle.dms_face_font.specs.Font.{FontModel}
 use Rattle.dms_face.specs.Face.{FaceModel}
 use Rattle.dms_face.specs.Layout.{PageModel}
 use Rattle.dms_face.specs.Fit.{fault_of, page_count, checked_text}

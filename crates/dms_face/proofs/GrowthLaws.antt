@@ -8,8 +8,8 @@ use Rattle.dms_multi.specs.declared.item.Item.TheVariants.{Background, Foregroun
 use Rattle.dms_face.specs.declared.justification.Part.{Part}
 use Rattle.dms_face.specs.declared.room.Block.{Block}
 use Rattle.dms_face.specs.Justification.{place_of_part}
-use Rattle.dms_font.specs.Glyph.{GlyphModel}
-use Rattle.dms_font.specs.Font.{FontModel}
+use Rattle.dms_face_font.specs.Glyph.{GlyphModel}
+use Rattle.dms_face_font.specs.Font.{FontModel}
 use Rattle.dms_face.specs.Face.{FaceModel}
 use Rattle.dms_face.specs.Layout.{Character, Line, Layout, is_blank, standing, with_character}
 use Rattle.dms_face.specs.Room.{line_block, lines_fit}

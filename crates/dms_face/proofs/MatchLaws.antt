@@ -3,7 +3,7 @@ use Rattle.std.proofs.Common.{◌≡◌, ℕ, ◌+◌, ◌<◌, Bool, true, fals
 use Rattle.std.specs.Borrow.{Bor}
 use Rattle.std.specs.Option.{option_copied, IsSome}
 use Rattle.dms_face.specs.declared.totals.Totals.{Totals}
-use Rattle.dms_font.specs.Font.{FontModel}
+use Rattle.dms_face_font.specs.Font.{FontModel}
 use Rattle.dms_face.specs.Face.{FaceModel, font_in, has_font}
 use Rattle.dms_face.specs.Layout.{Layout, closed, with_page}
 use Rattle.dms_face.specs.Room.{lines_fit}

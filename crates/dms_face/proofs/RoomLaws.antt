@@ -5,7 +5,7 @@ use Rattle.std.proofs.lemmas.List.Folds.{list_all-append}
 use Rattle.std.proofs.lemmas.List.{map-append}
 use Rattle.std.proofs.Math.Bool.{and-true}
 use Rattle.dms_face.specs.declared.justification.Part.{Part}
-use Rattle.dms_font.specs.Font.{FontModel}
+use Rattle.dms_face_font.specs.Font.{FontModel}
 use Rattle.dms_face.specs.Face.{FaceModel}
 use Rattle.dms_face.specs.Layout.{Character, Line, PageModel, Layout, Style, is_blank, open_line, standing, closed, has_line_in, with_line, with_page}
 use Rattle.dms_face.specs.Room.{blocks_fit, characters_fit, lines_fit, page_fits, has_room}

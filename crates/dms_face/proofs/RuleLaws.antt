@@ -6,7 +6,7 @@ use Rattle.std.proofs.lemmas.Grind.{flat_map-append}
 use Rattle.std.proofs.lemmas.List.Sums.{sum_by-cons, sum_by_push}
 use Rattle.dms_multi.specs.declared.item.Item.{Item}
 use Rattle.dms_multi.specs.Outcomes.{items_of}
-use Rattle.dms_font.specs.Glyph.{GlyphModel}
+use Rattle.dms_face_font.specs.Glyph.{GlyphModel}
 use Rattle.dms_face.specs.Face.{FaceModel}
 use Rattle.dms_face.specs.Layout.{Style, Character, Line, PageModel, Layout, styled, closed, with_character, with_page, with_item, with_turn, blank_layout, layout_of, page_of}
 use Rattle.dms_face.specs.Fit.{is_new_page, turns_of, page_count}

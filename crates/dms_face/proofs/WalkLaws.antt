@@ -15,8 +15,8 @@ use Rattle.dms_face.specs.declared.multi_fault.MultiFault.{MultiFault}
 use Rattle.dms_face.specs.declared.multi_fault.MultiFaultCode.{MultiFaultCode}
 use Rattle.dms_face.specs.declared.multi_fault.MultiFaultCode.TheVariants.{TextTooBig, CharacterNotDefined, TagConflict, TooManyPages}
 use Rattle.dms_face.specs.FaultCode.{syntax_fault}
-use Rattle.dms_font.specs.Glyph.{GlyphModel}
-use Rattle.dms_font.specs.Font.{glyph_of}
+use Rattle.dms_face_font.specs.Glyph.{GlyphModel}
+use Rattle.dms_face_font.specs.Font.{glyph_of}
 use Rattle.dms_face.specs.Face.{FaceModel}
 use Rattle.dms_face.specs.Justification.{part_of, place_of_part, same_part}
 use Rattle.dms_face.specs.Layout.{Layout, Style, Turn, styled, closed, with_character, with_page, with_item, with_turn, blank_layout, layout_of}

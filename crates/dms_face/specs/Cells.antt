@@ -3,7 +3,7 @@ use Rattle.std.specs.Prelude.{ℕ, ◌+◌, ◌-◌, ◌&&◌, Bool, true, false
 use Rattle.std.specs.List.{find, flat_map}
 use Rattle.dms_multi.specs.Outcomes.{items_of}
 use Rattle.dms_face.specs.declared.cell.Cell.{Cell}
-use Rattle.dms_font.specs.Glyph.{lit_at}
+use Rattle.dms_face_font.specs.Glyph.{lit_at}
 use Rattle.dms_face.specs.Face.{FaceModel}
 use Rattle.dms_face.specs.Layout.{Character, Line, PageModel, layout_of}
 use Rattle.dms_face.specs.Room.{character_block, line_block, line_height, spread}

@@ -4,7 +4,7 @@ use Rattle.std.specs.Prelude.{All, IsTrue, ℕ, ◌==◌, ◌&&◌, Bool, true, 
 use Rattle.std.specs.Prelude.{List, [], ◌∷◌, length, nat_le, Option, Result, Ok, Err}
 use Rattle.std.specs.List.{find, list_any}
 use Rattle.dms_codes.specs.Limits.{widest_matrix, highest_matrix}
-use Rattle.dms_font.specs.Font.{FontModel, IsFont}
+use Rattle.dms_face_font.specs.Font.{FontModel, IsFont}
 use Rattle.dms_face.specs.declared.defaults.Defaults.{Defaults}
 use Rattle.dms_face.specs.declared.fault.FaceFault.{FaceFault}
 use Rattle.dms_face.specs.declared.fault.FaceFault.TheVariants.{Size, Fonts, Default}

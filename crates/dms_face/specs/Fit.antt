@@ -18,7 +18,7 @@ use Rattle.dms_face.specs.declared.multi_fault.MultiFaultCode.TheVariants.{TextT
 use Rattle.dms_face.specs.declared.multi_fault.MultiFaultCode.TheVariants.{CharacterNotDefined, TagConflict}
 use Rattle.dms_face.specs.declared.multi_fault.MultiFaultCode.TheVariants.{TooManyPages, FontVersionId}
 use Rattle.dms_codes.specs.Limits.{longest_text}
-use Rattle.dms_font.specs.Font.{FontModel, glyph_of}
+use Rattle.dms_face_font.specs.Font.{FontModel, glyph_of}
 use Rattle.dms_face.specs.Face.{FaceModel, font_of}
 use Rattle.dms_face.specs.FaultCode.{syntax_fault}
 use Rattle.dms_face.specs.Justification.{side_of, part_of, place_of_side, place_of_part, rank, same_part}

@@ -8,8 +8,8 @@ use Rattle.dms_multi.specs.declared.item.Item.TheVariants.{Char, Background, For
 use Rattle.dms_multi.specs.declared.item.Item.TheVariants.{JustLine, JustPage, NewLine, NewPage, PageTime}
 use Rattle.dms_face.specs.declared.cell.Flash.{Flash}
 use Rattle.dms_face.specs.declared.defaults.Defaults.{Defaults}
-use Rattle.dms_font.specs.Glyph.{GlyphModel}
-use Rattle.dms_font.specs.Font.{FontModel, glyph_of}
+use Rattle.dms_face_font.specs.Glyph.{GlyphModel}
+use Rattle.dms_face_font.specs.Font.{FontModel, glyph_of}
 use Rattle.dms_face.specs.declared.justification.Side.{Side}
 use Rattle.dms_face.specs.declared.justification.Part.{Part}
 use Rattle.dms_face.specs.Justification.{side_of, part_of, same_part}

@@ -12,8 +12,8 @@ use Rattle.dms_face.specs.declared.multi_fault.MultiFaultCode.TheVariants.{TagCo
 use Rattle.dms_face.specs.declared.justification.Part.{Part}
 use Rattle.dms_face.specs.FaultCode.{syntax_fault}
 use Rattle.dms_face.specs.Justification.{part_of, place_of_part, same_part}
-use Rattle.dms_font.specs.Glyph.{GlyphModel}
-use Rattle.dms_font.specs.Font.{glyph_of}
+use Rattle.dms_face_font.specs.Glyph.{GlyphModel}
+use Rattle.dms_face_font.specs.Font.{glyph_of}
 use Rattle.dms_face.specs.Face.{FaceModel}
 use Rattle.dms_face.specs.Layout.{Layout, Turn, standing, closed, open_line, with_character, with_item}
 use Rattle.dms_face.specs.Room.{characters_fit, lines_fit, line_block}

@@ -6,7 +6,7 @@ use Rattle.dms_face.specs.declared.justification.Place.{Place}
 use Rattle.dms_face.specs.declared.justification.Place.TheVariants.{Start, Halfway, End}
 use Rattle.dms_face.specs.declared.room.Block.{Block}
 use Rattle.dms_face.specs.Justification.{place_of_side, place_of_part, same_place}
-use Rattle.dms_font.specs.Font.{FontModel}
+use Rattle.dms_face_font.specs.Font.{FontModel}
 use Rattle.dms_face.specs.Face.{FaceModel}
 use Rattle.dms_face.specs.Layout.{Character, Line, PageModel, Layout, is_blank, standing}
 

@@ -8,8 +8,8 @@ use Rattle.dms_multi.specs.declared.item.Item.TheVariants.{FlashEnd, JustLine, J
 use Rattle.dms_face.specs.declared.cell.Flash.{Flash}
 use Rattle.dms_face.specs.declared.justification.Side.{Side}
 use Rattle.dms_face.specs.declared.justification.Part.{Part}
-use Rattle.dms_font.specs.Glyph.{GlyphModel}
-use Rattle.dms_font.specs.Font.{FontModel, glyph_of}
+use Rattle.dms_face_font.specs.Glyph.{GlyphModel}
+use Rattle.dms_face_font.specs.Font.{FontModel, glyph_of}
 use Rattle.dms_face.specs.Justification.{side_of, part_of}
 use Rattle.dms_face.specs.Face.{FaceModel, font_of}
 use Rattle.dms_face.specs.Layout.{Style, Character, Line, PageModel, no_font}

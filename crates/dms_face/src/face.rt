@@ -2,7 +2,7 @@
 
 ghost use Rattle.std.specs.Prelude.{◌≡◌, ◌≤◌, IsTrue, ◌↔◌, All};
 ghost use Rattle.std.specs.Option.{option_copied};
-ghost use Rattle.dms_font.specs.Font.{IsFont};
+ghost use Rattle.dms_face_font.specs.Font.{IsFont};
 ghost use Rattle.dms_codes.specs.Limits.{widest_matrix, highest_matrix};
 ghost use Rattle.dms_face.specs.Face.{font_in, font_of, has_font, have_own_numbers};
 ghost use Rattle.dms_face.specs.Face.{is_within, is_matrix, are_fonts, fit, checked, IsFace};
@@ -10,8 +10,8 @@ ghost use Rattle.dms_face.specs.Face.{is_within, is_matrix, are_fonts, fit, chec
 use crate::defaults::Defaults;
 use crate::fault::FaceFault;
 use dms_codes::{MAX_MATRIX_HEIGHT, MAX_MATRIX_WIDTH};
-use dms_font::Font;
-use dms_font::laws::fonts_are_within_their_limits;
+use dms_face_font::Font;
+use dms_face_font::laws::fonts_are_within_their_limits;
 use std::marker::Model;
 
 /// The most fonts of a sign.

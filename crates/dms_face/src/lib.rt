@@ -37,7 +37,7 @@ mod totals;
 pub use cell::{Cell, Flash};
 pub use checking::{check, check_with};
 pub use defaults::Defaults;
-pub use dms_font::{Font, FontFault, FontFaultKind, Glyph};
+pub use dms_face_font::{Font, FontFault, FontFaultKind, Glyph};
 pub use face::{Face, MAX_FONTS};
 pub use fault::FaceFault;
 pub use justification::{Part, Place, Side};

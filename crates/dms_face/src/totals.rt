@@ -15,7 +15,7 @@ use crate::face::Face;
 use crate::justification::{Part, Side};
 use crate::multi_fault::MultiFaultCode;
 use crate::room::{Block, Places};
-use dms_font::{Font, Glyph};
+use dms_face_font::{Font, Glyph};
 use dms_multi::Item;
 
 /// The most pages of a text.

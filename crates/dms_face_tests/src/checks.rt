@@ -1,7 +1,7 @@
 //! Texts by their answers on a sign of 23 by 14 with two fonts, and a long text on the largest matrix.
 
-use dms_bench_sign::{DEFAULTS, Other, SMALL, TALL, defaults_with, face, fonts_of};
 use dms_face::{Face, MultiFault, MultiFaultCode, check, check_with};
+use dms_sign_bench::{DEFAULTS, Other, SMALL, TALL, defaults_with, face, fonts_of};
 use std::alloc::{AllocError, Global};
 use std::process::Abort;
 use std::test::Fail;

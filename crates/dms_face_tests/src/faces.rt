@@ -1,9 +1,9 @@
 //! Faces by their values, and each fault of a face.
 
-use dms_bench_sign::{DEFAULTS, Other, TALL, defaults_with, face, fonts_of};
 use dms_face::{
     Defaults, Face, FaceFault, Font, FontFault, FontFaultKind, MultiFault, MultiFaultCode, check,
 };
+use dms_sign_bench::{DEFAULTS, Other, TALL, defaults_with, face, fonts_of};
 use std::alloc::Global;
 use std::process::Abort;
 use std::test::Fail;

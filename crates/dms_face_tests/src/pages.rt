@@ -1,9 +1,9 @@
 //! Pages of a sign of 23 by 14 with two fonts, drawn.
 
-use dms_bench_sign::{Other, PICTURE_OF_A, defaults_with, drawing, face};
 use dms_face::{Cell, Face, Flash, MultiFault, check, check_with};
+use dms_face_pages::{Page, PagesFault, pages, pages_with};
 use dms_multi::Lead;
-use dms_pages::{Page, PagesFault, pages, pages_with};
+use dms_sign_bench::{Other, PICTURE_OF_A, defaults_with, drawing, face};
 use std::alloc::Global;
 use std::process::Abort;
 use std::test::Fail;

@@ -2,10 +2,10 @@
 
 mod cases;
 
-use dms_bench_sign::{DEFAULTS, fonts_of};
 use dms_face::Face;
-use dms_pages::pages;
-use dms_picture::{picture, still};
+use dms_face_pages::pages;
+use dms_face_picture::{picture, still};
+use dms_sign_bench::{DEFAULTS, fonts_of};
 use std::alloc::Global;
 use std::test::Fail;
 

@@ -10,11 +10,11 @@ use arrayvec::ArrayVec;
 use dms_centre::{Centre, Ended};
 use dms_codes::Order;
 use dms_face::{Cell, check};
+use dms_face_pages::{Page, pages};
 use dms_multi::Lead;
-use dms_pages::{Page, pages};
 use dms_replay::replay;
 use dms_sign::{Receipt, Sign};
-use dms_streams::Gathered;
+use dms_text_streams::Gathered;
 use dms_wire::{Bind, MAX_BINDINGS, MessageParts, Out, Value, read, write};
 use std::alloc::Global;
 

@@ -16,10 +16,10 @@ ghost use Rattle.std.specs.Prelude.{◌≡◌, ◌<◌};
 ghost use Rattle.dms_wire.specs.Message.{SnmpMessage};
 ghost use Rattle.dms_wire.specs.Spelling.{Spells};
 
-use dms_bench_sign::DEFAULTS;
 use dms_codes::crc;
 use dms_face::{Cell, Face, Font, check};
-use dms_pages::{Page, pages};
+use dms_face_pages::{Page, pages};
+use dms_sign_bench::DEFAULTS;
 use dms_text::Lines;
 use dms_wire::{Bind, MAX_BINDINGS, MAX_DATAGRAM, MessageParts, Oid, Out, Value, read, write};
 use std::alloc::Global;

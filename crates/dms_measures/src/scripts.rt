@@ -1,13 +1,13 @@
 //! Measures of scripts: reading alone, the report alone, and the whole replay.
 
 use dms_centre::{Centre, Settings};
-use dms_description::{Setup, sign_of_lines};
 use dms_replay::event_line::event;
 use dms_replay::replay;
 use dms_replay::report::report;
 use dms_replay::script_event::ScriptEvent;
-use dms_streams::Gathered;
+use dms_sign_text::{Setup, sign_of_lines};
 use dms_text::Lines;
+use dms_text_streams::Gathered;
 use dms_world::{World, run};
 use std::alloc::Global;
 

@@ -3,9 +3,9 @@
 ghost use Rattle.std.specs.Prelude.{◌<◌, length, IfSome};
 
 use crate::face_of;
-use dms_bench_sign::stock;
 use dms_codes::Order;
 use dms_sign::{Config, Sign};
+use dms_sign_bench::stock;
 use dms_table::{Permanent, Stock};
 use dms_wire::{MAX_DATAGRAM, Out};
 use std::alloc::Global;

@@ -7,8 +7,8 @@ use Rattle.dms_table.specs.Rows.{RowModel}
 use Rattle.dms_sign.specs.InRange.{IsMadeOfOctets}
 use Rattle.dms_world.specs.World.{IsFresh}
 use Rattle.dms_replay.specs.Script.{beginning_of}
-use Rattle.dms_description.proofs.BenchValue.{bench_sign}
-use Rattle.dms_description.proofs.BenchText.{can_be_made}
+use Rattle.dms_sign_text.proofs.BenchValue.{bench_sign}
+use Rattle.dms_sign_text.proofs.BenchText.{can_be_made}
 
 reader_octets : AllBelowBase 256 (codes "public")
 reader_octets = (omega arith, (omega arith, (omega arith, (omega arith, (omega arith, (omega arith, tt))))))

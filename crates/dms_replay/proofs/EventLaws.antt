@@ -8,13 +8,13 @@ use Rattle.dms_text.proofs.WordLaws.{begun, goes_on, word_found, word_only}
 use Rattle.dms_codes.specs.declared.codes.Order.{Order}
 use Rattle.dms_codes.proofs.Options.{mapped_some}
 use Rattle.dms_world.specs.Event.{EventModel, command, sign_tick, centre_tick, to_sign, to_centre, power_lost, power_back, centre_restart, forge_sign, forge_centre}
-use Rattle.dms_forms.specs.Fields.{SpellsEach}
-use Rattle.dms_forms.specs.FieldsReading.{if_last}
-use Rattle.dms_forms.proofs.WordReading.{last_found, by_text}
-use Rattle.dms_forms.proofs.FieldLaws.{last_number_found, last_number_only, last_octets_found, last_octets_only}
-use Rattle.dms_commands.specs.CommandReading.{command_word}
-use Rattle.dms_commands.specs.declared.command_word.CommandWord.{CommandWord}
-use Rattle.dms_commands.proofs.CommandLaws.{command_text, command_some, command_word_found, command_after_found, is_read}
+use Rattle.dms_text_forms.specs.Fields.{SpellsEach}
+use Rattle.dms_text_forms.specs.FieldsReading.{if_last}
+use Rattle.dms_text_forms.proofs.WordReading.{last_found, by_text}
+use Rattle.dms_text_forms.proofs.FieldLaws.{last_number_found, last_number_only, last_octets_found, last_octets_only}
+use Rattle.dms_centre_text.specs.CommandReading.{command_word}
+use Rattle.dms_centre_text.specs.declared.command_word.CommandWord.{CommandWord}
+use Rattle.dms_centre_text.proofs.CommandLaws.{command_text, command_some, command_word_found, command_after_found, is_read}
 use Rattle.dms_replay.specs.EventLine.{SpellsEventWords, SpellsEvent}
 use Rattle.dms_replay.specs.EventReading.{keyword_of, own_keyword, later_keyword, if_command, event_after, event_of}
 use Rattle.dms_replay.specs.EventView.{script_event_model}

@@ -3,9 +3,9 @@ use Rattle.std.proofs.Common.{◌≡◌, ℕ, cond, List, [], ◌∷◌, ◌++�
 use Rattle.std.proofs.lemmas.List.{append-nil}
 use Rattle.std.specs.Prelude.{◌⊎◌}
 use Rattle.std.proofs.Common.{inl, inr}
-use Rattle.dms_description.specs.declared.reading_fault.ReplayFault.{ReplayFault}
-use Rattle.dms_description.specs.declared.reading_fault.ReplayFault.TheVariants.{Memory}
-use Rattle.dms_description.specs.ReadingFaults.{IsLine}
+use Rattle.dms_sign_text.specs.declared.reading_fault.ReplayFault.{ReplayFault}
+use Rattle.dms_sign_text.specs.declared.reading_fault.ReplayFault.TheVariants.{Memory}
+use Rattle.dms_sign_text.specs.ReadingFaults.{IsLine}
 use Rattle.std.proofs.lemmas.List.{map-append}
 use Rattle.dms_text.specs.declared.lines.Line.{Line}
 use Rattle.dms_text.specs.Lines.{NumberedLine}
@@ -13,13 +13,13 @@ use Rattle.dms_text.specs.Views.{numbered_line}
 use Rattle.dms_text.proofs.LineFilter.{octets_of_lines}
 use Rattle.dms_codes.specs.declared.codes.Order.{Order}
 use Rattle.dms_world.specs.Event.{EventModel}
-use Rattle.dms_forms.specs.Fields.{SpellsEach}
+use Rattle.dms_text_forms.specs.Fields.{SpellsEach}
 use Rattle.dms_replay.specs.EventLine.{SpellsEvent}
 use Rattle.dms_replay.specs.EventReading.{event_of}
 use Rattle.dms_replay.specs.EventView.{script_event_model, script_events_model}
 use Rattle.dms_replay.specs.declared.script_event.ScriptEvent.{ScriptEvent}
 use Rattle.dms_replay.specs.RefusedScript.{from_no_event, NamesLine}
-use Rattle.dms_description.specs.RefusedLine.{first_number}
+use Rattle.dms_sign_text.specs.RefusedLine.{first_number}
 use Rattle.std.specs.Option.{is_some}
 use Rattle.dms_replay.proofs.EventLaws.{event_found, event_only}
 

@@ -7,23 +7,23 @@ use Rattle.std.proofs.lemmas.List.Elements.{All-from_recursion}
 use Rattle.dms_text.specs.Lines.{kept_lines}
 use Rattle.dms_text.specs.Words.{words_of}
 use Rattle.dms_face.specs.declared.defaults.Defaults.{Defaults}
-use Rattle.dms_access.specs.Ranges.{AreDefaultsInRange}
+use Rattle.dms_sign_access.specs.Ranges.{AreDefaultsInRange}
 use Rattle.dms_table.specs.Rows.{RowModel}
 use Rattle.dms_codes.specs.declared.codes.Order.{Order}
 use Rattle.dms_sign.specs.InRange.{IsMadeOfOctets}
-use Rattle.dms_requests.specs.Commands.{CommandModel, Publish, Blank, Activate, IsAddress, IsPublication, IsCommand, OfPublish, OfBlank, OfActivate}
-use Rattle.dms_requests.specs.Job.{PublicationModel}
+use Rattle.dms_centre_jobs.specs.Commands.{CommandModel, Publish, Blank, Activate, IsAddress, IsPublication, IsCommand, OfPublish, OfBlank, OfActivate}
+use Rattle.dms_centre_jobs.specs.Job.{PublicationModel}
 use Rattle.dms_world.specs.Event.{EventModel, command, sign_tick, centre_tick, to_sign, to_centre, power_lost, power_back, centre_restart, forge_sign, forge_centre}
 use Rattle.dms_world.specs.World.{IsFresh}
 use Rattle.dms_world.specs.Headline.{IsEvent, AreEvents}
-use Rattle.dms_description.specs.BenchSign.{bench_text}
-use Rattle.dms_description.specs.Description.{Description, SpellsSign, SpellsPermanentLine, numbers_of}
-use Rattle.dms_forms.specs.Fields.{SpellsEach, SpellsOctet}
-use Rattle.dms_description.proofs.BenchValue.{bench_sign}
-use Rattle.dms_description.proofs.BenchText.{spells_the_bench_sign}
-use Rattle.dms_description.proofs.DescriptionLaws.{one_sign}
-use Rattle.dms_commands.specs.CommandFields.{SpellsAddress, SpellsAddressPart}
-use Rattle.dms_commands.specs.CommandLine.{SpellsPublication, SpellsCommand}
+use Rattle.dms_sign_text.specs.BenchSign.{bench_text}
+use Rattle.dms_sign_text.specs.Description.{Description, SpellsSign, SpellsPermanentLine, numbers_of}
+use Rattle.dms_text_forms.specs.Fields.{SpellsEach, SpellsOctet}
+use Rattle.dms_sign_text.proofs.BenchValue.{bench_sign}
+use Rattle.dms_sign_text.proofs.BenchText.{spells_the_bench_sign}
+use Rattle.dms_sign_text.proofs.DescriptionLaws.{one_sign}
+use Rattle.dms_centre_text.specs.CommandFields.{SpellsAddress, SpellsAddressPart}
+use Rattle.dms_centre_text.specs.CommandLine.{SpellsPublication, SpellsCommand}
 use Rattle.dms_replay.specs.EventLine.{SpellsEvent, SpellsEventWords}
 use Rattle.dms_replay.specs.Script.{NamesSign, the_bench, described, SpellsScript, beginning_of}
 use Rattle.dms_replay.proofs.BenchFresh.{bench_is_fresh}

@@ -4,8 +4,8 @@ use Rattle.std.specs.Prelude.{codes, ◌⊎◌, IfSome}
 use Rattle.std.proofs.lemmas.List.{length-map}
 use Rattle.std.specs.Str.Lines.{lines}
 use Rattle.dms_text.specs.Lines.{TextLeft, lines_left, number_after, kept_lines}
-use Rattle.dms_description.specs.RefusedLine.{NumberedLines, numbered_left, all_numbered, first_number, last_lines, refused_number, Leaves}
-use Rattle.dms_description.proofs.LastLines.{last_are}
+use Rattle.dms_sign_text.specs.RefusedLine.{NumberedLines, numbered_left, all_numbered, first_number, last_lines, refused_number, Leaves}
+use Rattle.dms_sign_text.proofs.LastLines.{last_are}
 use Rattle.dms_replay.specs.RefusedScript.{from_no_event, no_event_number, NamesLine, IsRefusedIn}
 use Rattle.dms_replay.specs.RefusedScript as script_fault
 use Rattle.dms_text.specs.Words.{words_of}
@@ -17,26 +17,26 @@ use Rattle.dms_sign.specs.State.{SignState, start}
 use Rattle.dms_centre.specs.State as centre
 use Rattle.dms_world.specs.Event.{EventModel}
 use Rattle.dms_world.specs.World.{WorldModel, beginning, world_after}
-use Rattle.dms_description.specs.BenchSign.{bench_text}
-use Rattle.dms_description.specs.Description.{Description, SpellsSign}
-use Rattle.dms_streams.specs.DescriptionText.{longest_input}
-use Rattle.dms_forms.specs.Fields.{SpellsEach}
-use Rattle.dms_description.specs.Setups.{octets_left, BeginsWith, IsMade}
-use Rattle.dms_description.specs.declared.setup.Setup.{Setup}
-use Rattle.dms_description.proofs.DescriptionLaws.{one_prefix, one_sign}
+use Rattle.dms_sign_text.specs.BenchSign.{bench_text}
+use Rattle.dms_sign_text.specs.Description.{Description, SpellsSign}
+use Rattle.dms_text_streams.specs.DescriptionText.{longest_input}
+use Rattle.dms_text_forms.specs.Fields.{SpellsEach}
+use Rattle.dms_sign_text.specs.Setups.{octets_left, BeginsWith, IsMade}
+use Rattle.dms_sign_text.specs.declared.setup.Setup.{Setup}
+use Rattle.dms_sign_text.proofs.DescriptionLaws.{one_prefix, one_sign}
 use Rattle.dms_replay.specs.EventLine.{SpellsEvent}
-use Rattle.dms_description.specs.ReadingFaults.{IsLine}
+use Rattle.dms_sign_text.specs.ReadingFaults.{IsLine}
 use Rattle.dms_replay.specs.Script.{NamesSign, the_bench, described, NamesPrefix, SpellsScript, beginning_of}
-use Rattle.dms_description.specs.declared.reading_fault.ReplayFault.{ReplayFault}
+use Rattle.dms_sign_text.specs.declared.reading_fault.ReplayFault.{ReplayFault}
 use Rattle.dms_replay.specs.declared.script_event.ScriptEvent.{ScriptEvent}
 use Rattle.dms_replay.specs.EventView.{script_event_model, script_events_model}
-use Rattle.dms_description.specs.declared.reading_fault.ReplayFault.TheVariants.{Read, Write, TooLong, Memory, Line as LineFault}
-use Rattle.dms_forms.proofs.FieldLaws.{same_rest}
-use Rattle.dms_description.proofs.SetupLaws.{kept}
+use Rattle.dms_sign_text.specs.declared.reading_fault.ReplayFault.TheVariants.{Read, Write, TooLong, Memory, Line as LineFault}
+use Rattle.dms_text_forms.proofs.FieldLaws.{same_rest}
+use Rattle.dms_sign_text.proofs.SetupLaws.{kept}
 use Rattle.dms_replay.specs.Report.{report_of}
 use Rattle.dms_replay.specs.Replayed.{IsReport, IsLawful, RunsLawfully, HasNoRoom, NoScript}
-use Rattle.dms_streams.specs.Room.{HasRoom, IsWrittenWithinRoom}
-use Rattle.dms_streams.specs.declared.failed.Failed.{Failed}
+use Rattle.dms_text_streams.specs.Room.{HasRoom, IsWrittenWithinRoom}
+use Rattle.dms_text_streams.specs.declared.failed.Failed.{Failed}
 use Rattle.dms_replay.proofs.EventLaws.{one_list}
 
 abbrev head_or : List ℕ → List (List ℕ) → List ℕ

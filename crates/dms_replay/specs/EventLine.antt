@@ -5,8 +5,8 @@ use Rattle.dms_text.specs.Octets.{SpellsOctets}
 use Rattle.dms_codes.specs.declared.codes.Order.{Order}
 use Rattle.dms_world.specs.Event.{EventModel, command, sign_tick, centre_tick, to_sign, to_centre, power_lost}
 use Rattle.dms_world.specs.Event.{power_back, centre_restart, forge_sign, forge_centre}
-use Rattle.dms_forms.specs.Fields.{SpellsFourOctets, SpellsOne}
-use Rattle.dms_commands.specs.CommandLine.{SpellsCommand}
+use Rattle.dms_text_forms.specs.Fields.{SpellsFourOctets, SpellsOne}
+use Rattle.dms_centre_text.specs.CommandLine.{SpellsCommand}
 
 abbrev pub SpellsEventWords : Order → EventModel → List (List ℕ) → Type 0
 SpellsEventWords order (command asked) words = SpellsCommand order asked words

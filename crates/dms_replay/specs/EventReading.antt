@@ -6,9 +6,9 @@ use Rattle.dms_text.specs.Reading.{same_octets, word_at, ◌>>=◌}
 use Rattle.dms_codes.specs.declared.codes.Order.{Order}
 use Rattle.dms_world.specs.Event.{EventModel, command, sign_tick, centre_tick, to_sign, to_centre, power_lost}
 use Rattle.dms_world.specs.Event.{power_back, centre_restart, forge_sign, forge_centre}
-use Rattle.dms_forms.specs.FieldsReading.{if_last, last_number_at, last_octets_at}
-use Rattle.dms_commands.specs.CommandReading.{command_word, command_after}
-use Rattle.dms_commands.specs.declared.command_word.CommandWord.{CommandWord}
+use Rattle.dms_text_forms.specs.FieldsReading.{if_last, last_number_at, last_octets_at}
+use Rattle.dms_centre_text.specs.CommandReading.{command_word, command_after}
+use Rattle.dms_centre_text.specs.declared.command_word.CommandWord.{CommandWord}
 use Rattle.dms_replay.specs.declared.keyword.Keyword.{Keyword}
 use Rattle.dms_replay.specs.declared.keyword.Keyword.TheVariants as key
 

@@ -2,7 +2,7 @@
 use Rattle.std.specs.Prelude.{List, map}
 use Rattle.dms_world.specs.Event.{EventModel, command, sign_tick, centre_tick, to_sign, to_centre, power_lost}
 use Rattle.dms_world.specs.Event.{power_back, centre_restart, forge_sign, forge_centre}
-use Rattle.dms_commands.specs.CommandView.{owned_command_model}
+use Rattle.dms_centre_text.specs.CommandView.{owned_command_model}
 use Rattle.dms_replay.specs.declared.script_event.ScriptEvent.{ScriptEvent}
 use Rattle.dms_replay.specs.declared.script_event.ScriptEvent.TheVariants as script
 

@@ -4,15 +4,15 @@ use Rattle.std.specs.Borrow.{Bor}
 use Rattle.dms_text.specs.Lines.{NumberedLine, lines_left, kept_lines}
 use Rattle.dms_text.specs.Words.{words_of}
 use Rattle.dms_text.specs.Reading.{word_at, ◌>>=◌}
-use Rattle.dms_forms.specs.Form.{word_fault}
-use Rattle.dms_forms.specs.Texts.{fault_text}
-use Rattle.dms_forms.specs.declared.vocabulary.Keyword.TheVariants as keywords
-use Rattle.dms_forms.specs.declared.vocabulary.Name.TheVariants as names
-use Rattle.dms_forms.specs.declared.wanted.Wanted.{Wanted}
-use Rattle.dms_forms.specs.declared.wanted.Wanted.TheVariants as wanted
-use Rattle.dms_causes.specs.Texts.{cause_text}
-use Rattle.dms_description.specs.Causes.{first_cause}
-use Rattle.dms_commands.specs.declared.command_word.CommandWord.TheVariants as asked
+use Rattle.dms_text_forms.specs.Form.{word_fault}
+use Rattle.dms_text_forms.specs.Texts.{fault_text}
+use Rattle.dms_text_forms.specs.declared.vocabulary.Keyword.TheVariants as keywords
+use Rattle.dms_text_forms.specs.declared.vocabulary.Name.TheVariants as names
+use Rattle.dms_text_forms.specs.declared.wanted.Wanted.{Wanted}
+use Rattle.dms_text_forms.specs.declared.wanted.Wanted.TheVariants as wanted
+use Rattle.dms_sign_text_causes.specs.Texts.{cause_text}
+use Rattle.dms_sign_text.specs.Causes.{first_cause}
+use Rattle.dms_centre_text.specs.declared.command_word.CommandWord.TheVariants as asked
 use Rattle.dms_replay.specs.declared.keyword.Keyword.{Keyword}
 use Rattle.dms_replay.specs.declared.keyword.Keyword.TheVariants as key
 use Rattle.dms_replay.specs.declared.reasons.EventCause.{EventCause}

@@ -4,11 +4,11 @@ use Rattle.std.specs.Option.{is_some}
 use Rattle.std.specs.Str.Lines.{lines}
 use Rattle.dms_text.specs.Lines.{NumberedLine, kept_lines}
 use Rattle.dms_codes.specs.declared.codes.Order.{Order}
-use Rattle.dms_description.specs.declared.reading_fault.ReplayFault.{ReplayFault}
-use Rattle.dms_description.specs.declared.reading_fault.ReplayFault.TheVariants as faults
-use Rattle.dms_description.specs.Description.{Description}
-use Rattle.dms_description.specs.RefusedLine.{all_numbered, first_number, last_lines, refused_number}
-use Rattle.dms_forms.specs.Fields.{SpellsEach}
+use Rattle.dms_sign_text.specs.declared.reading_fault.ReplayFault.{ReplayFault}
+use Rattle.dms_sign_text.specs.declared.reading_fault.ReplayFault.TheVariants as faults
+use Rattle.dms_sign_text.specs.Description.{Description}
+use Rattle.dms_sign_text.specs.RefusedLine.{all_numbered, first_number, last_lines, refused_number}
+use Rattle.dms_text_forms.specs.Fields.{SpellsEach}
 use Rattle.dms_world.specs.Event.{EventModel}
 use Rattle.dms_replay.specs.EventLine.{SpellsEvent}
 use Rattle.dms_replay.specs.EventReading.{event_of}

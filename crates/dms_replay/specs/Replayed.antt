@@ -1,13 +1,13 @@
 -- What a replay writes, and what holds of its run (this profile).
 use Rattle.std.specs.Prelude.{◌≡◌, ℕ, List, Option, length}
 use Rattle.std.specs.Io.KnownBytes.{Appends}
-use Rattle.dms_streams.specs.Prefixes.{AppendsPrefix}
-use Rattle.dms_streams.specs.Room.{HasRoom}
+use Rattle.dms_text_streams.specs.Prefixes.{AppendsPrefix}
+use Rattle.dms_text_streams.specs.Room.{HasRoom}
 use Rattle.dms_world.specs.Event.{EventModel}
 use Rattle.dms_world.specs.World.{IsFresh, world_after}
 use Rattle.dms_world.specs.Headline.{AreEvents, Headline}
 use Rattle.dms_world.specs.Always.{Always}
-use Rattle.dms_description.specs.Description.{Description}
+use Rattle.dms_sign_text.specs.Description.{Description}
 use Rattle.dms_replay.specs.Script.{SpellsScript, beginning_of}
 use Rattle.dms_replay.specs.Report.{report_of}
 

@@ -3,9 +3,9 @@ use Rattle.std.specs.Prelude.{ℕ, List, ◌++◌, length, codes, decimal, flat_
 use Rattle.dms_codes.specs.declared.codes.Order.{Order}
 use Rattle.dms_codes.specs.declared.codes.Activation.{Activation}
 use Rattle.dms_world.specs.World.{WorldModel}
-use Rattle.dms_forms.specs.LineText.{code_text, ended}
-use Rattle.dms_description.specs.ShownLine.{shown_line}
-use Rattle.dms_commands.specs.LedgerLine.{ledger_line}
+use Rattle.dms_text_forms.specs.LineText.{code_text, ended}
+use Rattle.dms_sign_text.specs.ShownLine.{shown_line}
+use Rattle.dms_centre_text.specs.LedgerLine.{ledger_line}
 
 -- ---- lines
 

@@ -2,14 +2,14 @@
 use Rattle.std.specs.Prelude.{◌≡◌, ℕ, ◌≤◌, List, [], ◌∷◌, ◌++◌, length, codes}
 use Rattle.dms_text.specs.Lines.{kept_lines}
 use Rattle.dms_world.specs.Event.{EventModel}
-use Rattle.dms_forms.specs.Fields.{SpellsEach}
+use Rattle.dms_text_forms.specs.Fields.{SpellsEach}
 use Rattle.dms_replay.specs.EventLine.{SpellsEvent}
 use Rattle.dms_sign.specs.State.{start}
 use Rattle.dms_centre.specs.State as centre
-use Rattle.dms_description.specs.Description.{Description, SpellsSign}
-use Rattle.dms_streams.specs.DescriptionText.{longest_input}
+use Rattle.dms_sign_text.specs.Description.{Description, SpellsSign}
+use Rattle.dms_text_streams.specs.DescriptionText.{longest_input}
 use Rattle.dms_world.specs.World.{WorldModel, beginning}
-use Rattle.dms_description.specs.BenchSign.{bench_text}
+use Rattle.dms_sign_text.specs.BenchSign.{bench_text}
 
 -- the world in which a script's events happen: the centre has the sign's writing community and its order
 abbrev pub beginning_of : Description → WorldModel

@@ -3,16 +3,16 @@
 ghost use Rattle.std.specs.Prelude.{◌≡◌, IfOk, IfSome, IfNone, option_map};
 ghost use Rattle.dms_world.specs.Event.{EventModel};
 ghost use Rattle.dms_replay.specs.EventLine.{SpellsEvent};
-ghost use Rattle.dms_forms.specs.FieldsReading.{if_last};
+ghost use Rattle.dms_text_forms.specs.FieldsReading.{if_last};
 ghost use Rattle.dms_replay.specs.EventReading.{event_of};
 ghost use Rattle.dms_replay.specs.EventView.{script_event_model};
 
 use crate::keyword::Keyword;
 use crate::script_event::ScriptEvent;
+use dms_centre_text::command_after;
 use dms_codes::Order;
-use dms_commands::command_after;
-use dms_forms::fields::{last_number, last_octets};
 use dms_text::Words;
+use dms_text_forms::fields::{last_number, last_octets};
 use std::alloc::{AllocError, Global};
 
 /// The event that a line spells, or none where it spells none; it spells no other. A code is in this order.

@@ -4,19 +4,19 @@ ghost use Rattle.std.specs.Prelude.{◌≡◌, ◌⊎◌, ◌++◌, ◌∷◌, [
 ghost use Rattle.dms_text.specs.Lines.{lines_left, number_after};
 ghost use Rattle.dms_text.proofs.LineFilter.{octets_of_lines};
 ghost use Rattle.dms_world.specs.Event.{EventModel};
-ghost use Rattle.dms_forms.specs.Fields.{SpellsEach};
+ghost use Rattle.dms_text_forms.specs.Fields.{SpellsEach};
 ghost use Rattle.dms_replay.specs.EventLine.{SpellsEvent};
 ghost use Rattle.dms_replay.specs.EventView.{script_event_model, script_events_model};
 ghost use Rattle.dms_replay.specs.EventReading.{event_of};
 ghost use Rattle.dms_replay.specs.RefusedScript.{from_no_event, NamesLine};
-ghost use Rattle.dms_description.specs.RefusedLine.{first_number};
-ghost use Rattle.dms_description.specs.ReadingFaults.{IsLine};
-ghost use Rattle.dms_description.specs.declared.reading_fault.ReplayFault.TheVariants as faults;
+ghost use Rattle.dms_sign_text.specs.RefusedLine.{first_number};
+ghost use Rattle.dms_sign_text.specs.ReadingFaults.{IsLine};
+ghost use Rattle.dms_sign_text.specs.declared.reading_fault.ReplayFault.TheVariants as faults;
 
 use crate::event_line::read_event;
 use crate::script_event::ScriptEvent;
 use dms_codes::Order;
-use dms_description::ReplayFault;
+use dms_sign_text::ReplayFault;
 use dms_text::{Line, Lines};
 use std::alloc::Global;
 

@@ -1,3 +1,3 @@
 //! Why a script is not run to its report.
 
-pub use dms_description::ReplayFault;
+pub use dms_sign_text::ReplayFault;

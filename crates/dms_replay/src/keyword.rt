@@ -1,6 +1,6 @@
 //! The words with which the lines of events begin.
 
-use dms_commands::CommandWord;
+use dms_centre_text::CommandWord;
 use dms_text::are_same;
 
 /// The word with which an event's line begins.

@@ -4,7 +4,7 @@ ghost use Rattle.std.specs.Prelude.{◌≡◌, ℕ, List};
 ghost use Rattle.std.specs.Int.Digits.{AllBelowBase};
 ghost use Rattle.dms_codes.specs.declared.codes.Order.{Order};
 ghost use Rattle.dms_world.specs.Event.{EventModel};
-ghost use Rattle.dms_description.specs.Description.{Description};
+ghost use Rattle.dms_sign_text.specs.Description.{Description};
 ghost use Rattle.dms_replay.specs.EventLine.{SpellsEvent};
 ghost use Rattle.dms_replay.specs.RefusedScript.{IsRefusedIn};
 ghost use Rattle.dms_replay.specs.Replayed.{IsLawful};

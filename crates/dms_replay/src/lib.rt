@@ -20,7 +20,7 @@ pub mod report;
 mod script;
 pub mod script_event;
 
-pub use dms_commands::address;
-pub use dms_description::{LONGEST_INPUT, ReplayFault, described};
+pub use dms_centre_text::address;
+pub use dms_sign_text::{LONGEST_INPUT, ReplayFault, described};
 pub use reasons::{EventCause, ScriptCause, why};
 pub use replaying::{bench, replay};

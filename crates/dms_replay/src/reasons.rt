@@ -2,7 +2,7 @@
 
 ghost use Rattle.std.specs.Prelude.{◌≡◌, ◌≤◌, IfOk, IfSome, length, option_map};
 ghost use Rattle.dms_text.specs.Lines.{lines_left};
-ghost use Rattle.dms_streams.specs.DescriptionText.{longest_input};
+ghost use Rattle.dms_text_streams.specs.DescriptionText.{longest_input};
 ghost use Rattle.dms_replay.specs.RefusedScript.{IsRefusedIn};
 ghost use Rattle.dms_replay.specs.Replayed.{NoScript};
 ghost use Rattle.dms_replay.specs.Reasons.{event_form, event_cause, line_numbered, line_found, event_cause_at};
@@ -10,11 +10,11 @@ ghost use Rattle.dms_replay.specs.Reasons.{IsCauseOf};
 
 use crate::keyword::Keyword;
 use crate::script::{named_sign, read_script};
-use dms_causes::Cause;
-use dms_commands::CommandWord;
-use dms_description::{ReplayFault, first_cause};
-use dms_forms::{Name, Wanted, WordFault, word_fault};
+use dms_centre_text::CommandWord;
+use dms_sign_text::{ReplayFault, first_cause};
+use dms_sign_text_causes::Cause;
 use dms_text::{Lines, Words};
+use dms_text_forms::{Name, Wanted, WordFault, word_fault};
 use std::alloc::{AllocError, Global};
 use std::fmt;
 
@@ -153,7 +153,7 @@ fn event_form(keyword: Keyword) -> &'static [Wanted]
 {
     match keyword {
         Keyword::Command(CommandWord::Publish) => &[
-            Wanted::Keyword(dms_forms::Keyword::Publish),
+            Wanted::Keyword(dms_text_forms::Keyword::Publish),
             Wanted::Number(0, 255),
             Wanted::Number(0, 65535),
             Wanted::Octets(Name::Text),
@@ -166,37 +166,40 @@ fn event_form(keyword: Keyword) -> &'static [Wanted]
             Wanted::Address,
         ],
         Keyword::Command(CommandWord::Blank) => &[
-            Wanted::Keyword(dms_forms::Keyword::Blank),
+            Wanted::Keyword(dms_text_forms::Keyword::Blank),
             Wanted::Number(0, 65535),
             Wanted::Number(0, 65535),
             Wanted::Number(0, 255),
             Wanted::Address,
         ],
         Keyword::Command(CommandWord::Activate) => {
-            &[Wanted::Keyword(dms_forms::Keyword::Activate), Wanted::Code]
+            &[
+                Wanted::Keyword(dms_text_forms::Keyword::Activate),
+                Wanted::Code,
+            ]
         }
-        Keyword::SignTick => &[Wanted::Keyword(dms_forms::Keyword::SignTick)],
-        Keyword::CentreTick => &[Wanted::Keyword(dms_forms::Keyword::CentreTick)],
+        Keyword::SignTick => &[Wanted::Keyword(dms_text_forms::Keyword::SignTick)],
+        Keyword::CentreTick => &[Wanted::Keyword(dms_text_forms::Keyword::CentreTick)],
         Keyword::ToSign => &[
-            Wanted::Keyword(dms_forms::Keyword::ToSign),
+            Wanted::Keyword(dms_text_forms::Keyword::ToSign),
             Wanted::FourOctets,
         ],
         Keyword::ToCentre => &[
-            Wanted::Keyword(dms_forms::Keyword::ToCentre),
+            Wanted::Keyword(dms_text_forms::Keyword::ToCentre),
             Wanted::FourOctets,
         ],
-        Keyword::PowerLost => &[Wanted::Keyword(dms_forms::Keyword::PowerLost)],
+        Keyword::PowerLost => &[Wanted::Keyword(dms_text_forms::Keyword::PowerLost)],
         Keyword::PowerBack => &[
-            Wanted::Keyword(dms_forms::Keyword::PowerBack),
+            Wanted::Keyword(dms_text_forms::Keyword::PowerBack),
             Wanted::FourOctets,
         ],
-        Keyword::CentreRestart => &[Wanted::Keyword(dms_forms::Keyword::CentreRestart)],
+        Keyword::CentreRestart => &[Wanted::Keyword(dms_text_forms::Keyword::CentreRestart)],
         Keyword::ForgeSign => &[
-            Wanted::Keyword(dms_forms::Keyword::ForgeSign),
+            Wanted::Keyword(dms_text_forms::Keyword::ForgeSign),
             Wanted::Octets(Name::Datagram),
         ],
         Keyword::ForgeCentre => &[
-            Wanted::Keyword(dms_forms::Keyword::ForgeCentre),
+            Wanted::Keyword(dms_text_forms::Keyword::ForgeCentre),
             Wanted::Octets(Name::Datagram),
         ],
     }

@@ -4,33 +4,33 @@ ghost use Rattle.std.specs.Prelude.{◌≡◌, ◌≢◌, ◌⊎◌, ◌≤◌, 
 ghost use Rattle.std.specs.Prelude.{OnOk, OnErr, IsOk, IfSome};
 ghost use Rattle.std.specs.Int.Digits.{AllBelowBase};
 ghost use Rattle.std.specs.Io.KnownBytes.{Keeps};
-ghost use Rattle.dms_streams.specs.Calls.{one_more};
+ghost use Rattle.dms_text_streams.specs.Calls.{one_more};
 ghost use Rattle.dms_text.specs.Lines.{kept_lines};
 ghost use Rattle.dms_centre.specs.State.{start};
 ghost use Rattle.dms_world.specs.Event.{EventModel};
 ghost use Rattle.dms_world.specs.World.{beginning, world_after};
 ghost use Rattle.dms_world.specs.CodeView.{events_model, seen};
-ghost use Rattle.dms_description.specs.BenchSign.{bench_text};
-ghost use Rattle.dms_description.specs.Description.{Description, SpellsSign};
-ghost use Rattle.dms_streams.specs.DescriptionText.{longest_input};
-ghost use Rattle.dms_description.specs.Setups.{IsMade};
+ghost use Rattle.dms_sign_text.specs.BenchSign.{bench_text};
+ghost use Rattle.dms_sign_text.specs.Description.{Description, SpellsSign};
+ghost use Rattle.dms_text_streams.specs.DescriptionText.{longest_input};
+ghost use Rattle.dms_sign_text.specs.Setups.{IsMade};
 ghost use Rattle.dms_replay.specs.EventView.{script_events_model};
-ghost use Rattle.dms_description.specs.ReadingFaults.{IsLine};
+ghost use Rattle.dms_sign_text.specs.ReadingFaults.{IsLine};
 ghost use Rattle.dms_replay.specs.Report.{report_of};
 ghost use Rattle.dms_replay.specs.Replayed.{IsReport, Replayed, ReplayedPrefix, RunsLawfully, HasNoRoom, NoScript};
 ghost use Rattle.dms_replay.specs.RefusedScript.{IsRefusedIn, NamesLine};
 ghost use Rattle.dms_replay.specs.Script.{SpellsScript};
-ghost use Rattle.dms_description.specs.declared.reading_fault.ReplayFault.TheVariants as faults;
+ghost use Rattle.dms_sign_text.specs.declared.reading_fault.ReplayFault.TheVariants as faults;
 
 use crate::laws::scripts_run_lawfully;
 use crate::report::report;
 use crate::script::{Script, read_script};
 use crate::script_event::ScriptEvent;
 use dms_centre::{Centre, Settings};
-pub use dms_description::{LONGEST_INPUT, described};
-use dms_description::{ReplayFault, Setup, whole_input};
 use dms_sign::laws::signs_are_kept;
-use dms_streams::{Sink, Source, write_whole};
+pub use dms_sign_text::{LONGEST_INPUT, described};
+use dms_sign_text::{ReplayFault, Setup, whole_input};
+use dms_text_streams::{Sink, Source, write_whole};
 use dms_world::{Event, World, run};
 use std::alloc::Global;
 
@@ -180,7 +180,7 @@ pub fn bench(alloc: Global) -> Result<Setup, ReplayFault>
     ensures sign { IfOk result (λ setup. (it : Description) × SpellsSign (kept_lines bench_text) it × IsMade it setup) }
     ensures memory { IfErr result (λ fault. fault ≡ faults.Memory) }
 {
-    match dms_description::bench(alloc) {
+    match dms_sign_text::bench(alloc) {
         Ok(setup) => Ok(setup),
         Err(_) => Err(ReplayFault::Memory),
     }

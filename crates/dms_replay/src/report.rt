@@ -1,15 +1,15 @@
 //! The report of a run.
 
 ghost use Rattle.std.specs.Prelude.{◌≡◌, ◌++◌, IfOk, OnOk, flat_map};
-ghost use Rattle.dms_description.specs.ShownLine.{shown_line};
+ghost use Rattle.dms_sign_text.specs.ShownLine.{shown_line};
 ghost use Rattle.dms_world.specs.CodeView.{seen};
 ghost use Rattle.dms_replay.specs.Report.{report_of, events_line, sent_line, accepted_line};
 
+use dms_centre_text::put_code;
+pub use dms_centre_text::put_ledger;
 use dms_codes::{Activation, Order};
-use dms_commands::put_code;
-pub use dms_commands::put_ledger;
-pub use dms_description::put_shown;
 use dms_sign::Sign;
+pub use dms_sign_text::put_shown;
 use dms_world::World;
 use std::alloc::{AllocError, Global};
 use std::io::Write;

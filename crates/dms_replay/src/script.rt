@@ -4,19 +4,19 @@ ghost use Rattle.std.specs.Prelude.{◌≡◌, ◌⊎◌, ◌≤◌, ◌∷◌, 
 ghost use Rattle.std.specs.Str.Lines.{lines};
 ghost use Rattle.dms_text.specs.Lines.{kept_lines};
 ghost use Rattle.dms_world.specs.Event.{EventModel};
-ghost use Rattle.dms_description.specs.Description.{Description};
-ghost use Rattle.dms_streams.specs.DescriptionText.{longest_input};
-ghost use Rattle.dms_description.specs.RefusedLine.{all_numbered, numbered_left, refused_number, Leaves};
-ghost use Rattle.dms_description.specs.Setups.{octets_left, IsMade};
+ghost use Rattle.dms_sign_text.specs.Description.{Description};
+ghost use Rattle.dms_text_streams.specs.DescriptionText.{longest_input};
+ghost use Rattle.dms_sign_text.specs.RefusedLine.{all_numbered, numbered_left, refused_number, Leaves};
+ghost use Rattle.dms_sign_text.specs.Setups.{octets_left, IsMade};
 ghost use Rattle.dms_replay.specs.EventView.{script_events_model};
-ghost use Rattle.dms_description.specs.ReadingFaults.{IsLine};
+ghost use Rattle.dms_sign_text.specs.ReadingFaults.{IsLine};
 ghost use Rattle.dms_replay.specs.RefusedScript.{IsRefusedIn, NamesLine};
 ghost use Rattle.dms_replay.specs.Script.{NamesPrefix, SpellsScript};
-ghost use Rattle.dms_description.specs.declared.reading_fault.ReplayFault.TheVariants as faults;
+ghost use Rattle.dms_sign_text.specs.declared.reading_fault.ReplayFault.TheVariants as faults;
 
 use crate::events::events;
 use crate::script_event::ScriptEvent;
-use dms_description::{DescriptionFault, ReplayFault, Setup, sign_of_lines};
+use dms_sign_text::{DescriptionFault, ReplayFault, Setup, sign_of_lines};
 use dms_text::Lines;
 use std::alloc::Global;
 
@@ -61,7 +61,7 @@ pub(crate) fn named_sign(alloc: Global, octets: &[u8]) -> Result<(Setup, Lines<'
     ensures number { IfErr result (NamesLine (λ number. number ≡ refused_number (all_numbered (lines octets.now)))) }
 {
     if let Some(rest) = after_bench(octets) {
-        return match dms_description::bench(alloc) {
+        return match dms_sign_text::bench(alloc) {
             Ok(setup) => Ok((setup, rest)),
             Err(_) => Err(ReplayFault::Memory),
         };

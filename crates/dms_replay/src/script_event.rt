@@ -1,6 +1,6 @@
 //! Events as they are read, which own their octets.
 
-pub use dms_commands::OwnedCommand;
+pub use dms_centre_text::OwnedCommand;
 use dms_world::Event;
 
 /// What a line of a script says.

@@ -5,17 +5,17 @@ use Rattle.std.specs.Fmt.{digits}
 use Rattle.std.specs.Result.{result_ok}
 use Rattle.hex.specs.Hex.{encode_with, decode_pairs, decode_of}
 use Rattle.dms_wire.specs.ErrorStatus.{error_status_number}
-use Rattle.dms_ber.specs.Element.{element}
-use Rattle.dms_ber.specs.Integer.{integer_octets}
-use Rattle.dms_ber.specs.ObjectIdentifier.{name_octets}
+use Rattle.dms_wire_ber.specs.Element.{element}
+use Rattle.dms_wire_ber.specs.Integer.{integer_octets}
+use Rattle.dms_wire_ber.specs.ObjectIdentifier.{name_octets}
 use Rattle.dms_wire.specs.Canonical.{binding_octets, numbers_octets, pdu_octets, canonical}
 use Rattle.dms_wire.specs.MessageOf.{message_of}
 use Rattle.dms_wire.specs.declared.message.Kind.{Kind}
 use Rattle.dms_wire.specs.declared.message.Kind.TheVariants.{Set}
 use Rattle.dms_wire.specs.Message.{ObjectValue, integer, octet_string, VarBind}
-use Rattle.dms_objects.specs.declared.column.Column.{Column}
-use Rattle.dms_objects.specs.declared.column.Column.TheVariants.{MultiString, RunTimePriority, Status}
-use Rattle.dms_objects.specs.Names.{object_name, cell_name}
+use Rattle.dms_mib.specs.declared.column.Column.{Column}
+use Rattle.dms_mib.specs.declared.column.Column.TheVariants.{MultiString, RunTimePriority, Status}
+use Rattle.dms_mib.specs.Names.{object_name, cell_name}
 use Rattle.dms_codes.specs.Status.{status_number}
 use Rattle.dms_multi.specs.Outcomes.{outcomes_within}
 use Rattle.dms_multi.specs.TagReading.{item_at, item_after_opening, item_after_closing, tag_at, body_item, name_at, letters_name, end_name, item_of, flash_of, font_of, times_of, page_time_of}
@@ -24,27 +24,27 @@ use Rattle.dms_face.specs.Fit.{fault_of}
 use Rattle.dms_codes.specs.declared.codes.Order.TheVariants.{High}
 use Rattle.dms_codes.specs.Checksum.{octet_bits}
 use Rattle.dms_codes.specs.Codes.{activation_of}
-use Rattle.dms_objects.specs.Names.{name_of}
-use Rattle.dms_instances.specs.Objects.{instances}
+use Rattle.dms_mib.specs.Names.{name_of}
+use Rattle.dms_mib_instances.specs.Objects.{instances}
 use Rattle.dms_table.specs.Activation.{minutes_left}
 use Rattle.dms_sign.specs.Values.{scalar_value, value_at, value_after}
 use Rattle.dms_sign.specs.Values as values
-use Rattle.dms_access.specs.Access.{is_settable_object, object_write, cell_write, write_of}
+use Rattle.dms_sign_access.specs.Access.{is_settable_object, object_write, cell_write, write_of}
 use Rattle.dms_sign.specs.SetRequest.{settable_instance, write_at, causes, assigned}
 use Rattle.dms_sign.specs.Requests.{answer_of_any_size, set}
 use Rattle.dms_sign.specs.Reply.{reply_to}
 use Rattle.dms_sign.specs.Reply as sign
 use Rattle.dms_sign.specs.OwnCodes.{put_up_code}
 use Rattle.dms_sign.specs.Events.{after_settling, after_duration, after_silence, after_tick, after_power_loss, after_power_return}
-use Rattle.dms_requests.specs.Steps.{request_of}
+use Rattle.dms_centre_jobs.specs.Steps.{request_of}
 use Rattle.dms_centre.specs.Sending.{sends}
-use Rattle.dms_requests.specs.Commands.{Publish, Activate}
+use Rattle.dms_centre_jobs.specs.Commands.{Publish, Activate}
 use Rattle.dms_centre.specs.Commands.{commanded}
 use Rattle.dms_centre.specs.Inputs.{received, ticked, restarted}
 use Rattle.dms_world.specs.Event.{EventModel, command, sign_tick, to_sign, to_centre, forge_sign}
 use Rattle.dms_world.specs.World.{WorldModel, world_after}
 use Rattle.dms_replay.specs.Script.{beginning_of}
-use Rattle.dms_description.proofs.BenchValue.{bench_sign}
+use Rattle.dms_sign_text.proofs.BenchValue.{bench_sign}
 use Rattle.dms_replay.specs.Report.{report_of}
 
 abbrev pub bench : WorldModel

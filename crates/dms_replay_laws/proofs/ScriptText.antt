@@ -6,13 +6,13 @@ use Rattle.dms_text.specs.Reading.{number_of}
 use Rattle.dms_text.proofs.NumberLaws.{number_found}
 use Rattle.dms_codes.specs.declared.codes.Order.TheVariants.{High}
 use Rattle.dms_world.specs.Event.{EventModel, sign_tick, centre_tick, to_sign, to_centre}
-use Rattle.dms_forms.specs.Fields.{SpellsFourOctets}
-use Rattle.dms_commands.specs.CommandFields.{SpellsAddressPart}
+use Rattle.dms_text_forms.specs.Fields.{SpellsFourOctets}
+use Rattle.dms_centre_text.specs.CommandFields.{SpellsAddressPart}
 use Rattle.dms_replay.specs.EventLine.{SpellsEvent}
 use Rattle.dms_replay.specs.Script.{SpellsScript, the_bench}
 use Rattle.dms_replay_laws.proofs.BenchWorld.{publish}
-use Rattle.dms_description.proofs.BenchValue.{bench_sign}
-use Rattle.dms_description.proofs.BenchText.{spells_octet, spells_decimal, spells_the_bench_sign}
+use Rattle.dms_sign_text.proofs.BenchValue.{bench_sign}
+use Rattle.dms_sign_text.proofs.BenchText.{spells_octet, spells_decimal, spells_the_bench_sign}
 
 -- comments and empty lines say nothing, a carriage return before a newline is no part of its line, and the last newline may be missing
 script : List ℕ

@@ -4,7 +4,7 @@ use Rattle.std.specs.Prelude.{pos, codes}
 use Rattle.dms_wire.specs.declared.message.Kind.TheVariants.{Get, GetNext, Response}
 use Rattle.dms_wire.specs.Message.{octet_string, null}
 use Rattle.dms_wire.specs.Canonical.{canonical}
-use Rattle.dms_objects.specs.Names.{object_name}
+use Rattle.dms_mib.specs.Names.{object_name}
 use Rattle.dms_world.specs.Event.{EventModel, power_lost, power_back, forge_sign}
 use Rattle.dms_replay_laws.proofs.BenchWorld.{bench, after, report, hex, seconds, request, set_number, set_code, sets, Seen, seen}
 

@@ -4,8 +4,8 @@ use Rattle.std.specs.Prelude.{pos, codes, replicate}
 use Rattle.dms_wire.specs.declared.message.Kind.TheVariants.{Get, Response, Set}
 use Rattle.dms_wire.specs.Message.{integer, octet_string, null, VarBind}
 use Rattle.dms_wire.specs.Canonical.{canonical}
-use Rattle.dms_objects.specs.declared.column.Column.TheVariants.{MultiString, Status}
-use Rattle.dms_objects.specs.Names.{cell_name}
+use Rattle.dms_mib.specs.declared.column.Column.TheVariants.{MultiString, Status}
+use Rattle.dms_mib.specs.Names.{cell_name}
 use Rattle.dms_world.specs.Event.{EventModel, sign_tick, power_lost, power_back}
 use Rattle.dms_replay_laws.proofs.BenchWorld.{bench, after, hex, seconds, request, set_number, set_code, set_cell, sets, Seen, seen, status_and_index, errors, statuses, fills, puts_up}
 

@@ -12,9 +12,9 @@ use Rattle.dms_centre.specs.State.{Entry}
 use Rattle.dms_wire.specs.declared.message.Kind.TheVariants.{Set}
 use Rattle.dms_wire.specs.Message.{octet_string, SnmpMessage}
 use Rattle.dms_wire.specs.Canonical.{canonical}
-use Rattle.dms_objects.specs.Names.{activate_message}
+use Rattle.dms_mib.specs.Names.{activate_message}
 use Rattle.dms_table.specs.Rows.{RowModel}
-use Rattle.dms_requests.specs.Commands.{CommandModel, Publish}
+use Rattle.dms_centre_jobs.specs.Commands.{CommandModel, Publish}
 use Rattle.dms_world.specs.Event.{EventModel, sign_tick, centre_tick, to_sign, to_centre}
 use Rattle.dms_world.specs.World.{world_at, world_after}
 use Rattle.dms_world.specs.Backed.{WasPutUp, WasHeld}

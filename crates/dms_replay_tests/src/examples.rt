@@ -1,7 +1,7 @@
 //! The example of the first page of dms_replay.
 
 use dms_replay::replaying::replay;
-use dms_streams::Gathered;
+use dms_text_streams::Gathered;
 use std::test::Fail;
 
 #[test]

@@ -1,9 +1,9 @@
 //! Scripts and descriptions where memory is refused once, as `rt try --test --fail-alloc N` refuses it.
 
-use dms_description::{BENCH, Setup};
 use dms_replay::fault::ReplayFault;
 use dms_replay::replaying::{bench, described, replay};
-use dms_streams::{Gathered, Sink};
+use dms_sign_text::{BENCH, Setup};
+use dms_text_streams::{Gathered, Sink};
 use std::alloc::Global;
 
 const SCRIPT: &str = "bench

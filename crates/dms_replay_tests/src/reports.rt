@@ -2,10 +2,10 @@
 
 mod cases;
 
-use dms_description::BENCH;
 use dms_replay::fault::ReplayFault;
 use dms_replay::replaying::replay;
-use dms_streams::Gathered;
+use dms_sign_text::BENCH;
+use dms_text_streams::Gathered;
 use std::alloc::{AllocError, Global};
 use std::test::Fail;
 

@@ -1,14 +1,14 @@
 //! The lines of events by their values, and where scripts are at fault.
 
+use dms_centre_text::OwnedCommand;
 use dms_codes::{Activation, MessageId, Order};
-use dms_commands::OwnedCommand;
-use dms_description::write_fault;
 use dms_replay::event_line::event;
 use dms_replay::fault::ReplayFault;
 use dms_replay::fields::address;
 use dms_replay::replaying::{bench, replay};
 use dms_replay::script_event::ScriptEvent;
-use dms_streams::Gathered;
+use dms_sign_text::write_fault;
+use dms_text_streams::Gathered;
 use std::alloc::{AllocError, Global};
 use std::process::Abort;
 use std::test::Fail;

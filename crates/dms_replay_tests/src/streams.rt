@@ -1,9 +1,9 @@
 //! Readers that fail, end late or never, and writers that fail, each a few octets a call.
 
-use dms_description::BENCH;
 use dms_replay::fault::ReplayFault;
 use dms_replay::replaying::{LONGEST_INPUT, described, replay};
-use dms_streams::{Failed, Sink, Source};
+use dms_sign_text::BENCH;
+use dms_text_streams::{Failed, Sink, Source};
 use std::alloc::Global;
 use std::test::Fail;
 

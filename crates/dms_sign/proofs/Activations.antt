@@ -8,9 +8,9 @@ use Rattle.dms_codes.specs.Codes.{activation_of}
 use Rattle.dms_table.specs.declared.activation.Cause.{Cause}
 use Rattle.dms_table.specs.Activation.{ShownModel, shown_by, refusal, unless_refused}
 use Rattle.dms_table.proofs.Decisions.{refused_decision}
-use Rattle.dms_access.specs.declared.settings.Settings.{Settings}
-use Rattle.dms_access.specs.Access.{Activate}
-use Rattle.dms_access.specs.Reports.{IsCauseInRange}
+use Rattle.dms_sign_access.specs.declared.settings.Settings.{Settings}
+use Rattle.dms_sign_access.specs.Access.{Activate}
+use Rattle.dms_sign_access.specs.Reports.{IsCauseInRange}
 use Rattle.dms_sign.specs.State.{SignState}
 use Rattle.dms_sign.specs.SetRequest.{assigned}
 use Rattle.dms_sign.specs.Requests.{writes_of, commanded, as_decided}

@@ -14,26 +14,26 @@ use Rattle.dms_codes.specs.declared.codes.Activation.{Activation}
 use Rattle.dms_codes.specs.declared.row_id.RowId.{RowId}
 use Rattle.dms_codes.specs.declared.status.Ask.{Ask}
 use Rattle.dms_codes.specs.Codes.{octets_of_id, activation_of}
-use Rattle.dms_objects.specs.declared.instance.Instance.{Instance}
-use Rattle.dms_instances.specs.Objects.{instance_named}
+use Rattle.dms_mib.specs.declared.instance.Instance.{Instance}
+use Rattle.dms_mib_instances.specs.Objects.{instance_named}
 use Rattle.dms_table.specs.declared.row.Refused.{Refused}
 use Rattle.dms_table.specs.declared.activation.Cause.{Cause}
 use Rattle.dms_table.specs.Rows.{TableModel, asked}
 use Rattle.dms_table.specs.Activation.{ShownModel, shown_by, refusal, unless_refused, decided}
-use Rattle.dms_access.specs.declared.settings.Settings.{Settings}
-use Rattle.dms_access.specs.declared.reports.Reports.{Reports}
+use Rattle.dms_sign_access.specs.declared.settings.Settings.{Settings}
+use Rattle.dms_sign_access.specs.declared.reports.Reports.{Reports}
 use Rattle.dms_sign.specs.declared.sign.Sign.TheInside.{Inside}
 use Rattle.dms_sign.specs.Communities.{are_communities}
 use Rattle.dms_sign.specs.State.{ConfigModel, SignState}
-use Rattle.dms_access.specs.Access.{Write, AskRow, Activate, is_command, is_settable, write_of}
+use Rattle.dms_sign_access.specs.Access.{Write, AskRow, Activate, is_command, is_settable, write_of}
 use Rattle.dms_sign.specs.SetRequest.{with_writes, assigned, SetCause, causes, if_settable, settable_instance, write_at}
 use Rattle.dms_sign.specs.Requests.{as_decided, as_asked, commanded, commanded_if, command_index, writes_of, set, set_unless}
-use Rattle.dms_access.specs.Reports.{IsCauseInRange}
+use Rattle.dms_sign_access.specs.Reports.{IsCauseInRange}
 use Rattle.dms_sign.specs.InRange.{AreOctets, IsTableInRange, IsShownInRange, IsSignInRange}
 use Rattle.dms_sign.specs.Transitions.{HasFitDefaults}
 use Rattle.dms_sign.specs.Kept.{IsKept}
 use Rattle.dms_sign.specs.SignView.{state_of, IsWhole}
-use Rattle.dms_access.specs.Settings.{set_by}
+use Rattle.dms_sign_access.specs.Settings.{set_by}
 use Rattle.dms_sign.specs.SetView.{AreSettings}
 use Rattle.dms_sign.specs.SetView.{IsCommandInRange}
 use Rattle.dms_table.proofs.Decisions.{accepted_decision, accepted_elsewhere}

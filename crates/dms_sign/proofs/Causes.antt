@@ -7,17 +7,17 @@ use Rattle.std.proofs.lemmas.List.{append_assoc, append-nil, length-append}
 use Rattle.std.proofs.lemmas.Bool.{or_parts}
 use Rattle.dms_wire.specs.Message.{VarBind}
 use Rattle.dms_wire.specs.declared.error_status.ErrorStatus.{ErrorStatus}
-use Rattle.dms_access.specs.declared.settings.Fallbacks.{Fallbacks}
-use Rattle.dms_access.specs.declared.settings.Settings.{Settings}
+use Rattle.dms_sign_access.specs.declared.settings.Fallbacks.{Fallbacks}
+use Rattle.dms_sign_access.specs.declared.settings.Settings.{Settings}
 use Rattle.dms_table.specs.Rows.{TableModel}
 use Rattle.dms_sign.specs.State.{SignState}
-use Rattle.dms_access.specs.Access.{Write, is_command}
-use Rattle.dms_access.specs.Assignment.{given}
+use Rattle.dms_sign_access.specs.Access.{Write, is_command}
+use Rattle.dms_sign_access.specs.Assignment.{given}
 use Rattle.dms_sign.specs.SetRequest.{SetCause, write_at, is_command_at, causes_at, causes_after, causes, with_write, with_writes}
 use Rattle.dms_sign.specs.SetView.{is_field, StaysWithout}
 use Rattle.dms_sign.specs.Requests.{writes_of, command_index}
-use Rattle.dms_access.proofs.TakenSlots.{any_push}
-use Rattle.dms_access.specs.Settings.{codes_by, set_by}
+use Rattle.dms_sign_access.proofs.TakenSlots.{any_push}
+use Rattle.dms_sign_access.specs.Settings.{codes_by, set_by}
 
 -- ---- lists with one element more
 

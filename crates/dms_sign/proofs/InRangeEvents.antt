@@ -12,10 +12,10 @@ use Rattle.dms_table.specs.declared.validation.Verdict.{Verdict}
 use Rattle.dms_table.specs.Rows.{RowModel, TableModel, row_is_validating, interrupted, released, unused, after_power}
 use Rattle.dms_codes.specs.Limits.{longest_text}
 use Rattle.dms_table.specs.Validation.{text_verdict, verdict_of, settled_row, settled, settling_row, verdict}
-use Rattle.dms_access.specs.declared.reports.Reports.{Reports}
+use Rattle.dms_sign_access.specs.declared.reports.Reports.{Reports}
 use Rattle.dms_sign.specs.State.{SignState, power_recovery_mode, communications_loss_mode}
 use Rattle.dms_sign.specs.OwnCodes.{put_up_code}
-use Rattle.dms_access.specs.Reports.{settled_reports}
+use Rattle.dms_sign_access.specs.Reports.{settled_reports}
 use Rattle.dms_sign.specs.Events.{after_settling, counted_down, after_duration, longest_silence, quieter, after_silence, after_tick, after_power_loss, recovery_code, restored, after_power_return}
 use Rattle.dms_sign.specs.InRange.{AreOctets, most_minutes, IsRowInRange, IsTableInRange, IsTimeInRange, AreReportsInRange, IsSignInRange}
 use Rattle.dms_sign.proofs.InRangeLists.{either, all_mapped}

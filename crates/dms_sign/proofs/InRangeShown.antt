@@ -23,12 +23,12 @@ use Rattle.dms_table.specs.Activation.{ShownModel, is_memory, named, text_error,
 use Rattle.dms_codes.specs.declared.mode.Mode.{Mode}
 use Rattle.dms_codes.specs.Mode.{mode_number}
 use Rattle.dms_table.specs.Activation.{blank_shown}
-use Rattle.dms_access.specs.declared.reports.Reports.{Reports}
+use Rattle.dms_sign_access.specs.declared.reports.Reports.{Reports}
 use Rattle.dms_sign.specs.State.{SignState}
-use Rattle.dms_access.specs.Reports.{with_cause, refused_reports}
+use Rattle.dms_sign_access.specs.Reports.{with_cause, refused_reports}
 use Rattle.dms_sign.specs.OwnCodes.{showing, own_activation, put_up_as_decided, staying, put_up_code}
-use Rattle.dms_access.specs.Reports.{IsCauseInRange}
-use Rattle.dms_access.specs.Ranges.{AreDefaultsInRange}
+use Rattle.dms_sign_access.specs.Reports.{IsCauseInRange}
+use Rattle.dms_sign_access.specs.Ranges.{AreDefaultsInRange}
 use Rattle.dms_sign.specs.InRange.{AreOctets, IsTableInRange, IsTimeInRange, IsShownInRange, AreReportsInRange, IsSignInRange}
 use Rattle.dms_sign.proofs.InRangeLists.{either, if_mapped}
 use Rattle.dms_sign.proofs.InRangeValues.{IsReadingInRange, in_order_small, message_in_range}

@@ -14,7 +14,7 @@ use Rattle.dms_codes.specs.Limits.{longest_text, longest_owner}
 use Rattle.dms_table.specs.Stock.{permanent_row, has_ranges, are_counts, stock_fault, table_of}
 use Rattle.dms_table.proofs.Stands.{all_ranges}
 use Rattle.dms_sign.specs.State.{ConfigModel, start}
-use Rattle.dms_access.specs.Ranges.{AreDefaultsInRange}
+use Rattle.dms_sign_access.specs.Ranges.{AreDefaultsInRange}
 use Rattle.dms_sign.specs.InRange.{IsConfigInRange, IsRowInRange, IsTableInRange, IsSignInRange, IsStocked, IsMadeOfOctets}
 use Rattle.dms_sign.proofs.InRangeLists.{all_mapped}
 use Rattle.dms_sign.proofs.InRangeEvents.{unused_in_range}

@@ -6,32 +6,32 @@ use Rattle.std.specs.List.{AllByRecursion, range_with_len}
 use Rattle.std.specs.Int.Digits.{AllBelowBase}
 use Rattle.std.proofs.Math.Nat.{pow-suc}
 use Rattle.std.proofs.lemmas.List.Sums.{count_by-le-length}
-use Rattle.dms_ber.specs.ObjectIdentifier.{IsNameInLimits}
+use Rattle.dms_wire_ber.specs.ObjectIdentifier.{IsNameInLimits}
 use Rattle.dms_wire.specs.Limits.{IsValueInLimits}
 use Rattle.dms_codes.specs.declared.codes.Order.{Order}
 use Rattle.dms_codes.specs.declared.codes.MessageId.{MessageId}
-use Rattle.dms_objects.specs.declared.column.Column.{Column}
+use Rattle.dms_mib.specs.declared.column.Column.{Column}
 use Rattle.dms_codes.specs.declared.row_id.RowId.{RowId}
 use Rattle.dms_codes.specs.Checksum.{number, checksum, remainder, sixteen_zeros}
 use Rattle.dms_codes.specs.Codes.{octets_of_id, in_order, IsMessageId}
-use Rattle.dms_objects.specs.Names.{below_dms, object_name, cell_name, column_number}
+use Rattle.dms_mib.specs.Names.{below_dms, object_name, cell_name, column_number}
 use Rattle.dms_table.specs.Rows.{RowModel, TableModel, RowReading, reading, blank_reading, blank, blank_at, numbered, rows_by, rows_of, row_read, row_checksum}
 use Rattle.dms_codes.specs.Limits.{longest_text}
 use Rattle.dms_codes.specs.declared.memory.Memory.{Memory}
 use Rattle.dms_codes.specs.Memory.{blank_memory, memory_number, memory_of}
 use Rattle.dms_table.specs.Activation.{ShownModel, shown_row, shown_reading, message_at}
 use Rattle.dms_codes.proofs.Division.{length-divided}
-use Rattle.dms_objects.specs.declared.scalar.Scalar.{Scalar}
-use Rattle.dms_objects.specs.declared.instance.Instance.{Instance}
-use Rattle.dms_objects.specs.declared.instance.Instance.TheVariants as kinds
-use Rattle.dms_objects.specs.Names.{scalar_number, name_of}
-use Rattle.dms_objects.specs.declared.objects.Instances.{Instances}
-use Rattle.dms_objects.specs.declared.objects.Instances.TheVariants.{One, EachRow}
-use Rattle.dms_objects.specs.Objects.{every_object}
-use Rattle.dms_instances.specs.Objects.{numbers_to, every_memory, count_in, rows_in, row_ids, instances_of, instances, instance_named, next_instance, IsInstance}
+use Rattle.dms_mib.specs.declared.scalar.Scalar.{Scalar}
+use Rattle.dms_mib.specs.declared.instance.Instance.{Instance}
+use Rattle.dms_mib.specs.declared.instance.Instance.TheVariants as kinds
+use Rattle.dms_mib.specs.Names.{scalar_number, name_of}
+use Rattle.dms_mib.specs.declared.objects.Instances.{Instances}
+use Rattle.dms_mib.specs.declared.objects.Instances.TheVariants.{One, EachRow}
+use Rattle.dms_mib.specs.Objects.{every_object}
+use Rattle.dms_mib_instances.specs.Objects.{numbers_to, every_memory, count_in, rows_in, row_ids, instances_of, instances, instance_named, next_instance, IsInstance}
 use Rattle.dms_face.proofs.Lists.{if_either, if_found}
 use Rattle.dms_sign.specs.State.{SignState}
-use Rattle.dms_access.specs.Cells.{number_value, cell_value}
+use Rattle.dms_sign_access.specs.Cells.{number_value, cell_value}
 use Rattle.dms_table.specs.Activation.{minutes_left}
 use Rattle.dms_sign.specs.Values.{scalar_value, value_at, value_of, bound, binding_at, value_after}
 use Rattle.dms_sign.specs.InRange.{IsRowInRange, IsTableInRange, IsTimeInRange, IsShownInRange, IsSignInRange, IsBindingInLimits}

@@ -3,7 +3,7 @@ use Rattle.std.proofs.Common.{◌≡◌, ℕ, ◌&&◌, Bool, true, cond, Some, 
 use Rattle.std.specs.Prelude.{pos, negsuc, nat_le}
 use Rattle.std.specs.Option.{IfSome}
 use Rattle.dms_wire.specs.Message.{ObjectValue, integer, octet_string, null, object_identifier, ip_address, counter, gauge, time_ticks, opaque}
-use Rattle.dms_access.specs.Access.{number_in}
+use Rattle.dms_sign_access.specs.Access.{number_in}
 
 pub passes_if : (test : ℕ → Bool) (n : ℕ) (b : Bool) → test n ≡ b → IfSome (cond b (Some n) None) (λ n. test n ≡ true)
 passes_if test n b e = grind arith

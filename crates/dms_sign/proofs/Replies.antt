@@ -22,9 +22,9 @@ use Rattle.dms_codes.specs.Codes.{activation_of}
 use Rattle.dms_table.specs.Activation.{ShownModel, decided}
 use Rattle.dms_face.proofs.Lists.{all_append}
 use Rattle.dms_sign.specs.State.{SignState}
-use Rattle.dms_access.specs.Access.{Write, SetNumber, SetCode, SetField, AskRow, Activate, SetRemaining, is_command}
+use Rattle.dms_sign_access.specs.Access.{Write, SetNumber, SetCode, SetField, AskRow, Activate, SetRemaining, is_command}
 use Rattle.dms_sign.specs.SetRequest.{SetCause, is_command_at, cause_if, causes_at, causes_after, causes, assigned}
-use Rattle.dms_ber.specs.Limits.{longest_datagram}
+use Rattle.dms_wire_ber.specs.Limits.{longest_datagram}
 use Rattle.dms_sign.specs.Reply.{too_big}
 use Rattle.dms_sign.specs.Requests.{Answer, refused, granted, as_decided, as_asked, commanded, commanded_if, with_remaining, command_index, writes_of, set_unless, answer_by, answer_of_any_size}
 use Rattle.dms_sign.specs.Reply.{response_of, reply_to, is_heard, heard, dropped, on_message_if, received}

@@ -5,7 +5,7 @@ use Rattle.dms_face.specs.Layout.{under}
 use Rattle.dms_table.specs.Rows.{is_settling}
 use Rattle.dms_table.specs.Validation.{settled, verdict}
 use Rattle.dms_table.proofs.Settlement.{nothing_settled, no_verdict}
-use Rattle.dms_access.specs.Reports.{settled_reports}
+use Rattle.dms_sign_access.specs.Reports.{settled_reports}
 use Rattle.dms_sign.specs.State.{SignState}
 use Rattle.dms_sign.specs.Events.{after_settling, after_duration, after_silence, longest_silence, after_tick, after_ticks, is_at_rest}
 

@@ -10,7 +10,7 @@ use Rattle.dms_wire.proofs.FewBindings.{few_bindings}
 use Rattle.dms_wire.specs.declared.error_status.ErrorStatus.{ErrorStatus}
 use Rattle.dms_wire.specs.ErrorStatus.{error_status_number}
 use Rattle.dms_sign.specs.Requests.{Answer}
-use Rattle.dms_ber.specs.Limits.{longest_datagram}
+use Rattle.dms_wire_ber.specs.Limits.{longest_datagram}
 use Rattle.dms_sign.specs.Reply.{too_big, reply_to}
 use Rattle.dms_sign.specs.ReplyView.{reply_with, IsRead}
 

@@ -11,21 +11,21 @@ use Rattle.dms_face.specs.declared.defaults.Defaults.{Defaults}
 use Rattle.dms_face.specs.Face.{FaceModel, has_font, is_within, fit}
 use Rattle.dms_face.proofs.Lists.{if_or}
 use Rattle.dms_table.specs.declared.activation.Cause.{Cause}
-use Rattle.dms_objects.specs.declared.column.Column.{Column}
-use Rattle.dms_objects.specs.declared.column.Column.TheVariants as columns
+use Rattle.dms_mib.specs.declared.column.Column.{Column}
+use Rattle.dms_mib.specs.declared.column.Column.TheVariants as columns
 use Rattle.dms_codes.specs.declared.row_id.RowId.{RowId}
 use Rattle.dms_table.specs.Rows.{TableModel, Text, Owner, Beacon, Pixel, Priority}
 use Rattle.dms_codes.specs.Limits.{longest_text, longest_owner}
 use Rattle.dms_table.specs.Activation.{ShownModel}
-use Rattle.dms_objects.specs.declared.scalar.Scalar.{Scalar}
-use Rattle.dms_objects.specs.declared.scalar.Scalar.TheVariants.{DefaultBackgroundColor, DefaultForegroundColor, DefaultFlashOn, DefaultFlashOff, DefaultFont, DefaultJustificationLine, DefaultJustificationPage, DefaultPageOnTime, DefaultPageOffTime, ActivateMessage, MessageTimeRemaining, ShortPowerRecoveryMessage, LongPowerRecoveryMessage, ShortPowerLossTime, CommunicationsLossMessage, TimeCommLoss, PowerLossMessage, EndDurationMessage}
-use Rattle.dms_objects.specs.declared.instance.Instance.{Instance}
-use Rattle.dms_objects.specs.declared.instance.Instance.TheVariants as kinds
-use Rattle.dms_objects.specs.Names.{scalar_number}
+use Rattle.dms_mib.specs.declared.scalar.Scalar.{Scalar}
+use Rattle.dms_mib.specs.declared.scalar.Scalar.TheVariants.{DefaultBackgroundColor, DefaultForegroundColor, DefaultFlashOn, DefaultFlashOff, DefaultFont, DefaultJustificationLine, DefaultJustificationPage, DefaultPageOnTime, DefaultPageOffTime, ActivateMessage, MessageTimeRemaining, ShortPowerRecoveryMessage, LongPowerRecoveryMessage, ShortPowerLossTime, CommunicationsLossMessage, TimeCommLoss, PowerLossMessage, EndDurationMessage}
+use Rattle.dms_mib.specs.declared.instance.Instance.{Instance}
+use Rattle.dms_mib.specs.declared.instance.Instance.TheVariants as kinds
+use Rattle.dms_mib.specs.Names.{scalar_number}
 use Rattle.dms_sign.specs.State.{SignState}
 use Rattle.dms_sign.specs.OwnCodes.{put_up_code}
-use Rattle.dms_access.specs.Access.{Write, SetNumber, SetCode, SetField, AskRow, Activate, SetRemaining, number_in, octets_in, font_in, ask_of, object_write, cell_write, write_of}
-use Rattle.dms_access.specs.Assignment.{given, number_for}
+use Rattle.dms_sign_access.specs.Access.{Write, SetNumber, SetCode, SetField, AskRow, Activate, SetRemaining, number_in, octets_in, font_in, ask_of, object_write, cell_write, write_of}
+use Rattle.dms_sign_access.specs.Assignment.{given, number_for}
 use Rattle.dms_sign.specs.SetRequest.{SetCause, settable_instance, write_at, assigned}
 use Rattle.dms_sign.specs.Requests.{found_unless, as_decided, as_asked, with_remaining, commanded, commanded_if, writes_of, set_unless, answer_by, answer_of_any_size}
 use Rattle.dms_sign.specs.Reply.{heard, dropped, on_message_if, received}

@@ -18,7 +18,7 @@ use Rattle.dms_codes.specs.Memory.{memory_of, blank_memory}
 use Rattle.dms_table.specs.Validation.{text_verdict, verdict_of, passes, settled, CameToBeValid, ValidRowsAreGood}
 use Rattle.dms_table.proofs.GoodRows.{settled_rows_are_good}
 use Rattle.dms_table.proofs.Memories.{no_blank_rows}
-use Rattle.dms_access.specs.Access.{Write}
+use Rattle.dms_sign_access.specs.Access.{Write}
 use Rattle.dms_sign.specs.SetRequest.{with_write, with_writes}
 use Rattle.dms_sign.specs.Transitions.{TableStep}
 

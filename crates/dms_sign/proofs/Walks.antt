@@ -4,8 +4,8 @@ use Rattle.std.specs.Prelude.{is_none, unwrap_or}
 use Rattle.std.specs.List.{position_from}
 use Rattle.std.proofs.lemmas.List.{append_assoc}
 use Rattle.dms_wire.specs.Message.{ObjectValue, VarBind}
-use Rattle.dms_objects.specs.declared.instance.Instance.{Instance}
-use Rattle.dms_objects.specs.Names.{name_of}
+use Rattle.dms_mib.specs.declared.instance.Instance.{Instance}
+use Rattle.dms_mib.specs.Names.{name_of}
 use Rattle.dms_sign.specs.State.{SignState}
 use Rattle.dms_sign.specs.Values.{value_of, value_after, bound}
 use Rattle.dms_sign.specs.Requests.{has_no_value, with_value, is_last, next_after}

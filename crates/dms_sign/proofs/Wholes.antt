@@ -21,20 +21,20 @@ use Rattle.dms_table.specs.PlaceView.{of_type, IsOnly, IsPlaced}
 use Rattle.dms_table.proofs.Places.{only_of_type}
 use Rattle.dms_table.specs.Validation.{settled, verdict}
 use Rattle.dms_table.specs.Activation.{ShownModel, shown_by, refusal, unless_refused, decided}
-use Rattle.dms_access.specs.declared.reports.Reports.{Reports}
+use Rattle.dms_sign_access.specs.declared.reports.Reports.{Reports}
 use Rattle.dms_sign.specs.declared.sign.Sign.TheInside.{Inside}
 use Rattle.dms_sign.specs.Communities.{are_communities}
 use Rattle.dms_table.specs.Activation.{blank_id, blank_shown}
 use Rattle.dms_table.specs.Activation.{blank_octets}
 use Rattle.dms_sign.specs.State.{ConfigModel, SignState, start, power_recovery_mode}
 use Rattle.dms_sign.specs.Kept.{IsKept}
-use Rattle.dms_access.specs.declared.settings.Settings.{Settings}
-use Rattle.dms_access.specs.Settings.{first_settings}
-use Rattle.dms_access.specs.Reports.{first_reports}
+use Rattle.dms_sign_access.specs.declared.settings.Settings.{Settings}
+use Rattle.dms_sign_access.specs.Settings.{first_settings}
+use Rattle.dms_sign_access.specs.Reports.{first_reports}
 use Rattle.dms_sign.specs.OwnCodes.{showing, with_refused_code, own_activation, put_up_as_decided, put_up_code}
-use Rattle.dms_access.specs.Reports.{settled_reports}
-use Rattle.dms_access.specs.Reports.{IsCauseInRange}
-use Rattle.dms_access.specs.Ranges.{AreDefaultsInRange}
+use Rattle.dms_sign_access.specs.Reports.{settled_reports}
+use Rattle.dms_sign_access.specs.Reports.{IsCauseInRange}
+use Rattle.dms_sign_access.specs.Ranges.{AreDefaultsInRange}
 use Rattle.dms_sign.specs.InRange.{IsStocked, IsTableInRange, IsShownInRange, IsSignInRange}
 use Rattle.dms_sign.specs.declared.known_texts.KnownTexts.{KnownTexts}
 use Rattle.dms_sign.specs.KnownTexts.{first_entry, HasRoom, noted, AreKnown}

@@ -20,7 +20,7 @@ use Rattle.dms_codes.specs.Memory.{memory_of}
 use Rattle.dms_table.specs.Rows.{RowModel, TableModel, FieldModel, Text, Owner, Beacon, Pixel, Priority, RowReading, reading, rows_by, numbered, changed_in, with_changeable, with_volatile, changed_by, with_status, asked_row, asked, row_is_validating, with_field, written_row, written}
 use Rattle.dms_codes.proofs.Options.{is_some_mapped}
 use Rattle.dms_table.specs.Activation.{ShownModel, put_up_row, row_refusal, unless_refused, decided}
-use Rattle.dms_access.specs.Access.{Write, SetNumber, SetCode, SetField, AskRow, Activate, SetRemaining}
+use Rattle.dms_sign_access.specs.Access.{Write, SetNumber, SetCode, SetField, AskRow, Activate, SetRemaining}
 use Rattle.dms_sign.specs.SetRequest.{with_write, with_writes}
 use Rattle.dms_sign.proofs.InRangeLists.{if_mapped}
 

@@ -6,7 +6,7 @@ use Rattle.dms_table.specs.Rows.{after_power, is_settling}
 use Rattle.dms_table.specs.Validation.{settled, verdict}
 use Rattle.dms_sign.specs.State.{SignState, power_recovery_mode, communications_loss_mode}
 use Rattle.dms_sign.specs.State.{power_loss_mode, end_duration_mode}
-use Rattle.dms_access.specs.Reports.{settled_reports}
+use Rattle.dms_sign_access.specs.Reports.{settled_reports}
 use Rattle.dms_sign.specs.OwnCodes.{showing, put_up_code}
 
 -- ---- a second

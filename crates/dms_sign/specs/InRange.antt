@@ -6,8 +6,8 @@ use Rattle.std.specs.List.{AllByRecursion}
 use Rattle.std.specs.Int.Digits.{AllBelowBase}
 use Rattle.dms_wire.specs.declared.message.Kind.TheVariants.{Response}
 use Rattle.dms_wire.specs.Message.{VarBind, SnmpMessage}
-use Rattle.dms_ber.specs.Limits.{longest_datagram}
-use Rattle.dms_ber.specs.ObjectIdentifier.{IsNameInLimits}
+use Rattle.dms_wire_ber.specs.Limits.{longest_datagram}
+use Rattle.dms_wire_ber.specs.ObjectIdentifier.{IsNameInLimits}
 use Rattle.dms_wire.specs.Limits.{IsValueInLimits}
 use Rattle.dms_wire.specs.MessageOf.{message_of}
 use Rattle.dms_codes.specs.Codes.{IsMessageId}
@@ -16,9 +16,9 @@ use Rattle.dms_codes.specs.Limits.{longest_text, longest_owner, widest_matrix, h
 use Rattle.dms_codes.specs.Limits.{most_permanent_rows, most_changeable_rows, most_volatile_rows}
 use Rattle.dms_table.specs.Stock.{has_ranges}
 use Rattle.dms_table.specs.Activation.{ShownModel, shown_row}
-use Rattle.dms_access.specs.declared.reports.Reports.{Reports}
-use Rattle.dms_access.specs.declared.settings.Fallbacks.{Fallbacks}
-use Rattle.dms_access.specs.Ranges.{AreDefaultsInRange}
+use Rattle.dms_sign_access.specs.declared.reports.Reports.{Reports}
+use Rattle.dms_sign_access.specs.declared.settings.Fallbacks.{Fallbacks}
+use Rattle.dms_sign_access.specs.Ranges.{AreDefaultsInRange}
 use Rattle.dms_sign.specs.State.{ConfigModel, SignState}
 use Rattle.dms_sign.specs.Requests.{answer_of_any_size}
 use Rattle.dms_sign.specs.Reply.{response_sent}

@@ -7,7 +7,7 @@ use Rattle.dms_table.specs.declared.activation.Cause.{Cause}
 use Rattle.dms_codes.specs.Memory.{current_buffer}
 use Rattle.dms_codes.specs.Codes.{id_of, octets_of_activation}
 use Rattle.dms_table.specs.Activation.{ShownModel, blank_shown, decided, no_address}
-use Rattle.dms_access.specs.Reports.{refused_reports}
+use Rattle.dms_sign_access.specs.Reports.{refused_reports}
 use Rattle.dms_sign.specs.State.{SignState}
 
 abbrev pub showing : SignState → ShownModel → SignState

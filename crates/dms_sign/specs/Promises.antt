@@ -7,7 +7,7 @@ use Rattle.dms_wire.specs.Message.{octet_string, VarBind, SnmpMessage}
 use Rattle.dms_wire.specs.MessageOf.{message_of}
 use Rattle.dms_wire.specs.Canonical.{canonical}
 use Rattle.dms_codes.specs.declared.codes.Activation.{Activation}
-use Rattle.dms_objects.specs.Names.{activate_message}
+use Rattle.dms_mib.specs.Names.{activate_message}
 use Rattle.dms_codes.specs.Codes.{activation_of}
 use Rattle.dms_sign.specs.State.{SignState}
 use Rattle.dms_sign.specs.Reply.{is_request}

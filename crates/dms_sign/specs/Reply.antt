@@ -11,7 +11,7 @@ use Rattle.dms_wire.specs.Response.{response_to}
 use Rattle.dms_codes.specs.declared.codes.Activation.{Activation}
 use Rattle.dms_sign.specs.State.{SignState}
 use Rattle.dms_sign.specs.Requests.{Answer, is_community, answer_of_any_size}
-use Rattle.dms_ber.specs.Limits.{longest_datagram}
+use Rattle.dms_wire_ber.specs.Limits.{longest_datagram}
 
 -- ---- replies
 

@@ -14,11 +14,12 @@ use Rattle.dms_table.specs.declared.activation.Cause.{Cause}
 use Rattle.dms_table.specs.Rows.{TableModel, asked}
 use Rattle.dms_codes.specs.Codes.{activation_of}
 use Rattle.dms_table.specs.Activation.{ShownModel, decided, seconds_of}
-use Rattle.dms_access.specs.Reports.{accepted_reports}
+use Rattle.dms_sign_access.specs.Reports.{accepted_reports}
 use Rattle.dms_sign.specs.State.{SignState, end_duration_mode}
 use Rattle.dms_sign.specs.Values.{value_of, value_after}
 use Rattle.dms_sign.specs.OwnCodes.{showing, with_refused_code, put_up_code}
-use Rattle.dms_access.specs.Access.{Write, SetNumber, SetCode, SetField, AskRow, Activate, SetRemaining, is_command}
+use Rattle.dms_sign_access.specs.Access.{Write, SetNumber, SetCode, SetField, AskRow, Activate, SetRemaining}
+use Rattle.dms_sign_access.specs.Access.{is_command}
 use Rattle.dms_sign.specs.SetRequest.{SetCause, is_command_at, write_at, causes, assigned}
 
 -- what is answered: status, index and bindings; the state after it; and the activation that was accepted

@@ -8,14 +8,14 @@ use Rattle.dms_wire.specs.declared.error_status.ErrorStatus.TheVariants.{NoSuchN
 use Rattle.dms_wire.specs.Message.{VarBind}
 use Rattle.dms_codes.specs.Status.{is_modifying}
 use Rattle.dms_table.specs.Rows.{TableModel, RowReading, row_read, written}
-use Rattle.dms_objects.specs.declared.scalar.Scalar.TheVariants.{ShortPowerLossTime, TimeCommLoss}
-use Rattle.dms_objects.specs.declared.instance.Instance.{Instance}
-use Rattle.dms_instances.specs.Objects.{instance_named}
+use Rattle.dms_mib.specs.declared.scalar.Scalar.TheVariants.{ShortPowerLossTime, TimeCommLoss}
+use Rattle.dms_mib.specs.declared.instance.Instance.{Instance}
+use Rattle.dms_mib_instances.specs.Objects.{instance_named}
 use Rattle.dms_sign.specs.State.{SignState}
-use Rattle.dms_access.specs.Access.{Write, SetField, is_command, is_settable, write_of}
-use Rattle.dms_access.specs.MetNames.{is_among}
-use Rattle.dms_access.specs.Assignment.{given, number_for}
-use Rattle.dms_access.specs.Settings.{codes_by, defaults_by}
+use Rattle.dms_sign_access.specs.Access.{Write, SetField, is_command, is_settable, write_of}
+use Rattle.dms_sign_access.specs.MetNames.{is_among}
+use Rattle.dms_sign_access.specs.Assignment.{given, number_for}
+use Rattle.dms_sign_access.specs.Settings.{codes_by, defaults_by}
 
 -- ---- what keeps a SET from writing
 

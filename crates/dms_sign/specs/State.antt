@@ -6,10 +6,10 @@ use Rattle.dms_table.specs.Rows.{TableModel}
 use Rattle.dms_codes.specs.declared.mode.Mode.TheVariants.{PowerRecovery, CommunicationsLoss, PowerLoss, EndDuration}
 use Rattle.dms_codes.specs.Mode.{mode_number}
 use Rattle.dms_table.specs.Activation.{ShownModel, blank_shown}
-use Rattle.dms_access.specs.declared.reports.Reports.{Reports}
-use Rattle.dms_access.specs.declared.settings.Fallbacks.{Fallbacks}
-use Rattle.dms_access.specs.Settings.{first_fallbacks}
-use Rattle.dms_access.specs.Reports.{first_reports}
+use Rattle.dms_sign_access.specs.declared.reports.Reports.{Reports}
+use Rattle.dms_sign_access.specs.declared.settings.Fallbacks.{Fallbacks}
+use Rattle.dms_sign_access.specs.Settings.{first_fallbacks}
+use Rattle.dms_sign_access.specs.Reports.{first_reports}
 
 -- ---- states
 

@@ -15,7 +15,7 @@ use Rattle.dms_table.specs.Rows.{RowModel, TableModel, rows_of, numbered}
 use Rattle.dms_codes.specs.Memory.{blank_memory}
 use Rattle.dms_table.specs.Validation.{CameToBeValid}
 use Rattle.dms_table.specs.Activation.{ShownModel}
-use Rattle.dms_access.specs.declared.settings.Fallbacks.{Fallbacks}
+use Rattle.dms_sign_access.specs.declared.settings.Fallbacks.{Fallbacks}
 use Rattle.dms_sign.specs.State.{SignState}
 
 -- ---- rows

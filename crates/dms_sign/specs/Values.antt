@@ -6,27 +6,27 @@ use Rattle.dms_table.specs.Rows.{TableModel, valid_count, unused_count, row_coun
 use Rattle.dms_codes.specs.Memory.{permanent_memory, changeable_memory, volatile_memory}
 use Rattle.dms_codes.specs.Limits.{longest_text}
 use Rattle.dms_table.specs.Activation.{message_at, minutes_left}
-use Rattle.dms_objects.specs.declared.scalar.Scalar.{Scalar}
-use Rattle.dms_objects.specs.declared.scalar.Scalar.TheVariants.{SignHeightPixels, SignWidthPixels}
-use Rattle.dms_objects.specs.declared.scalar.Scalar.TheVariants.{DefaultBackgroundColor, DefaultForegroundColor}
-use Rattle.dms_objects.specs.declared.scalar.Scalar.TheVariants.{DefaultFlashOn, DefaultFlashOff, DefaultFont}
-use Rattle.dms_objects.specs.declared.scalar.Scalar.TheVariants.{DefaultJustificationLine, DefaultJustificationPage}
-use Rattle.dms_objects.specs.declared.scalar.Scalar.TheVariants.{DefaultPageOnTime, DefaultPageOffTime, ColorScheme}
-use Rattle.dms_objects.specs.declared.scalar.Scalar.TheVariants.{NumPermanentMsg, NumChangeableMsg, MaxChangeableMsg}
-use Rattle.dms_objects.specs.declared.scalar.Scalar.TheVariants.{FreeChangeableMemory, NumVolatileMsg, MaxVolatileMsg}
-use Rattle.dms_objects.specs.declared.scalar.Scalar.TheVariants.{FreeVolatileMemory, ValidateMessageError}
-use Rattle.dms_objects.specs.declared.scalar.Scalar.TheVariants.{ActivateMessage, MessageTimeRemaining}
-use Rattle.dms_objects.specs.declared.scalar.Scalar.TheVariants.{MsgTableSource, MsgRequesterId, MsgSourceMode}
-use Rattle.dms_objects.specs.declared.scalar.Scalar.TheVariants.{ShortPowerRecoveryMessage, LongPowerRecoveryMessage}
-use Rattle.dms_objects.specs.declared.scalar.Scalar.TheVariants.{ShortPowerLossTime, CommunicationsLossMessage}
-use Rattle.dms_objects.specs.declared.scalar.Scalar.TheVariants.{TimeCommLoss, PowerLossMessage, EndDurationMessage}
-use Rattle.dms_objects.specs.declared.scalar.Scalar.TheVariants.{ActivateMsgError, MultiSyntaxError}
-use Rattle.dms_objects.specs.declared.scalar.Scalar.TheVariants.{MultiSyntaxErrorPosition, ActivateErrorMsgCode}
-use Rattle.dms_objects.specs.declared.instance.Instance.{Instance}
-use Rattle.dms_objects.specs.declared.instance.Instance.TheVariants as kinds
-use Rattle.dms_objects.specs.Names.{name_of}
-use Rattle.dms_instances.specs.Objects.{instance_named, next_instance}
-use Rattle.dms_access.specs.Cells.{number_value, cell_value}
+use Rattle.dms_mib.specs.declared.scalar.Scalar.{Scalar}
+use Rattle.dms_mib.specs.declared.scalar.Scalar.TheVariants.{SignHeightPixels, SignWidthPixels}
+use Rattle.dms_mib.specs.declared.scalar.Scalar.TheVariants.{DefaultBackgroundColor, DefaultForegroundColor}
+use Rattle.dms_mib.specs.declared.scalar.Scalar.TheVariants.{DefaultFlashOn, DefaultFlashOff, DefaultFont}
+use Rattle.dms_mib.specs.declared.scalar.Scalar.TheVariants.{DefaultJustificationLine, DefaultJustificationPage}
+use Rattle.dms_mib.specs.declared.scalar.Scalar.TheVariants.{DefaultPageOnTime, DefaultPageOffTime, ColorScheme}
+use Rattle.dms_mib.specs.declared.scalar.Scalar.TheVariants.{NumPermanentMsg, NumChangeableMsg, MaxChangeableMsg}
+use Rattle.dms_mib.specs.declared.scalar.Scalar.TheVariants.{FreeChangeableMemory, NumVolatileMsg, MaxVolatileMsg}
+use Rattle.dms_mib.specs.declared.scalar.Scalar.TheVariants.{FreeVolatileMemory, ValidateMessageError}
+use Rattle.dms_mib.specs.declared.scalar.Scalar.TheVariants.{ActivateMessage, MessageTimeRemaining}
+use Rattle.dms_mib.specs.declared.scalar.Scalar.TheVariants.{MsgTableSource, MsgRequesterId, MsgSourceMode}
+use Rattle.dms_mib.specs.declared.scalar.Scalar.TheVariants.{ShortPowerRecoveryMessage, LongPowerRecoveryMessage}
+use Rattle.dms_mib.specs.declared.scalar.Scalar.TheVariants.{ShortPowerLossTime, CommunicationsLossMessage}
+use Rattle.dms_mib.specs.declared.scalar.Scalar.TheVariants.{TimeCommLoss, PowerLossMessage, EndDurationMessage}
+use Rattle.dms_mib.specs.declared.scalar.Scalar.TheVariants.{ActivateMsgError, MultiSyntaxError}
+use Rattle.dms_mib.specs.declared.scalar.Scalar.TheVariants.{MultiSyntaxErrorPosition, ActivateErrorMsgCode}
+use Rattle.dms_mib.specs.declared.instance.Instance.{Instance}
+use Rattle.dms_mib.specs.declared.instance.Instance.TheVariants as kinds
+use Rattle.dms_mib.specs.Names.{name_of}
+use Rattle.dms_mib_instances.specs.Objects.{instance_named, next_instance}
+use Rattle.dms_sign_access.specs.Cells.{number_value, cell_value}
 use Rattle.dms_sign.specs.State.{SignState}
 
 -- ---- objects with one instance

@@ -16,6 +16,6 @@ pub mod laws;
 pub mod sign;
 
 pub use config::{Config, ConfigFault};
-pub use dms_objects::{Instance, Scalar};
+pub use dms_mib::{Instance, Scalar};
 pub use sign::Sign;
 pub use sign::reply::Receipt;

@@ -10,22 +10,22 @@ use Rattle.dms_wire.specs.Message.{ObjectValue, octet_string, VarBind, SnmpMessa
 use Rattle.dms_face.specs.Face.{FaceModel}
 use Rattle.dms_table.specs.declared.activation.Cause.{Cause}
 use Rattle.dms_codes.specs.declared.codes.Activation.{Activation}
-use Rattle.dms_objects.specs.Names.{activate_message}
+use Rattle.dms_mib.specs.Names.{activate_message}
 use Rattle.dms_table.specs.Rows.{TableModel, asked}
 use Rattle.dms_codes.specs.Codes.{activation_of}
 use Rattle.dms_table.specs.Activation.{ShownModel}
-use Rattle.dms_objects.specs.declared.scalar.Scalar.TheVariants.{ActivateMessage}
-use Rattle.dms_objects.specs.declared.instance.Instance.{Instance}
-use Rattle.dms_objects.specs.declared.instance.Instance.TheVariants as kinds
-use Rattle.dms_objects.specs.Names.{name_of}
-use Rattle.dms_instances.specs.Objects.{instance_named}
+use Rattle.dms_mib.specs.declared.scalar.Scalar.TheVariants.{ActivateMessage}
+use Rattle.dms_mib.specs.declared.instance.Instance.{Instance}
+use Rattle.dms_mib.specs.declared.instance.Instance.TheVariants as kinds
+use Rattle.dms_mib.specs.Names.{name_of}
+use Rattle.dms_mib_instances.specs.Objects.{instance_named}
 use Rattle.dms_sign.specs.State.{SignState}
-use Rattle.dms_access.specs.Access.{Write, SetNumber, SetCode, SetField, AskRow, Activate, SetRemaining, is_command, is_settable, octets_in, object_write, cell_write, write_of}
-use Rattle.dms_access.specs.MetNames.{is_among}
+use Rattle.dms_sign_access.specs.Access.{Write, SetNumber, SetCode, SetField, AskRow, Activate, SetRemaining, is_command, is_settable, octets_in, object_write, cell_write, write_of}
+use Rattle.dms_sign_access.specs.MetNames.{is_among}
 use Rattle.dms_sign.specs.SetRequest.{SetCause, if_settable, settable_instance, write_at, is_command_at, is_refused_field, causes, assigned}
 use Rattle.dms_sign.specs.Requests.{found_unless, as_decided, as_asked, commanded, commanded_if, writes_of, set_unless, set, may_write, answer_by, answer_of_any_size}
 use Rattle.dms_sign.specs.Promises.{activates, AsksFor}
-use Rattle.dms_instances.proofs.InOrder.{named_is}
+use Rattle.dms_mib_instances.proofs.InOrder.{named_is}
 use Rattle.dms_sign.proofs.Replies.{IsCause, are_causes}
 
 -- ---- what writes an activation

@@ -9,7 +9,7 @@ use Rattle.dms_wire.specs.declared.error_status.ErrorStatus.{ErrorStatus}
 use Rattle.dms_wire.specs.declared.error_status.ErrorStatus.TheVariants.{NoError}
 use Rattle.dms_wire.specs.Message.{VarBind, SnmpMessage}
 use Rattle.dms_codes.specs.Codes.{activation_of}
-use Rattle.dms_access.specs.Access.{Write, Activate, is_command}
+use Rattle.dms_sign_access.specs.Access.{Write, Activate, is_command}
 use Rattle.dms_sign.specs.State.{SignState}
 use Rattle.dms_sign.specs.SetRequest.{SetCause, write_at, is_command_at, cause_if, causes_after, causes, assigned}
 use Rattle.dms_sign.specs.Requests.{writes_of, set_unless, answer_by, answer_of_any_size}

@@ -6,9 +6,9 @@ use Rattle.dms_wire.specs.declared.message.Kind.{Kind}
 use Rattle.dms_wire.specs.declared.message.Kind.TheVariants.{Set}
 use Rattle.dms_wire.specs.Message.{ObjectValue, integer, octet_string, VarBind, SnmpMessage}
 use Rattle.dms_wire.specs.MessageOf.{message_of}
-use Rattle.dms_ber.specs.Element.{element}
-use Rattle.dms_ber.specs.Integer.{integer_octets}
-use Rattle.dms_ber.specs.ObjectIdentifier.{name_octets}
+use Rattle.dms_wire_ber.specs.Element.{element}
+use Rattle.dms_wire_ber.specs.Integer.{integer_octets}
+use Rattle.dms_wire_ber.specs.ObjectIdentifier.{name_octets}
 use Rattle.dms_wire.specs.Canonical.{binding_octets, numbers_octets, pdu_octets, canonical}
 use Rattle.dms_multi.specs.Outcomes.{outcomes_within}
 use Rattle.dms_multi.specs.TagReading.{item_at, item_after_opening, item_after_closing, tag_at, body_item, name_at, letters_name, end_name, item_of, flash_of, font_of, times_of, page_time_of}
@@ -17,19 +17,19 @@ use Rattle.dms_face.specs.Fit.{fault_of}
 use Rattle.dms_face.proofs.Bench.{bench}
 use Rattle.dms_codes.specs.declared.codes.Order.TheVariants.{High}
 use Rattle.dms_codes.specs.declared.status.Status.TheVariants.{Valid}
-use Rattle.dms_objects.specs.declared.column.Column.{Column}
+use Rattle.dms_mib.specs.declared.column.Column.{Column}
 use Rattle.dms_codes.specs.Checksum.{octet_bits}
 use Rattle.dms_table.specs.Rows.{RowModel, TableModel, unused}
 use Rattle.dms_codes.specs.Codes.{octets_of_id}
-use Rattle.dms_objects.specs.declared.scalar.Scalar.TheVariants.{ActivateMessage}
-use Rattle.dms_objects.specs.declared.instance.Instance.{Instance}
-use Rattle.dms_objects.specs.declared.instance.Instance.TheVariants.{Scalar, Cell}
-use Rattle.dms_objects.specs.Names.{name_of}
-use Rattle.dms_instances.specs.Objects.{instances}
+use Rattle.dms_mib.specs.declared.scalar.Scalar.TheVariants.{ActivateMessage}
+use Rattle.dms_mib.specs.declared.instance.Instance.{Instance}
+use Rattle.dms_mib.specs.declared.instance.Instance.TheVariants.{Scalar, Cell}
+use Rattle.dms_mib.specs.Names.{name_of}
+use Rattle.dms_mib_instances.specs.Objects.{instances}
 use Rattle.dms_sign.specs.State.{ConfigModel, SignState, start}
 use Rattle.dms_sign.specs.Values.{scalar_value, value_at, value_of, value_after, bound}
 use Rattle.dms_sign.specs.OwnCodes.{put_up_code}
-use Rattle.dms_access.specs.Access.{is_settable_object, object_write, cell_write, write_of}
+use Rattle.dms_sign_access.specs.Access.{is_settable_object, object_write, cell_write, write_of}
 use Rattle.dms_sign.specs.SetRequest.{settable_instance, write_at, causes, assigned}
 use Rattle.dms_sign.specs.Requests.{Answer, answer_of_any_size}
 use Rattle.dms_sign.specs.Reply.{Received, reply_to, received}

@@ -19,7 +19,7 @@ use Rattle.dms_table.specs.Activation.{ShownModel}
 use Rattle.dms_table.proofs.OneRow.{count, one_asked_changeable, one_asked_volatile, none_more_written, none_settled, none_interrupted, none_released, none_unused}
 use Rattle.dms_sign.specs.State.{ConfigModel, SignState, start}
 use Rattle.dms_sign.specs.OwnCodes.{put_up_code}
-use Rattle.dms_access.specs.Access.{Write}
+use Rattle.dms_sign_access.specs.Access.{Write}
 use Rattle.dms_sign.specs.SetRequest.{SetCause, with_write, with_writes, assigned}
 use Rattle.dms_sign.specs.Requests.{found_unless, as_decided, as_asked, with_remaining, commanded, commanded_if, set_unless, answer_by, answer_of_any_size}
 use Rattle.dms_sign.specs.Reply.{heard, dropped, on_message_if, received}

@@ -15,7 +15,7 @@ use Rattle.dms_table.specs.Rows.{TableModel, asked, after_power}
 use Rattle.dms_table.specs.Activation.{ShownModel, seconds_of, decided}
 use Rattle.dms_sign.specs.State.{ConfigModel, SignState, power_recovery_mode, communications_loss_mode, power_loss_mode, end_duration_mode}
 use Rattle.dms_sign.specs.OwnCodes.{showing, put_up_code}
-use Rattle.dms_access.specs.Access.{Write, SetNumber, SetCode, SetField, AskRow, Activate, SetRemaining}
+use Rattle.dms_sign_access.specs.Access.{Write, SetNumber, SetCode, SetField, AskRow, Activate, SetRemaining}
 use Rattle.dms_sign.specs.SetRequest.{SetCause, causes, assigned}
 use Rattle.dms_sign.specs.Requests.{Answer, found_unless, as_decided, as_asked, with_remaining, commanded, commanded_if, set_unless, may_write, answer_by, answer_of_any_size}
 use Rattle.dms_sign.specs.Reply.{is_heard, heard, dropped, on_message_if, received}

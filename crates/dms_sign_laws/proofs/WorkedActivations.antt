@@ -5,8 +5,8 @@ use Rattle.dms_wire.specs.ErrorStatus.{error_status_number}
 use Rattle.dms_wire.specs.declared.message.Kind.TheVariants.{Set}
 use Rattle.dms_wire.specs.Message.{integer, octet_string}
 use Rattle.dms_face.proofs.Bench.{bench}
-use Rattle.dms_objects.specs.declared.scalar.Scalar.TheVariants.{MessageTimeRemaining, ShortPowerLossTime, ActivateMessage, ActivateMsgError, ActivateErrorMsgCode, EndDurationMessage}
-use Rattle.dms_objects.specs.declared.instance.Instance.TheVariants.{Scalar}
+use Rattle.dms_mib.specs.declared.scalar.Scalar.TheVariants.{MessageTimeRemaining, ShortPowerLossTime, ActivateMessage, ActivateMsgError, ActivateErrorMsgCode, EndDurationMessage}
+use Rattle.dms_mib.specs.declared.instance.Instance.TheVariants.{Scalar}
 use Rattle.dms_sign.specs.State.{SignState}
 use Rattle.dms_sign_laws.proofs.BenchSign.{octets_of, lettered_sign, number, octets, code, answer, status_and_index, after_set, reads, later, seen, letter_a, blank_one}
 

@@ -3,9 +3,9 @@ use Rattle.std.proofs.Common.{◌≡◌, ℕ, List, [], ◌∷◌, Some, refl}
 use Rattle.std.specs.Prelude.{pos, codes}
 use Rattle.dms_wire.specs.Message.{integer}
 use Rattle.dms_codes.specs.declared.codes.Order.TheVariants.{Swapped}
-use Rattle.dms_objects.specs.declared.column.Column.TheVariants.{Crc}
-use Rattle.dms_objects.specs.declared.scalar.Scalar.TheVariants.{ShortPowerLossTime}
-use Rattle.dms_objects.specs.declared.instance.Instance.TheVariants.{Scalar}
+use Rattle.dms_mib.specs.declared.column.Column.TheVariants.{Crc}
+use Rattle.dms_mib.specs.declared.scalar.Scalar.TheVariants.{ShortPowerLossTime}
+use Rattle.dms_mib.specs.declared.instance.Instance.TheVariants.{Scalar}
 use Rattle.dms_sign.specs.Reply.{dropped}
 use Rattle.dms_sign_laws.proofs.BenchSign.{octets_of, bench_table, bench_sign, cell, number, datagram, answer, status_and_index, after_set, reads}
 

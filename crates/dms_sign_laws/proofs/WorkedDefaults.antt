@@ -5,10 +5,10 @@ use Rattle.dms_wire.specs.ErrorStatus.{error_status_number}
 use Rattle.dms_wire.specs.declared.message.Kind.TheVariants.{Set}
 use Rattle.dms_wire.specs.Message.{VarBind, integer}
 use Rattle.dms_codes.specs.declared.status.Status.TheVariants.{Modifying}
-use Rattle.dms_objects.specs.declared.column.Column.TheVariants.{Status}
+use Rattle.dms_mib.specs.declared.column.Column.TheVariants.{Status}
 use Rattle.dms_table.specs.Rows.{unused}
-use Rattle.dms_objects.specs.declared.scalar.Scalar.TheVariants.{DefaultBackgroundColor, DefaultForegroundColor, DefaultFlashOn, DefaultFlashOff, DefaultFont, DefaultJustificationLine, DefaultJustificationPage, DefaultPageOnTime, DefaultPageOffTime, ActivateMsgError, MultiSyntaxError, MultiSyntaxErrorPosition, LongPowerRecoveryMessage}
-use Rattle.dms_objects.specs.declared.instance.Instance.TheVariants.{Scalar}
+use Rattle.dms_mib.specs.declared.scalar.Scalar.TheVariants.{DefaultBackgroundColor, DefaultForegroundColor, DefaultFlashOn, DefaultFlashOff, DefaultFont, DefaultJustificationLine, DefaultJustificationPage, DefaultPageOnTime, DefaultPageOffTime, ActivateMsgError, MultiSyntaxError, MultiSyntaxErrorPosition, LongPowerRecoveryMessage}
+use Rattle.dms_mib.specs.declared.instance.Instance.TheVariants.{Scalar}
 use Rattle.dms_sign.specs.State.{SignState}
 use Rattle.dms_sign_laws.proofs.BenchSign.{octets_of, bench_sign, with_changeable_rows, lettered_sign, valid_row, cell, number, octets, code, datagram, answer, status_and_index, after_set, reads, later, without_power, with_power, seen, blank_one}
 

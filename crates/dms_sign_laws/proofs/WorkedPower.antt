@@ -2,9 +2,9 @@
 use Rattle.std.proofs.Common.{◌≡◌, ℕ, zero, suc, true, false, [], ◌∷◌, Some, None, refl, ap, ◌∙◌}
 use Rattle.std.specs.Prelude.{pos, codes}
 use Rattle.dms_wire.specs.Message.{integer}
-use Rattle.dms_objects.specs.declared.column.Column.TheVariants.{Status}
-use Rattle.dms_objects.specs.declared.scalar.Scalar.TheVariants.{ShortPowerLossTime, ShortPowerRecoveryMessage, LongPowerRecoveryMessage, ActivateMsgError}
-use Rattle.dms_objects.specs.declared.instance.Instance.TheVariants.{Scalar}
+use Rattle.dms_mib.specs.declared.column.Column.TheVariants.{Status}
+use Rattle.dms_mib.specs.declared.scalar.Scalar.TheVariants.{ShortPowerLossTime, ShortPowerRecoveryMessage, LongPowerRecoveryMessage, ActivateMsgError}
+use Rattle.dms_mib.specs.declared.instance.Instance.TheVariants.{Scalar}
 use Rattle.dms_sign.specs.State.{SignState}
 use Rattle.dms_sign.specs.Reply.{dropped}
 use Rattle.dms_sign.specs.Events.{after_tick, after_power_loss, after_power_return}

@@ -3,8 +3,8 @@ use Rattle.std.proofs.Common.{◌≡◌, [], ◌∷◌, Some, None, refl}
 use Rattle.std.specs.Prelude.{codes}
 use Rattle.dms_wire.specs.declared.message.Kind.TheVariants.{GetNext}
 use Rattle.dms_wire.specs.Message.{null}
-use Rattle.dms_objects.specs.declared.scalar.Scalar.TheVariants.{ShortPowerLossTime, CommunicationsLossMessage, TimeCommLoss, EndDurationMessage}
-use Rattle.dms_objects.specs.declared.instance.Instance.TheVariants.{Scalar}
+use Rattle.dms_mib.specs.declared.scalar.Scalar.TheVariants.{ShortPowerLossTime, CommunicationsLossMessage, TimeCommLoss, EndDurationMessage}
+use Rattle.dms_mib.specs.declared.instance.Instance.TheVariants.{Scalar}
 use Rattle.dms_table.specs.Activation.{blank_octets}
 use Rattle.dms_sign.specs.State.{SignState}
 use Rattle.dms_sign.specs.Values.{bound}

@@ -5,16 +5,16 @@ use Rattle.std.specs.List.{flat_map}
 use Rattle.dms_wire.specs.declared.error_status.ErrorStatus.TheVariants.{NoSuchName}
 use Rattle.dms_wire.specs.declared.message.Kind.TheVariants.{GetNext}
 use Rattle.dms_wire.specs.Message.{null, VarBind, SnmpMessage}
-use Rattle.dms_ber.specs.Length.{short_length}
-use Rattle.dms_ber.specs.Element.{element}
-use Rattle.dms_ber.specs.Integer.{integer_octets}
-use Rattle.dms_ber.specs.ObjectIdentifier.{name_octets}
+use Rattle.dms_wire_ber.specs.Length.{short_length}
+use Rattle.dms_wire_ber.specs.Element.{element}
+use Rattle.dms_wire_ber.specs.Integer.{integer_octets}
+use Rattle.dms_wire_ber.specs.ObjectIdentifier.{name_octets}
 use Rattle.dms_wire.specs.Canonical.{binding_octets, numbers_octets, pdu_octets, canonical}
 use Rattle.dms_wire.specs.Response.{response_to}
-use Rattle.dms_ber.proofs.Shortest.{element_length, length-positive_more, length-positive_small}
+use Rattle.dms_wire_ber.proofs.Shortest.{element_length, length-positive_more, length-positive_small}
 use Rattle.dms_table.specs.Rows.{unused}
-use Rattle.dms_objects.specs.Names.{name_of}
-use Rattle.dms_instances.specs.Objects.{instances}
+use Rattle.dms_mib.specs.Names.{name_of}
+use Rattle.dms_mib_instances.specs.Objects.{instances}
 use Rattle.dms_sign.specs.State.{SignState}
 use Rattle.dms_sign.specs.Values.{value_at, value_after}
 use Rattle.dms_sign.specs.Reply.{too_big}

@@ -3,10 +3,10 @@ use Rattle.std.proofs.Common.{◌≡◌, ℕ, List, [], ◌∷◌, map, Option, 
 use Rattle.std.specs.Prelude.{pos, codes}
 use Rattle.dms_wire.specs.Message.{ObjectValue, integer, octet_string}
 use Rattle.dms_codes.specs.declared.status.Status.TheVariants.{Modifying}
-use Rattle.dms_objects.specs.declared.column.Column.TheVariants.{MultiString, Crc, Status}
+use Rattle.dms_mib.specs.declared.column.Column.TheVariants.{MultiString, Crc, Status}
 use Rattle.dms_table.specs.Rows.{RowModel, unused}
-use Rattle.dms_objects.specs.declared.scalar.Scalar.TheVariants.{ValidateMessageError, MultiSyntaxError, MultiSyntaxErrorPosition}
-use Rattle.dms_objects.specs.declared.instance.Instance.TheVariants.{Scalar}
+use Rattle.dms_mib.specs.declared.scalar.Scalar.TheVariants.{ValidateMessageError, MultiSyntaxError, MultiSyntaxErrorPosition}
+use Rattle.dms_mib.specs.declared.instance.Instance.TheVariants.{Scalar}
 use Rattle.dms_sign.specs.State.{SignState}
 use Rattle.dms_sign_laws.proofs.BenchSign.{bench_sign, with_changeable_rows, lettered_sign, valid_row, cell, number, octets, code, answer, status_and_index, after_set, reads, later, seen, letter_a}
 

@@ -2,7 +2,7 @@
 
 ghost use Rattle.std.specs.Prelude.{◌≡◌, ℕ, IsTrue, List, Some, None, IfSome};
 ghost use Rattle.dms_wire.specs.Message.{SnmpMessage};
-ghost use Rattle.dms_ber.specs.ObjectIdentifier.{IsNameInLimits};
+ghost use Rattle.dms_wire_ber.specs.ObjectIdentifier.{IsNameInLimits};
 ghost use Rattle.dms_wire.specs.Limits.{IsValueInLimits, AreBindingsInLimits, IsMessageInLimits};
 ghost use Rattle.dms_wire.specs.Spelling.{Spells};
 ghost use Rattle.dms_wire.specs.Response.{response_to};
@@ -10,9 +10,9 @@ ghost use Rattle.dms_face.specs.Face.{FaceModel, is_face};
 ghost use Rattle.dms_table.specs.declared.stock.Stock.{Stock};
 ghost use Rattle.dms_table.specs.Rows.{TableModel};
 ghost use Rattle.dms_table.specs.Stock.{stock_fault, table_of};
-ghost use Rattle.dms_objects.specs.declared.instance.Instance.{Instance};
-ghost use Rattle.dms_objects.specs.Names.{name_of};
-ghost use Rattle.dms_instances.specs.Objects.{IsInstance};
+ghost use Rattle.dms_mib.specs.declared.instance.Instance.{Instance};
+ghost use Rattle.dms_mib.specs.Names.{name_of};
+ghost use Rattle.dms_mib_instances.specs.Objects.{IsInstance};
 ghost use Rattle.dms_sign.specs.State.{ConfigModel, SignState, start};
 ghost use Rattle.dms_sign.specs.Values.{value_at, value_of, value_after};
 ghost use Rattle.dms_sign.specs.Reply.{too_big};

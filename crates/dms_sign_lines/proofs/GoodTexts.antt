@@ -8,7 +8,7 @@ use Rattle.dms_face.specs.Layout.{under}
 use Rattle.dms_face.specs.Fit.{IsGood, fault_of, or_fault}
 use Rattle.dms_face.specs.Cells.{pages_of}
 use Rattle.dms_face.proofs.GoodLaws.{empty_is_good, faultless_law}
-use Rattle.dms_pages.specs.Drawn.{drawn, drawn_text}
+use Rattle.dms_face_pages.specs.Drawn.{drawn, drawn_text}
 use Rattle.dms_table.specs.Rows.{TableModel}
 use Rattle.dms_table.specs.Activation.{ShownModel}
 use Rattle.dms_sign.specs.State.{ConfigModel, SignState, start}

@@ -3,21 +3,21 @@
 use Rattle.std.specs.Prelude.{ℕ, ◌+◌, ◌*◌, ◌&&◌, Bool, if◌then◌else◌, List, []}
 use Rattle.std.specs.Prelude.{◌++◌, codes, Option, Some, None, Result, Ok, Err, is_ok}
 use Rattle.hex.specs.Hex.{encode_lower}
-use Rattle.dms_ber.specs.Limits.{longest_datagram}
+use Rattle.dms_wire_ber.specs.Limits.{longest_datagram}
 use Rattle.dms_codes.specs.declared.codes.Order.{Order}
 use Rattle.dms_codes.specs.declared.codes.Activation.{Activation}
 use Rattle.dms_face.specs.declared.multi_fault.MultiFault.{MultiFault}
 use Rattle.dms_face.specs.Face.{fit}
 use Rattle.dms_face.specs.Layout.{under}
-use Rattle.dms_pages.specs.Drawn.{DrawnPage, drawn_text}
+use Rattle.dms_face_pages.specs.Drawn.{DrawnPage, drawn_text}
 use Rattle.dms_sign.specs.State.{SignState}
 use Rattle.dms_sign.specs.Reply.{Received, received, after_get}
 use Rattle.dms_sign.specs.Events.{after_tick, after_ticks, after_power_loss, after_power_return}
-use Rattle.dms_forms.specs.LineText.{ended, code_text}
-use Rattle.dms_description.specs.ShownLine.{shown_line}
-use Rattle.dms_lines.specs.PageText.{pages_text}
-use Rattle.dms_lines.specs.AnswerLines.{ok_line}
-use Rattle.dms_streams.specs.Conversation.{bad_line}
+use Rattle.dms_text_forms.specs.LineText.{ended, code_text}
+use Rattle.dms_sign_text.specs.ShownLine.{shown_line}
+use Rattle.dms_face_lines.specs.PageText.{pages_text}
+use Rattle.dms_face_lines.specs.AnswerLines.{ok_line}
+use Rattle.dms_text_streams.specs.Conversation.{bad_line}
 use Rattle.dms_sign_lines.specs.SignCall.{SignCall, datagram, tick, ticks, heard, power_lost, power_back, show, state}
 use Rattle.dms_sign_lines.specs.SignReading.{call_of}
 

@@ -2,7 +2,7 @@
 use Rattle.std.specs.Prelude.{◌≡◌, ℕ, List, [], ◌∷◌, codes}
 use Rattle.dms_text.specs.Words.{words_of}
 use Rattle.dms_text.specs.Octets.{SpellsOctets}
-use Rattle.dms_forms.specs.Fields.{SpellsFourOctets, SpellsOne}
+use Rattle.dms_text_forms.specs.Fields.{SpellsFourOctets, SpellsOne}
 use Rattle.dms_sign_lines.specs.SignCall.{SignCall, datagram, tick, ticks, heard, power_lost, power_back, show, state}
 
 abbrev pub SpellsCallWords : SignCall → List (List ℕ) → Type 0

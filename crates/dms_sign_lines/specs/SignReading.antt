@@ -2,7 +2,7 @@
 use Rattle.std.specs.Prelude.{ℕ, if◌then◌else◌, List, codes, Option, Some, None, option_map}
 use Rattle.dms_text.specs.Words.{words_of}
 use Rattle.dms_text.specs.Reading.{same_octets, word_at, ◌>>=◌}
-use Rattle.dms_forms.specs.FieldsReading.{if_last, last_number_at, last_octets_at}
+use Rattle.dms_text_forms.specs.FieldsReading.{if_last, last_number_at, last_octets_at}
 use Rattle.dms_sign_lines.specs.SignCall.{SignCall, datagram, tick, ticks, heard, power_lost, power_back, show, state}
 use Rattle.dms_sign_lines.specs.declared.keyword.Keyword.{Keyword}
 use Rattle.dms_sign_lines.specs.declared.keyword.Keyword.TheVariants as key

@@ -1,13 +1,13 @@
-//! The examples of the first pages of dms_instances, dms_access and dms_sign.
+//! The examples of the first pages of dms_mib_instances, dms_sign_access and dms_sign.
 
-use dms_access::{Settings, is_settable, write_of};
-use dms_bench_sign::{face, stock};
-use dms_ber::name_of;
-use dms_instances::Counts;
-use dms_objects::{Instance, Scalar};
+use dms_mib::{Instance, Scalar};
+use dms_mib_instances::Counts;
 use dms_sign::{Config, Receipt, Sign};
+use dms_sign_access::{Settings, is_settable, write_of};
+use dms_sign_bench::{face, stock};
 use dms_table::Table;
 use dms_wire::{Out, Value};
+use dms_wire_ber::name_of;
 use std::test::Fail;
 
 #[test]

@@ -1,8 +1,8 @@
 //! The bench sign against datagrams and replies in octets that were made outside of this code.
 
-use dms_bench_sign::{B, PICTURE_OF_A, drawing, face, stock};
-use dms_pages::pages_with;
+use dms_face_pages::pages_with;
 use dms_sign::{Config, ConfigFault, Receipt, Sign};
+use dms_sign_bench::{B, PICTURE_OF_A, drawing, face, stock};
 use dms_table::{Order, Stock, TableFault};
 use dms_wire::{Bind, Kind, MessageParts, Oid, Out, Value, oid_cmp, read, write};
 use std::alloc::Global;

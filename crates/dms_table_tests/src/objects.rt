@@ -1,7 +1,7 @@
 //! Columns by their numbers, and names by their octets.
 
 use dms_codes::RowId;
-use dms_objects::{Column, Instance, Name, Scalar};
+use dms_mib::{Column, Instance, Name, Scalar};
 use std::process::Abort;
 
 fn check_number(rt: &impl Abort, column: Column, number: u8) {

@@ -1,8 +1,8 @@
 //! The table by its values: each cell of the table of statuses, verdicts on the bench sign, each cause of a decision,
 //! and what a table is made of.
 
-use dms_bench_sign::{B, DEFAULTS, face, stock};
 use dms_face::{Defaults, Face, MultiFault, MultiFaultCode};
+use dms_sign_bench::{B, DEFAULTS, face, stock};
 use dms_table::{
     Activation, Ask, Cause, Field, Mode, Order, Permanent, Place, Refused, RowId, Shown, Status,
     Stock, Table, TableFault, Verdict, Writable, memory,

@@ -2,7 +2,7 @@
 
 ghost use Rattle.std.specs.Prelude.{ℕ, List, [], ◌∷◌, ◌++◌, slice_index_or};
 
-use dms_streams::{
+use dms_text_streams::{
     ConversationFault, Failed, Gathered, Input, InputFault, Party, Sink, Source, converse,
     description_text,
 };

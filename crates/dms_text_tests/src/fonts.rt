@@ -1,6 +1,6 @@
 //! Fonts by their values: two fonts of a sign, and each fault with its line.
 
-use dms_font::{Font, FontFault, FontFaultKind, Glyph};
+use dms_face_font::{Font, FontFault, FontFaultKind, Glyph};
 use std::alloc::{AllocError, Global};
 use std::process::Abort;
 use std::test::Fail;

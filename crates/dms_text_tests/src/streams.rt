@@ -1,6 +1,6 @@
 //! Readers and writers by their values.
 
-use dms_streams::{
+use dms_text_streams::{
     Counted, Failed, Gathered, Input, InputFault, Sink, Source, description_text, read_whole,
     write_whole,
 };

@@ -1,18 +1,18 @@
 -- The list of bindings: what reading gives is spelled, what is spelled is read, and the walk gives the same bindings.
 use Rattle.std.proofs.Common.{◌≡◌, ◌+◌, ◌-◌, ◌<◌, ◌≤◌, ℕ, zero, suc, true, inl, ◌++◌, List, [], ◌∷◌, length, Ok, Err, Result, refl, sym, ap, ◌∙◌, subst, arith, append_assoc, append-nil, length-append}
 use Rattle.std.proofs.lemmas.List.{nil_from_length}
-use Rattle.dms_ber.specs.declared.fault.WireFault.{WireFault}
+use Rattle.dms_wire_ber.specs.declared.fault.WireFault.{WireFault}
 use Rattle.dms_wire.specs.Message.{ObjectValue, null, VarBind}
-use Rattle.dms_ber.specs.Element.{IsElement, ◌⨾◌}
-use Rattle.dms_ber.specs.ObjectIdentifier.{IsName}
+use Rattle.dms_wire_ber.specs.Element.{IsElement, ◌⨾◌}
+use Rattle.dms_wire_ber.specs.ObjectIdentifier.{IsName}
 use Rattle.dms_wire.specs.Spelling.{IsValue, IsBinding, AreBindings}
-use Rattle.dms_ber.specs.Reading.{◌>>=◌, element_at, name_of, name_at, offset_of_content, ended}
+use Rattle.dms_wire_ber.specs.Reading.{◌>>=◌, element_at, name_of, name_at, offset_of_content, ended}
 use Rattle.dms_wire.specs.Reading.{value_at, members_at, binding_at, bindings_up_to, bindings_at}
 use Rattle.dms_wire.specs.Walk.{or_none, bindings_within, bindings_of, AreWhole}
-use Rattle.dms_ber.proofs.Elements.{bind_ok, done, ok_is}
-use Rattle.dms_ber.proofs.Names.{name_found}
-use Rattle.dms_ber.specs.NameReading.{is_name, numbers_of}
-use Rattle.dms_ber.proofs.Members.{Front, after, joined, last, with_found, with_only, name_at_found, name_at_only, name_of_found}
+use Rattle.dms_wire_ber.proofs.Elements.{bind_ok, done, ok_is}
+use Rattle.dms_wire_ber.proofs.Names.{name_found}
+use Rattle.dms_wire_ber.specs.NameReading.{is_name, numbers_of}
+use Rattle.dms_wire_ber.proofs.Members.{Front, after, joined, last, with_found, with_only, name_at_found, name_at_only, name_of_found}
 use Rattle.dms_wire.proofs.Values.{value_found, value_only}
 
 pub ended_found : (end : ℕ) (bytes : List ℕ) (x : Unit {0}) → ended end bytes ≡ Ok x → bytes ≡ []

@@ -3,20 +3,20 @@ use Rattle.std.proofs.Common.{◌≡◌, ℕ, ℤ, pos, IsTrue, ◌^◌, ◌<◌
 use Rattle.std.specs.Int.Digits.{AllBelowBase}
 use Rattle.dms_wire.specs.declared.message.Kind.{Kind}
 use Rattle.dms_wire.specs.Message.{ObjectValue, integer, octet_string, null, object_identifier, ip_address, counter, gauge, time_ticks, opaque, VarBind, SnmpMessage}
-use Rattle.dms_ber.specs.Integer.{IsInteger, in_range}
-use Rattle.dms_ber.specs.ObjectIdentifier.{IsName}
-use Rattle.dms_ber.specs.Element.{IsElement, ◌⨾◌}
+use Rattle.dms_wire_ber.specs.Integer.{IsInteger, in_range}
+use Rattle.dms_wire_ber.specs.ObjectIdentifier.{IsName}
+use Rattle.dms_wire_ber.specs.Element.{IsElement, ◌⨾◌}
 use Rattle.dms_wire.specs.Spelling.{IsAddress, IsValue, IsBinding, AreBindings, tag_of, IsPdu, IsMessage, Spells}
-use Rattle.dms_ber.specs.ObjectIdentifier.{IsNameInLimits}
+use Rattle.dms_wire_ber.specs.ObjectIdentifier.{IsNameInLimits}
 use Rattle.dms_wire.specs.Limits.{IsValueInLimits, AreBindingsInLimits, IsMessageInLimits}
-use Rattle.dms_ber.specs.Element.{element}
-use Rattle.dms_ber.specs.Integer.{integer_octets}
-use Rattle.dms_ber.specs.ObjectIdentifier.{name_octets}
+use Rattle.dms_wire_ber.specs.Element.{element}
+use Rattle.dms_wire_ber.specs.Integer.{integer_octets}
+use Rattle.dms_wire_ber.specs.ObjectIdentifier.{name_octets}
 use Rattle.dms_wire.specs.Canonical.{value_octets, binding_octets, numbers_octets, pdu_octets, canonical}
-use Rattle.dms_ber.proofs.CanonicalIntegers.{integer_spelled, integer_below}
-use Rattle.dms_ber.proofs.CanonicalNames.{name_spelled, name_below}
-use Rattle.dms_ber.proofs.CanonicalElements.{Fits, fits_element, fits_both}
-use Rattle.dms_ber.specs.Limits.{longest_datagram}
+use Rattle.dms_wire_ber.proofs.CanonicalIntegers.{integer_spelled, integer_below}
+use Rattle.dms_wire_ber.proofs.CanonicalNames.{name_spelled, name_below}
+use Rattle.dms_wire_ber.proofs.CanonicalElements.{Fits, fits_element, fits_both}
+use Rattle.dms_wire_ber.specs.Limits.{longest_datagram}
 
 fits_integer : (tag : ℕ) (z : ℤ) → tag < 256 → IsTrue (in_range z) → Fits (IsElement tag (IsInteger z)) (element tag (integer_octets z))
 fits_integer tag z octet range = fits_element tag (IsInteger z) (integer_octets z) octet (λ room. (integer_spelled z range, integer_below z))

@@ -1,10 +1,10 @@
 -- A binding takes seven octets at least, so a datagram has few of them.
 use Rattle.std.proofs.Common.{◌≡◌, ℕ, pos, ◌+◌, ◌*◌, ◌<◌, ◌≤◌, List, [], ◌∷◌, length, ap, arith, length-append}
 use Rattle.dms_wire.specs.Message.{ObjectValue, integer, octet_string, null, object_identifier, ip_address, counter, gauge, time_ticks, opaque, VarBind, SnmpMessage}
-use Rattle.dms_ber.specs.Length.{IsLength}
-use Rattle.dms_ber.specs.Element.{IsElement, ◌⨾◌}
-use Rattle.dms_ber.specs.Integer.{IsInteger}
-use Rattle.dms_ber.specs.ObjectIdentifier.{AreSubIdentifiers, IsName}
+use Rattle.dms_wire_ber.specs.Length.{IsLength}
+use Rattle.dms_wire_ber.specs.Element.{IsElement, ◌⨾◌}
+use Rattle.dms_wire_ber.specs.Integer.{IsInteger}
+use Rattle.dms_wire_ber.specs.ObjectIdentifier.{AreSubIdentifiers, IsName}
 use Rattle.dms_wire.specs.Spelling.{IsAddress, IsValue, IsBinding, AreBindings, tag_of, IsPdu, IsMessage, Spells}
 use Rattle.dms_wire.specs.Limits.{most_bindings}
 

@@ -2,12 +2,12 @@
 use Rattle.std.proofs.Common.{◌≡◌, ℕ, pos, ◌^◌, ◌<◌, List, [], ◌∷◌, ◌++◌, subst, ltb-true, arith}
 use Rattle.std.specs.Int.Digits.{AllBelowBase}
 use Rattle.dms_wire.specs.Message.{ObjectValue, integer, octet_string, null, object_identifier, ip_address, counter, gauge, time_ticks, opaque, VarBind, SnmpMessage}
-use Rattle.dms_ber.specs.Integer.{IsInteger}
-use Rattle.dms_ber.specs.Element.{IsElement, ◌⨾◌}
+use Rattle.dms_wire_ber.specs.Integer.{IsInteger}
+use Rattle.dms_wire_ber.specs.Element.{IsElement, ◌⨾◌}
 use Rattle.dms_wire.specs.Spelling.{IsValue, AreBindings, Spells}
 use Rattle.dms_wire.specs.Limits.{IsValueInLimits, AreBindingsInLimits, IsMessageInLimits}
-use Rattle.dms_ber.proofs.BelowBase.{below_front, below_back}
-use Rattle.dms_ber.proofs.NameLimits.{name_within}
+use Rattle.dms_wire_ber.proofs.BelowBase.{below_front, below_back}
+use Rattle.dms_wire_ber.proofs.NameLimits.{name_within}
 
 -- a content's octets are among those of its element
 content_below : (tag : ℕ) (P : List ℕ → Type 0) (bytes : List ℕ) (is : IsElement tag P bytes) → AllBelowBase 256 bytes → AllBelowBase 256 is.content

@@ -3,7 +3,7 @@ use Rattle.std.proofs.Common.{◌≡◌, ◌↔◌, ℕ, Bool, true, cond, List,
 use Rattle.std.specs.Result.{result_ok}
 use Rattle.std.proofs.lemmas.Bool.{and_parts, and_from}
 use Rattle.std.specs.Int.Digits.{AllBelowBase}
-use Rattle.dms_ber.specs.declared.fault.WireFault.{WireFault}
+use Rattle.dms_wire_ber.specs.declared.fault.WireFault.{WireFault}
 use Rattle.dms_wire.specs.Message.{SnmpMessage}
 use Rattle.dms_wire.specs.Spelling.{Spells}
 use Rattle.dms_wire.specs.Reading.{message_at}

@@ -3,21 +3,21 @@ use Rattle.std.proofs.Common.{◌≡◌, ◌+◌, ◌-◌, ◌<◌, ◌≤◌, �
 use Rattle.std.proofs.lemmas.Bool.{eqb-true, eq-eqb, ltb-false, lt-ltb, le-ltb, cases_lt}
 use Rattle.std.proofs.lemmas.List.{length-take-le, take-append-le, take-append-drop, take_at, drop_at}
 use Rattle.std.specs.Int.Digits.{AllBelowBase}
-use Rattle.dms_ber.specs.declared.fault.WireFault.{WireFault}
-use Rattle.dms_ber.specs.declared.fault.FaultKind.TheVariants.{Truncated, BadTag, TrailingBytes, TooLong}
+use Rattle.dms_wire_ber.specs.declared.fault.WireFault.{WireFault}
+use Rattle.dms_wire_ber.specs.declared.fault.FaultKind.TheVariants.{Truncated, BadTag, TrailingBytes, TooLong}
 use Rattle.dms_wire.specs.declared.message.Kind.{Kind}
 use Rattle.dms_wire.specs.Message.{VarBind, SnmpMessage}
-use Rattle.dms_ber.specs.Length.{IsLength}
-use Rattle.dms_ber.specs.Integer.{IsInteger}
-use Rattle.dms_ber.specs.Element.{IsElement, ◌⨾◌}
+use Rattle.dms_wire_ber.specs.Length.{IsLength}
+use Rattle.dms_wire_ber.specs.Integer.{IsInteger}
+use Rattle.dms_wire_ber.specs.Element.{IsElement, ◌⨾◌}
 use Rattle.dms_wire.specs.Spelling.{AreBindings, tag_of, IsPdu, IsMessage, Spells}
-use Rattle.dms_ber.specs.Reading.{◌>>=◌, fault, offset_of_content, length_at, content_at, element_at, integer_at, ended}
+use Rattle.dms_wire_ber.specs.Reading.{◌>>=◌, fault, offset_of_content, length_at, content_at, element_at, integer_at, ended}
 use Rattle.dms_wire.specs.Reading.{bindings_at, is_zero, kind_of, version_of, version_at, list_at, Numbered, pdu_at, tagged_pdu_at, inside_at, outer_content, outer_at, datagram_at, message_at}
-use Rattle.dms_ber.proofs.Elements.{bind_ok, done, ok_is, not_ok, guarded, tested, length_found, length_only, content_found, content_only, element_found, element_only}
-use Rattle.dms_ber.proofs.Integers.{integer_found, integer_only}
-use Rattle.dms_ber.proofs.Members.{Front, after, joined, last, ok_or_found, made, with_found, with_only, integer_at_found, integer_at_only}
+use Rattle.dms_wire_ber.proofs.Elements.{bind_ok, done, ok_is, not_ok, guarded, tested, length_found, length_only, content_found, content_only, element_found, element_only}
+use Rattle.dms_wire_ber.proofs.Integers.{integer_found, integer_only}
+use Rattle.dms_wire_ber.proofs.Members.{Front, after, joined, last, ok_or_found, made, with_found, with_only, integer_at_found, integer_at_only}
 use Rattle.dms_wire.proofs.Bindings.{ended_found, bindings_found, bindings_only}
-use Rattle.dms_ber.specs.Limits.{longest_datagram}
+use Rattle.dms_wire_ber.specs.Limits.{longest_datagram}
 
 list_found : (end : ℕ) (bytes : List ℕ) (x : List VarBind × List ℕ) → list_at end bytes ≡ Ok x
     → Front (IsElement 48 (AreBindings x.0)) bytes x.1

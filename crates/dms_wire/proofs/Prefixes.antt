@@ -4,14 +4,14 @@ use Rattle.dms_wire.specs.declared.message.Header.{Header}
 use Rattle.dms_wire.specs.declared.message.MessageParts.{MessageParts}
 use Rattle.dms_wire.specs.Message.{VarBind, SnmpMessage}
 use Rattle.dms_wire.specs.Spelling.{tag_of}
-use Rattle.dms_ber.specs.Length.{short_length}
-use Rattle.dms_ber.specs.Element.{element}
+use Rattle.dms_wire_ber.specs.Length.{short_length}
+use Rattle.dms_wire_ber.specs.Element.{element}
 use Rattle.dms_wire.specs.Canonical.{binding_octets, numbers_octets, pdu_octets, canonical}
 use Rattle.dms_wire.specs.View.{message_around}
 use Rattle.dms_wire.specs.Written.{octets_of_bindings}
 use Rattle.dms_wire.specs.Prefix.{element_size, pdu_size, content_size, message_size, pdu_prefix, message_prefix, prefix}
-use Rattle.dms_ber.proofs.Shortest.{element_put, element_length}
-use Rattle.dms_ber.specs.Limits.{longest_datagram}
+use Rattle.dms_wire_ber.proofs.Shortest.{element_put, element_length}
+use Rattle.dms_wire_ber.specs.Limits.{longest_datagram}
 
 -- the octets are those of the message's bindings
 abbrev pub AreBindingsOf : SnmpMessage → List ℕ → Type 0

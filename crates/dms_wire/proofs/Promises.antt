@@ -3,15 +3,15 @@ use Rattle.std.proofs.Common.{◌≡◌, ℕ, ◌<◌, suc, List, [], ◌∷◌,
 use Rattle.std.specs.Option.{option_map}
 use Rattle.std.specs.Result.{result_ok}
 use Rattle.std.specs.Int.Digits.{AllBelowBase}
-use Rattle.dms_ber.specs.declared.fault.WireFault.{WireFault}
+use Rattle.dms_wire_ber.specs.declared.fault.WireFault.{WireFault}
 use Rattle.dms_wire.specs.declared.message.Message.{Message}
 use Rattle.dms_wire.specs.Message.{SnmpMessage}
 use Rattle.dms_wire.specs.Spelling.{Spells}
-use Rattle.dms_ber.specs.Reading.{Gives}
+use Rattle.dms_wire_ber.specs.Reading.{Gives}
 use Rattle.dms_wire.specs.Reading.{message_at}
 use Rattle.dms_wire.specs.View.{snmp_message}
 use Rattle.dms_wire.specs.MessageOf.{message_of}
-use Rattle.dms_ber.proofs.Elements.{ok_is, not_ok}
+use Rattle.dms_wire_ber.proofs.Elements.{ok_is, not_ok}
 use Rattle.dms_wire.proofs.Messages.{message_found, message_only}
 use Rattle.dms_wire.proofs.MessageOfLaws.{message_of_octets}
 

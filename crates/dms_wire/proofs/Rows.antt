@@ -2,9 +2,9 @@
 use Rattle.std.proofs.Common.{◌≡◌, ℕ, pos, List, [], ◌∷◌, Some, refl}
 use Rattle.dms_wire.specs.declared.message.Kind.TheVariants.{Get}
 use Rattle.dms_wire.specs.Message.{null, SnmpMessage}
-use Rattle.dms_ber.specs.Element.{element}
-use Rattle.dms_ber.specs.Integer.{integer_octets}
-use Rattle.dms_ber.specs.ObjectIdentifier.{name_octets}
+use Rattle.dms_wire_ber.specs.Element.{element}
+use Rattle.dms_wire_ber.specs.Integer.{integer_octets}
+use Rattle.dms_wire_ber.specs.ObjectIdentifier.{name_octets}
 use Rattle.dms_wire.specs.Canonical.{binding_octets, numbers_octets, pdu_octets, canonical}
 use Rattle.dms_wire.specs.MessageOf.{message_of}
 

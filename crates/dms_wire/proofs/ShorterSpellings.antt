@@ -3,14 +3,14 @@ use Rattle.std.proofs.Common.{◌≡◌, ℕ, pos, ◌<◌, ◌≤◌, List, [],
 use Rattle.std.specs.Int.Digits.{AllBelowBase}
 use Rattle.std.specs.List.{flat_map}
 use Rattle.dms_wire.specs.Message.{ObjectValue, integer, octet_string, null, object_identifier, ip_address, counter, gauge, time_ticks, opaque, VarBind, SnmpMessage}
-use Rattle.dms_ber.specs.Element.{IsElement, ◌⨾◌}
-use Rattle.dms_ber.specs.Integer.{IsInteger}
+use Rattle.dms_wire_ber.specs.Element.{IsElement, ◌⨾◌}
+use Rattle.dms_wire_ber.specs.Integer.{IsInteger}
 use Rattle.dms_wire.specs.Spelling.{IsValue, IsBinding, AreBindings, tag_of, IsPdu, IsMessage, Spells}
-use Rattle.dms_ber.specs.Element.{element}
-use Rattle.dms_ber.specs.Integer.{integer_octets}
+use Rattle.dms_wire_ber.specs.Element.{element}
+use Rattle.dms_wire_ber.specs.Integer.{integer_octets}
 use Rattle.dms_wire.specs.Canonical.{value_octets, binding_octets, numbers_octets, pdu_octets, canonical}
 use Rattle.dms_wire.specs.Response.{response_to}
-use Rattle.dms_ber.proofs.ShorterContents.{NoLonger, short_length_monotone, length_no_longer, integer_no_longer, some_octet, small_no_longer, name_no_longer}
+use Rattle.dms_wire_ber.proofs.ShorterContents.{NoLonger, short_length_monotone, length_no_longer, integer_no_longer, some_octet, small_no_longer, name_no_longer}
 
 -- the two parts of joined octets are octets
 pub below_parts : (xs ys : List ℕ) → AllBelowBase 256 (xs ++ ys) → AllBelowBase 256 xs × AllBelowBase 256 ys

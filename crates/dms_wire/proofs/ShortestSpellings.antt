@@ -5,17 +5,17 @@ use Rattle.std.specs.List.{slice_index_or}
 use Rattle.std.proofs.lemmas.Bool.{cond-false, cases_lt, cases_eq}
 use Rattle.std.proofs.lemmas.Bool.Decides.{nat_tests}
 use Rattle.std.proofs.lemmas.Int.Digits.{number_lt, length-digits_of-le}
-use Rattle.dms_ber.specs.Length.{IsLength, short_length}
-use Rattle.dms_ber.specs.Integer.{IsInteger, is_shortest, inverted, positive_octets, integer_octets}
-use Rattle.dms_ber.specs.ObjectIdentifier.{IsName, name_octets}
-use Rattle.dms_ber.specs.Element.{IsElement, ◌⨾◌, element}
-use Rattle.dms_ber.proofs.Shortest.{short_length_small, positive_small}
-use Rattle.dms_ber.proofs.ShorterContents.{NoLonger, short_length_monotone, length_no_longer, integer_no_longer, name_no_longer, positive_whole}
-use Rattle.dms_ber.specs.Reading.{element_at, content_at}
-use Rattle.dms_ber.proofs.Elements.{ok_is, element_only, content_only}
-use Rattle.dms_ber.proofs.Unique.{base256, digits_number, name_is}
-use Rattle.dms_ber.proofs.BelowBase.{below_inverted}
-use Rattle.dms_ber.proofs.CanonicalIntegers.{inverted_back}
+use Rattle.dms_wire_ber.specs.Length.{IsLength, short_length}
+use Rattle.dms_wire_ber.specs.Integer.{IsInteger, is_shortest, inverted, positive_octets, integer_octets}
+use Rattle.dms_wire_ber.specs.ObjectIdentifier.{IsName, name_octets}
+use Rattle.dms_wire_ber.specs.Element.{IsElement, ◌⨾◌, element}
+use Rattle.dms_wire_ber.proofs.Shortest.{short_length_small, positive_small}
+use Rattle.dms_wire_ber.proofs.ShorterContents.{NoLonger, short_length_monotone, length_no_longer, integer_no_longer, name_no_longer, positive_whole}
+use Rattle.dms_wire_ber.specs.Reading.{element_at, content_at}
+use Rattle.dms_wire_ber.proofs.Elements.{ok_is, element_only, content_only}
+use Rattle.dms_wire_ber.proofs.Unique.{base256, digits_number, name_is}
+use Rattle.dms_wire_ber.proofs.BelowBase.{below_inverted}
+use Rattle.dms_wire_ber.proofs.CanonicalIntegers.{inverted_back}
 use Rattle.dms_wire.specs.Message.{ObjectValue, integer, octet_string, null, object_identifier, ip_address, counter, gauge, time_ticks, opaque, VarBind}
 use Rattle.dms_wire.specs.Spelling.{IsAddress, IsValue, IsBinding, AreBindings}
 use Rattle.dms_wire.specs.Canonical.{value_octets, binding_octets}

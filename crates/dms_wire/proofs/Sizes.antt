@@ -1,6 +1,6 @@
 -- Sizes of elements and octets appended, for the functions that write.
 use Rattle.std.proofs.Common.{length-append, append_assoc}
-use Rattle.dms_ber.proofs.Shortest.{element_put, element_length}
+use Rattle.dms_wire_ber.proofs.Shortest.{element_put, element_length}
 
 -- how many octets elements take
 pub ruleset sizes = (element_length, length-append)

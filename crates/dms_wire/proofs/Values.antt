@@ -3,20 +3,20 @@ use Rattle.std.proofs.Common.{◌≡◌, ℕ, pos, inl, inr, ◌++◌, List, [],
 use Rattle.std.proofs.lemmas.Bool.{eqb-true}
 use Rattle.std.proofs.lemmas.Bool.Decides.{nat_tests}
 use Rattle.std.proofs.lemmas.List.{nil_from_length}
-use Rattle.dms_ber.specs.declared.fault.FaultKind.TheVariants.{BadInteger, BadLength, BadName}
+use Rattle.dms_wire_ber.specs.declared.fault.FaultKind.TheVariants.{BadInteger, BadLength, BadName}
 use Rattle.dms_wire.specs.Message.{ObjectValue, integer, octet_string, null, object_identifier, ip_address, counter, gauge, time_ticks, opaque}
-use Rattle.dms_ber.specs.Length.{IsLength}
-use Rattle.dms_ber.specs.Integer.{IsInteger}
-use Rattle.dms_ber.specs.ObjectIdentifier.{IsName}
-use Rattle.dms_ber.specs.NameReading.{is_name, numbers_of}
-use Rattle.dms_ber.specs.Element.{IsElement}
+use Rattle.dms_wire_ber.specs.Length.{IsLength}
+use Rattle.dms_wire_ber.specs.Integer.{IsInteger}
+use Rattle.dms_wire_ber.specs.ObjectIdentifier.{IsName}
+use Rattle.dms_wire_ber.specs.NameReading.{is_name, numbers_of}
+use Rattle.dms_wire_ber.specs.Element.{IsElement}
 use Rattle.dms_wire.specs.Spelling.{IsValue, IsAddress}
-use Rattle.dms_ber.specs.Reading.{◌>>=◌, fault, offset_of_content, content_at, integer_value, natural_value}
+use Rattle.dms_wire_ber.specs.Reading.{◌>>=◌, fault, offset_of_content, content_at, integer_value, natural_value}
 use Rattle.dms_wire.specs.Reading.{value_from, is_value_tag, after_tag, value_at}
-use Rattle.dms_ber.proofs.Elements.{bind_ok, chosen, done, ok_is, not_ok, tested, content_found, content_only}
-use Rattle.dms_ber.proofs.Integers.{integer_found, integer_only}
-use Rattle.dms_ber.proofs.Names.{name_found, name_only}
-use Rattle.dms_ber.proofs.Members.{Front, natural_found, natural_only, made}
+use Rattle.dms_wire_ber.proofs.Elements.{bind_ok, chosen, done, ok_is, not_ok, tested, content_found, content_only}
+use Rattle.dms_wire_ber.proofs.Integers.{integer_found, integer_only}
+use Rattle.dms_wire_ber.proofs.Names.{name_found, name_only}
+use Rattle.dms_wire_ber.proofs.Members.{Front, natural_found, natural_only, made}
 
 -- a tag and a content spell the value, after any form of the length
 abbrev Stands : ℕ → List ℕ → ObjectValue → Type 0

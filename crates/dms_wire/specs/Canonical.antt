@@ -5,9 +5,9 @@ use Rattle.std.specs.List.{flat_map}
 use Rattle.dms_wire.specs.Message.{ObjectValue, integer, octet_string, null, object_identifier}
 use Rattle.dms_wire.specs.Message.{ip_address, counter, gauge, time_ticks, opaque, VarBind, SnmpMessage}
 use Rattle.dms_wire.specs.Spelling.{tag_of}
-use Rattle.dms_ber.specs.Element.{element}
-use Rattle.dms_ber.specs.Integer.{integer_octets}
-use Rattle.dms_ber.specs.ObjectIdentifier.{name_octets}
+use Rattle.dms_wire_ber.specs.Element.{element}
+use Rattle.dms_wire_ber.specs.Integer.{integer_octets}
+use Rattle.dms_wire_ber.specs.ObjectIdentifier.{name_octets}
 
 abbrev pub value_octets : ObjectValue → List ℕ
 value_octets (integer z) = element 2 (integer_octets z)

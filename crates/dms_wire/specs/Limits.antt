@@ -3,8 +3,8 @@ use Rattle.std.specs.Prelude.{◌≡◌, ◌^◌, ◌<◌, IsTrue, List, [], ◌
 use Rattle.std.specs.Int.Digits.{AllBelowBase}
 use Rattle.dms_wire.specs.Message.{ObjectValue, integer, octet_string, null, object_identifier}
 use Rattle.dms_wire.specs.Message.{ip_address, counter, gauge, time_ticks, opaque, VarBind, SnmpMessage}
-use Rattle.dms_ber.specs.Integer.{in_range}
-use Rattle.dms_ber.specs.ObjectIdentifier.{IsNameInLimits}
+use Rattle.dms_wire_ber.specs.Integer.{in_range}
+use Rattle.dms_wire_ber.specs.ObjectIdentifier.{IsNameInLimits}
 use Rattle.std.specs.Prelude.{ℕ}
 
 -- the most bindings of a datagram: each has seven octets at least

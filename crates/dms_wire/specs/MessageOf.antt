@@ -3,8 +3,8 @@ use Rattle.std.specs.Prelude.{ℕ, Bool, nat_lt, List, Option, None, if◌then�
 use Rattle.std.specs.List.{list_all}
 use Rattle.std.specs.Result.{result_ok}
 use Rattle.dms_wire.specs.Message.{SnmpMessage}
-use Rattle.dms_ber.specs.NameReading.{goes_on}
-use Rattle.dms_ber.specs.Reading.{length_at, integer_value, content_at, element_at, integer_at, name_at, ended}
+use Rattle.dms_wire_ber.specs.NameReading.{goes_on}
+use Rattle.dms_wire_ber.specs.Reading.{length_at, integer_value, content_at, element_at, integer_at, name_at, ended}
 use Rattle.dms_wire.specs.Reading.{value_from, after_tag, value_at, members_at, binding_at}
 use Rattle.dms_wire.specs.Reading.{bindings_up_to, version_at, list_at, pdu_at, tagged_pdu_at}
 use Rattle.dms_wire.specs.Reading.{inside_at, outer_content, outer_at, datagram_at, message_at}

@@ -2,8 +2,8 @@
 use Rattle.std.specs.Prelude.{ℕ, ◌+◌, List, [], ◌∷◌, ◌++◌, length}
 use Rattle.dms_wire.specs.Message.{SnmpMessage}
 use Rattle.dms_wire.specs.Spelling.{tag_of}
-use Rattle.dms_ber.specs.Length.{short_length}
-use Rattle.dms_ber.specs.Element.{element}
+use Rattle.dms_wire_ber.specs.Length.{short_length}
+use Rattle.dms_wire_ber.specs.Element.{element}
 use Rattle.dms_wire.specs.Canonical.{numbers_octets}
 
 -- how many octets an element with a content of that many takes

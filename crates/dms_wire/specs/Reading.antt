@@ -3,17 +3,17 @@
 use Rattle.std.specs.Prelude.{ℕ, ℤ, pos, negsuc, zero, suc, ◌+◌, ◌-◌, Bool, false, nat_lt, nat_le}
 use Rattle.std.specs.Prelude.{◌==◌, ◌&&◌, List, [], ◌∷◌, length, take, drop, Option, Some, None}
 use Rattle.std.specs.Prelude.{ok_or, option_map, ◌||◌, Result, Ok, Err, if◌then◌else◌}
-use Rattle.dms_ber.specs.declared.fault.FaultKind.TheVariants.{Truncated, BadTag, BadLength, BadInteger}
-use Rattle.dms_ber.specs.declared.fault.FaultKind.TheVariants.{BadName, BadVersion, TooLong}
-use Rattle.dms_ber.specs.declared.fault.WireFault.{WireFault}
+use Rattle.dms_wire_ber.specs.declared.fault.FaultKind.TheVariants.{Truncated, BadTag, BadLength, BadInteger}
+use Rattle.dms_wire_ber.specs.declared.fault.FaultKind.TheVariants.{BadName, BadVersion, TooLong}
+use Rattle.dms_wire_ber.specs.declared.fault.WireFault.{WireFault}
 use Rattle.dms_wire.specs.declared.message.Kind.{Kind}
 use Rattle.dms_wire.specs.declared.message.Kind.TheVariants.{Get, GetNext, Response, Set}
 use Rattle.dms_wire.specs.Message.{ObjectValue, integer, octet_string, null, object_identifier}
 use Rattle.dms_wire.specs.Message.{ip_address, counter, gauge, time_ticks, opaque, VarBind, SnmpMessage}
-use Rattle.dms_ber.specs.NameReading.{is_name, numbers_of}
-use Rattle.dms_ber.specs.Reading.{◌>>=◌, fault, length_at, integer_value, content_at, element_at}
-use Rattle.dms_ber.specs.Reading.{offset_of_content, integer_at, name_at, natural_value, ended}
-use Rattle.dms_ber.specs.Limits.{longest_datagram}
+use Rattle.dms_wire_ber.specs.NameReading.{is_name, numbers_of}
+use Rattle.dms_wire_ber.specs.Reading.{◌>>=◌, fault, length_at, integer_value, content_at, element_at}
+use Rattle.dms_wire_ber.specs.Reading.{offset_of_content, integer_at, name_at, natural_value, ended}
+use Rattle.dms_wire_ber.specs.Limits.{longest_datagram}
 
 -- The value that a tag and a content are. before is the offset of the length, and place that of the content.
 unfoldable pub value_from : ℕ → ℕ → ℕ → List ℕ → Result ObjectValue WireFault

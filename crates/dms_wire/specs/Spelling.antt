@@ -6,10 +6,10 @@ use Rattle.dms_wire.specs.declared.message.Kind.{Kind}
 use Rattle.dms_wire.specs.declared.message.Kind.TheVariants.{Get, GetNext, Response, Set}
 use Rattle.dms_wire.specs.Message.{ObjectValue, integer, octet_string, null, object_identifier}
 use Rattle.dms_wire.specs.Message.{ip_address, counter, gauge, time_ticks, opaque, VarBind, SnmpMessage}
-use Rattle.dms_ber.specs.Element.{IsElement, ◌⨾◌}
-use Rattle.dms_ber.specs.Integer.{IsInteger}
-use Rattle.dms_ber.specs.ObjectIdentifier.{IsName}
-use Rattle.dms_ber.specs.Limits.{longest_datagram}
+use Rattle.dms_wire_ber.specs.Element.{IsElement, ◌⨾◌}
+use Rattle.dms_wire_ber.specs.Integer.{IsInteger}
+use Rattle.dms_wire_ber.specs.ObjectIdentifier.{IsName}
+use Rattle.dms_wire_ber.specs.Limits.{longest_datagram}
 
 -- an address is four octets
 abbrev pub IsAddress : List ℕ → List ℕ → Type 0

@@ -1,7 +1,7 @@
 -- The bindings that octets spell, as far as they spell any (RFC 1157, 4.1).
 use Rattle.std.specs.Prelude.{◌≡◌, ℕ, zero, suc, List, [], ◌∷◌, length, Result, Ok, Err}
 use Rattle.std.specs.List.{flat_map}
-use Rattle.dms_ber.specs.declared.fault.WireFault.{WireFault}
+use Rattle.dms_wire_ber.specs.declared.fault.WireFault.{WireFault}
 use Rattle.dms_wire.specs.Message.{VarBind}
 use Rattle.dms_wire.specs.Spelling.{AreBindings}
 use Rattle.dms_wire.specs.Canonical.{binding_octets}

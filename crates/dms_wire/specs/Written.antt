@@ -5,7 +5,7 @@ use Rattle.std.specs.List.{flat_map}
 use Rattle.dms_wire.specs.declared.fault.TooBig.{TooBig}
 use Rattle.dms_wire.specs.Message.{VarBind}
 use Rattle.dms_wire.specs.Canonical.{binding_octets}
-use Rattle.dms_ber.specs.Limits.{longest_datagram}
+use Rattle.dms_wire_ber.specs.Limits.{longest_datagram}
 
 -- The octets are what was written; or they would not fit a datagram, and nothing was written.
 abbrev pub IsWritten : Result (Unit {0}) TooBig → List ℕ → List ℕ → Type 0

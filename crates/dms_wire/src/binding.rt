@@ -5,19 +5,19 @@ ghost use Rattle.std.specs.Prelude.{map, Ok, Err, IsOk, IfOk, IfErr, OnOk, OnErr
 ghost use Rattle.arrayvec.specs.ArrayVec.{array_vec_len};
 ghost use Rattle.std.specs.List.{flat_map};
 ghost use Rattle.dms_wire.specs.Message.{ObjectValue, VarBind};
-ghost use Rattle.dms_ber.specs.Reading.{Gives};
+ghost use Rattle.dms_wire_ber.specs.Reading.{Gives};
 ghost use Rattle.dms_wire.specs.Reading.{members_at, binding_at, bindings_at, list_at};
 ghost use Rattle.dms_wire.specs.Walk.{bindings_of, AreWhole, AreShortest};
 ghost use Rattle.dms_wire.specs.View.{object_value, var_bind};
-ghost use Rattle.dms_ber.specs.Element.{element};
-ghost use Rattle.dms_ber.specs.ObjectIdentifier.{name_octets};
+ghost use Rattle.dms_wire_ber.specs.Element.{element};
+ghost use Rattle.dms_wire_ber.specs.ObjectIdentifier.{name_octets};
 ghost use Rattle.dms_wire.specs.Canonical.{value_octets, binding_octets};
 ghost use Rattle.dms_wire.specs.Written.{octets_of_bindings};
-ghost use Rattle.dms_ber.specs.Limits.{longest_datagram};
+ghost use Rattle.dms_wire_ber.specs.Limits.{longest_datagram};
 
 use crate::fault::TooBig;
 use crate::value::{Value, put_value, read_value, size_of_value};
-use dms_ber::{
+use dms_wire_ber::{
     MAX_DATAGRAM, Oid, Out, WireFault, ended, is_name, offset_of, put_head, put_octets,
     read_content, read_element, read_name, size_of_element, size_of_octets, tag,
 };

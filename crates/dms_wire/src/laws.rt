@@ -7,7 +7,7 @@ ghost use Rattle.dms_wire.specs.Spelling.{Spells};
 ghost use Rattle.dms_wire.specs.Canonical.{canonical};
 ghost use Rattle.dms_wire.specs.Response.{response_to};
 ghost use Rattle.dms_wire.specs.MessageOf.{message_of};
-ghost use Rattle.dms_ber.specs.Limits.{longest_datagram};
+ghost use Rattle.dms_wire_ber.specs.Limits.{longest_datagram};
 
 /// Octets spell at most one message.
 pub fn one_message()

@@ -24,7 +24,7 @@ mod tag;
 pub mod value;
 
 pub use binding::{Bind, BindingOctets, Binds, MAX_BINDINGS};
-pub use dms_ber::{FaultKind, MAX_DATAGRAM, Numbers, Oid, Out, WireFault, oid_cmp};
+pub use dms_wire_ber::{FaultKind, MAX_DATAGRAM, Numbers, Oid, Out, WireFault, oid_cmp};
 pub use error_status::ErrorStatus;
 pub use fault::TooBig;
 pub use message::{

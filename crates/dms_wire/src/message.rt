@@ -15,13 +15,13 @@ ghost use Rattle.dms_wire.specs.MessageOf.{message_of};
 ghost use Rattle.dms_wire.specs.Canonical.{binding_octets, numbers_octets, canonical};
 ghost use Rattle.dms_wire.specs.Response.{response_with, response_to};
 ghost use Rattle.dms_wire.specs.Written.{octets_of_bindings, IsWritten};
-ghost use Rattle.dms_ber.specs.Reading.{Gives, fault};
+ghost use Rattle.dms_wire_ber.specs.Reading.{Gives, fault};
 ghost use Rattle.dms_wire.specs.Reading.{version_at, pdu_at, tagged_pdu_at, kind_of, inside_at};
 ghost use Rattle.dms_wire.specs.Reading.{outer_content, outer_at, datagram_at, message_at};
 ghost use Rattle.dms_wire.specs.View.{var_bind, message_around, snmp_message, snmp_message_of_parts};
 ghost use Rattle.dms_wire.specs.PduView.{numbered};
 ghost use Rattle.dms_wire.specs.Prefix.{pdu_size, content_size, message_size, pdu_prefix, message_prefix, prefix};
-ghost use Rattle.dms_ber.specs.Limits.{longest_datagram};
+ghost use Rattle.dms_wire_ber.specs.Limits.{longest_datagram};
 
 use crate::binding::{
     Bind, BindingOctets, Binds, list, put_binding_of_size, put_bindings, size_of_bindings,
@@ -30,7 +30,7 @@ use crate::binding::{
 use crate::error_status::ErrorStatus;
 use crate::fault::TooBig;
 use crate::tag;
-use dms_ber::{
+use dms_wire_ber::{
     FaultKind, MAX_DATAGRAM, Out, WireFault, ended, fault_at, integer_of, offset_of, put_content,
     put_head, put_integer, put_integers, put_octets, read_content, read_element, read_integer,
     read_length, size_of_element, size_of_integer, size_of_octets, tag as universal,

@@ -3,14 +3,14 @@
 ghost use Rattle.std.specs.Prelude.{◌≡◌, ◌↔◌, ℕ, ◌+◌, ◌^◌, ◌<◌, ◌≤◌, ◌++◌, List, [], ◌∷◌, pos};
 ghost use Rattle.std.specs.Prelude.{length, map, IsOk, IfOk, OnOk, OnErr, IfSome, IfNone};
 ghost use Rattle.arrayvec.specs.ArrayVec.{array_vec_len};
-ghost use Rattle.dms_ber.specs.Reading.{Gives};
+ghost use Rattle.dms_wire_ber.specs.Reading.{Gives};
 ghost use Rattle.dms_wire.specs.Reading.{value_from, after_tag, is_value_tag, value_at};
 ghost use Rattle.dms_wire.specs.View.{object_value};
 ghost use Rattle.dms_wire.specs.Canonical.{value_octets};
-ghost use Rattle.dms_ber.specs.Limits.{longest_datagram};
+ghost use Rattle.dms_wire_ber.specs.Limits.{longest_datagram};
 
 use crate::tag;
-use dms_ber::{
+use dms_wire_ber::{
     FaultKind, Oid, Out, WireFault, fault_at, integer_of, name_of, natural_of, offset_of,
     put_empty, put_integer, put_octets, put_unsigned, read_content, size_of_integer,
     size_of_octets, size_of_unsigned, tag as universal,

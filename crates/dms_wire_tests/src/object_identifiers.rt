@@ -1,6 +1,6 @@
 //! Object identifiers by their content octets.
 
-use dms_ber::{Oid, oid_cmp, read_name};
+use dms_wire_ber::{Oid, oid_cmp, read_name};
 use std::cmp::Ordering;
 use std::process::Abort;
 use std::test::Fail;

@@ -25,7 +25,7 @@ use Rattle.dms_sign.specs.State.{ConfigModel, SignState, start as sign_start}
 use Rattle.dms_sign.specs.InRange.{IsMadeOfOctets, IsRowInRange, IsSignInRange}
 use Rattle.dms_sign.proofs.InRangeStart.{faultless_is_stocked}
 use Rattle.dms_centre.specs.State.{CentreState}
-use Rattle.dms_requests.specs.Requests.{AreSettings}
+use Rattle.dms_centre_jobs.specs.Requests.{AreSettings}
 use Rattle.dms_codes.specs.declared.codes.Activation.{Activation}
 use Rattle.dms_world.specs.World.{WorldModel, IsFresh, beginning}
 use Rattle.dms_world.specs.Construction.{IsNewSign, IsNewCentre}

@@ -3,7 +3,7 @@ use Rattle.std.proofs.Common.{◌≡◌, ℕ, zero, suc, ◌<◌, ◌≤◌, inl
 use Rattle.std.proofs.lemmas.Bool.{cases_lt}
 use Rattle.dms_codes.specs.declared.codes.Activation.{Activation}
 use Rattle.dms_sign.specs.Reply as sign_reply
-use Rattle.dms_requests.specs.Job.{SettingsModel}
+use Rattle.dms_centre_jobs.specs.Job.{SettingsModel}
 use Rattle.dms_centre.specs.Sending.{Move}
 use Rattle.dms_centre.specs.Commands.{commanded}
 use Rattle.dms_centre.specs.Inputs.{ticked}

@@ -25,10 +25,10 @@ use Rattle.dms_sign.specs.Promises.{activates}
 use Rattle.dms_sign_laws.proofs.Accepted.{accepted_was_asked_for, accepted_where_no_error}
 use Rattle.dms_sign_laws.proofs.InRangeReplies.{replies_spell_their_response}
 use Rattle.dms_centre.specs.declared.outcome.Outcome.TheVariants.{Accepted, Refused}
-use Rattle.dms_requests.specs.declared.step.Step.TheVariants.{Activating}
-use Rattle.dms_requests.specs.Job.{Showing}
+use Rattle.dms_centre_jobs.specs.declared.step.Step.TheVariants.{Activating}
+use Rattle.dms_centre_jobs.specs.Job.{Showing}
 use Rattle.dms_centre.specs.State.{Entry}
-use Rattle.dms_requests.specs.Steps.{request_of}
+use Rattle.dms_centre_jobs.specs.Steps.{request_of}
 use Rattle.dms_centre_laws.specs.RequestNumbers.{HasNumber}
 use Rattle.dms_centre_laws.specs.Ledger.{Answers, PutsUp}
 use Rattle.dms_centre_laws.proofs.Lists.{at_end}

@@ -17,7 +17,7 @@ use Rattle.dms_codes.specs.Memory.{current_buffer, blank_memory}
 use Rattle.dms_codes.specs.Codes.{activation_of}
 use Rattle.dms_table.specs.Activation.{ShownModel, named, is_memory, activation_error, put_up, put_up_row, shown_by, row_refusal, unless_refused, decided}
 use Rattle.dms_sign.specs.State.{SignState}
-use Rattle.dms_access.specs.Access.{Write, SetNumber, SetCode, SetField, AskRow, Activate, SetRemaining, is_command}
+use Rattle.dms_sign_access.specs.Access.{Write, SetNumber, SetCode, SetField, AskRow, Activate, SetRemaining, is_command}
 use Rattle.dms_sign.specs.SetRequest.{SetCause, causes, assigned}
 use Rattle.dms_sign.specs.Requests.{as_decided, commanded, commanded_if, writes_of, set_unless, may_write, answer_by, answer_of_any_size}
 use Rattle.dms_sign_laws.proofs.Accepted.{asked_accepts, found_accepts}

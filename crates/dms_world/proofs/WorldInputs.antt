@@ -1,8 +1,8 @@
 -- A world's centre has a history of inputs: each event gives it one at most.
 use Rattle.std.proofs.Common.{◌≡◌, ℕ, suc, List, Option, Some, None, option_map, slice_get, refl, ap, append-nil, arith}
-use Rattle.dms_requests.specs.Commands.{CommandModel, IsCommand}
+use Rattle.dms_centre_jobs.specs.Commands.{CommandModel, IsCommand}
 use Rattle.dms_centre.specs.Inputs.{restarted}
-use Rattle.dms_requests.specs.Requests.{AreSettings}
+use Rattle.dms_centre_jobs.specs.Requests.{AreSettings}
 use Rattle.dms_centre.specs.History.{Input, Commands, Hears, Ticks, Restarts, IsInput, OfCommand, OfDatagram, OfTick, OfRestart, History, made, after_input}
 use Rattle.dms_world.specs.Event.{EventModel, command, sign_tick, centre_tick, to_sign, to_centre, power_lost, power_back, centre_restart, forge_sign, forge_centre}
 use Rattle.dms_world.specs.World.{WorldModel, at_sign, at_centre, with_centre, happens, happens_if, world_at, IsFresh}

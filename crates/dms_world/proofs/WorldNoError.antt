@@ -12,7 +12,7 @@ use Rattle.dms_codes.specs.Codes.{activation_of}
 use Rattle.dms_sign.specs.State.{SignState}
 use Rattle.dms_sign.specs.Requests.{Answer, answer_of_any_size}
 use Rattle.dms_sign.specs.Reply as sign_reply
-use Rattle.dms_ber.specs.Limits.{longest_datagram}
+use Rattle.dms_wire_ber.specs.Limits.{longest_datagram}
 use Rattle.dms_sign.specs.Reply.{response_of, too_big, heard}
 use Rattle.dms_sign.specs.InRange.{IsSpelledReply}
 use Rattle.dms_sign.specs.Reply.{response_sent}

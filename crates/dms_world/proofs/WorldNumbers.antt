@@ -1,6 +1,6 @@
 -- The numbers of the requests to a sign, and the entries that they belong to, after any events.
 use Rattle.std.proofs.Common.{◌≡◌, ℕ, zero, suc, List, Option, Some, None, length, refl, sym, ◌∙◌, subst, arith}
-use Rattle.dms_requests.specs.Job.{SettingsModel, Job}
+use Rattle.dms_centre_jobs.specs.Job.{SettingsModel, Job}
 use Rattle.dms_centre.specs.State.{Pending, Awaits}
 use Rattle.dms_centre.specs.History.{Input, History}
 use Rattle.dms_centre_laws.specs.RequestNumbers.{AreRequests, EqualNumbersMeanEqualOctets, ThreeSendsAtMost}

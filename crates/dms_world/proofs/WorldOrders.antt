@@ -1,10 +1,10 @@
 -- What each event makes of a centre's ledger, and that each code of it is that of a command which the centre took.
 use Rattle.std.proofs.Common.{◌≡◌, ◌⊎◌, inr, ℕ, zero, suc, List, length, Option, Some, None, option_map, slice_get, refl, sym, ap, ◌∙◌, subst, arith}
 use Rattle.std.proofs.lemmas.Option.{none-some}
-use Rattle.dms_requests.specs.Job.{Work}
+use Rattle.dms_centre_jobs.specs.Job.{Work}
 use Rattle.dms_centre.specs.State.{Entry, CentreState}
-use Rattle.dms_requests.specs.Steps.{code_of}
-use Rattle.dms_requests.specs.Commands.{CommandModel, job_of}
+use Rattle.dms_centre_jobs.specs.Steps.{code_of}
+use Rattle.dms_centre_jobs.specs.Commands.{CommandModel, job_of}
 use Rattle.dms_centre.specs.Commands.{refusal_of}
 use Rattle.dms_centre.specs.History.{Input, Hears, IsInput, History, move_at, after_input}
 use Rattle.dms_centre_laws.specs.Ledger.{LedgerMoves}

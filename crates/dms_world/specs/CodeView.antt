@@ -1,6 +1,6 @@
 -- What the code's events and worlds say (this profile).
 use Rattle.std.specs.Prelude.{◌≡◌, ℕ, List, ◌++◌, map, take, codes, decimal, vec_capacity, Result, Ok, Err}
-use Rattle.dms_requests.specs.CodeView.{command_model}
+use Rattle.dms_centre_jobs.specs.CodeView.{command_model}
 use Rattle.dms_world.specs.declared.event.Event.{Event}
 use Rattle.dms_world.specs.declared.event.Event.TheVariants as events
 use Rattle.dms_world.specs.declared.world.World.{World}

@@ -5,7 +5,7 @@ use Rattle.dms_table.specs.Stock.{table_of}
 use Rattle.dms_sign.specs.declared.config.Config.{Config}
 use Rattle.dms_sign.specs.Configuration.{config_of, config_fault}
 use Rattle.dms_sign.specs.State.{SignState, start as sign_start}
-use Rattle.dms_requests.specs.Job.{SettingsModel}
+use Rattle.dms_centre_jobs.specs.Job.{SettingsModel}
 use Rattle.dms_centre.specs.State.{CentreState, start as centre_start}
 
 -- the sign of a configuration with which nothing is wrong

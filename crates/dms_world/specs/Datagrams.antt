@@ -1,5 +1,5 @@
 -- Datagrams in one list of octets, each by its place there: where it begins, and where it ends (this profile).
-use Rattle.dms_ber.specs.Limits.{longest_datagram}
+use Rattle.dms_wire_ber.specs.Limits.{longest_datagram}
 use Rattle.std.specs.Prelude.{ℕ, ◌≤◌, ◌+◌, Bool, ◌&&◌, nat_le, List, map, slice_range}
 
 -- the octets of each datagram, the oldest first, whether there is room for one more, however long a datagram may be,

@@ -1,7 +1,7 @@
 -- What holds of a sign and its centre after any events (this profile). These are commands, ticks, losses of power,
 -- restarts and deliveries, with datagrams lost, repeated, reordered and forged.
 use Rattle.std.specs.Prelude.{◌≡◌, Bool, true, false, List, ⊤}
-use Rattle.dms_requests.specs.Commands.{CommandModel, IsCommand}
+use Rattle.dms_centre_jobs.specs.Commands.{CommandModel, IsCommand}
 use Rattle.dms_world.specs.Event.{EventModel, command, forge_sign, forge_centre}
 use Rattle.dms_world.specs.World.{WorldModel, IsFresh}
 use Rattle.dms_world.specs.Backed.{Has, IsBacked, CopiedDefaults}

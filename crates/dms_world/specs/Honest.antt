@@ -13,8 +13,8 @@ use Rattle.dms_sign.specs.Reply.{is_heard}
 use Rattle.dms_sign.specs.Promises.{activates}
 use Rattle.dms_centre.specs.declared.outcome.Outcome.TheVariants.{Accepted, Refused}
 use Rattle.dms_centre.specs.State.{Entry}
-use Rattle.dms_requests.specs.Steps.{code_of}
-use Rattle.dms_requests.specs.Commands.{CommandModel, job_of}
+use Rattle.dms_centre_jobs.specs.Steps.{code_of}
+use Rattle.dms_centre_jobs.specs.Commands.{CommandModel, job_of}
 use Rattle.dms_centre.specs.Commands.{refusal_of}
 use Rattle.dms_centre_laws.specs.RequestNumbers.{HasNumber, EqualNumbersMeanEqualOctets, ThreeSendsAtMost}
 use Rattle.dms_world.specs.Event.{EventModel, command, to_sign}

@@ -9,7 +9,7 @@ use Rattle.dms_wire.specs.MessageOf.{message_of}
 use Rattle.dms_codes.specs.Codes.{activation_of}
 use Rattle.dms_sign.specs.Promises.{activates}
 use Rattle.dms_sign.specs.Reply.{received as sign_received}
-use Rattle.dms_requests.specs.Job.{Job}
+use Rattle.dms_centre_jobs.specs.Job.{Job}
 use Rattle.dms_centre.specs.State.{Pending, Awaits}
 use Rattle.dms_centre_laws.specs.RequestNumbers.{HasNumber}
 use Rattle.dms_world.specs.Event.{EventModel, to_sign, forge_sign}

@@ -7,11 +7,11 @@ use Rattle.dms_sign.specs.State.{ConfigModel, SignState, start as sign_start}
 use Rattle.dms_sign.specs.Reply.{Received, received as sign_received}
 use Rattle.dms_sign.specs.InRange.{IsMadeOfOctets}
 use Rattle.dms_sign.specs.Events.{after_tick, after_power_loss, after_power_return}
-use Rattle.dms_requests.specs.Job.{SettingsModel}
+use Rattle.dms_centre_jobs.specs.Job.{SettingsModel}
 use Rattle.dms_centre.specs.State.{CentreState, start as centre_start}
 use Rattle.dms_centre.specs.Sending.{Move}
 use Rattle.dms_centre.specs.Commands.{commanded}
-use Rattle.dms_requests.specs.Requests.{AreSettings}
+use Rattle.dms_centre_jobs.specs.Requests.{AreSettings}
 use Rattle.dms_centre.specs.Inputs.{received as centre_received, ticked, restarted}
 use Rattle.dms_sign.specs.Construction.{CanBeMade}
 use Rattle.dms_world.specs.Event.{EventModel, command, sign_tick, centre_tick, to_sign, to_centre, power_lost}

@@ -2,7 +2,7 @@
 
 ghost use Rattle.std.specs.Prelude.{◌≡◌, ◌++◌, true, None, OnOk, OnErr, option_to_list};
 ghost use Rattle.dms_sign.specs.Reply.{received as sign_received};
-ghost use Rattle.dms_requests.specs.CodeView.{command_model};
+ghost use Rattle.dms_centre_jobs.specs.CodeView.{command_model};
 ghost use Rattle.dms_centre.specs.CodeView.{sent_in};
 ghost use Rattle.dms_centre.specs.Commands.{commanded, refusal_of};
 ghost use Rattle.dms_centre.specs.Inputs.{received as centre_received, ticked};

@@ -1,8 +1,8 @@
 //! A dynamic message sign's controller and its central system on the command line.
 //!
-//! `signtool CALL ..` hands its words to dms_cli, and the call that they are, its input and its outputs to dms_acts.
-//! This page says what can be asked of it, each call with what it prints. The rules behind the answers are those of
-//! docs/PROFILE.md.
+//! `signtool CALL ..` hands its words to signtool_cli, and the call that they are, its input and its outputs to
+//! signtool_acts. This page says what can be asked of it, each call with what it prints. The rules behind the answers
+//! are those of docs/PROFILE.md.
 //!
 //! # Which sign
 //!
@@ -135,8 +135,8 @@
 //! refused or a datagram is dropped is said in words on standard error.
 #![tactic(auto)]
 
-use dms_acts::{ExitStatus, act_saying};
-use dms_cli::asked;
+use signtool_acts::{ExitStatus, act_saying};
+use signtool_cli::asked;
 use std::env::{Env, FillError};
 use std::io;
 use std::process::ExitCode;

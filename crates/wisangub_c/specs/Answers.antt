@@ -1,8 +1,8 @@
 -- What the library answers to C, and what it leaves in a buffer (this profile).
 use Rattle.std.specs.Prelude.{ℕ, ◌==◌, if◌then◌else◌, List, ◌++◌, drop, length, nat_lt, Option, Some, None}
-use Rattle.dms_ber.specs.Limits.{longest_datagram}
-use Rattle.dms_description.specs.declared.fault.DescriptionFault.{DescriptionFault}
-use Rattle.dms_description.specs.declared.fault.DescriptionFault.TheVariants as faults
+use Rattle.dms_wire_ber.specs.Limits.{longest_datagram}
+use Rattle.dms_sign_text.specs.declared.fault.DescriptionFault.{DescriptionFault}
+use Rattle.dms_sign_text.specs.declared.fault.DescriptionFault.TheVariants as faults
 use Rattle.dms_sign.specs.State.{SignState}
 use Rattle.dms_sign.specs.Reply.{received}
 

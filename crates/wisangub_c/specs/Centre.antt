@@ -11,9 +11,9 @@ use Rattle.dms_centre.specs.declared.ended.Why.{Why}
 use Rattle.dms_centre.specs.declared.ended.Why.TheVariants as reasons
 use Rattle.dms_centre.specs.State.{CentreState, Entry, is_busy}
 use Rattle.dms_centre.specs.Room.{CentreModel, enters_by}
-use Rattle.dms_requests.specs.Commands.{CommandModel}
+use Rattle.dms_centre_jobs.specs.Commands.{CommandModel}
 use Rattle.dms_centre.specs.Commands.{commanded, refusal_of}
-use Rattle.dms_commands.specs.CommandReading.{command_of}
+use Rattle.dms_centre_text.specs.CommandReading.{command_of}
 use Rattle.dms_centre_lines.specs.Calls.{CentreCall, command}
 use Rattle.dms_centre_lines.specs.CallReading.{or_command}
 use Rattle.wisangub_c.specs.declared.code_calls.CodeParts.{CodeParts}

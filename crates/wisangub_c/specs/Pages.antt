@@ -1,10 +1,10 @@
 -- The pages of what a sign shows and of a text, as they are given to C (this profile).
 use Rattle.std.specs.Prelude.{ℕ, List, length, Result, Ok, Err}
 use Rattle.dms_face.specs.declared.multi_fault.MultiFault.{MultiFault}
-use Rattle.dms_pages.specs.Drawn.{DrawnPage}
+use Rattle.dms_face_pages.specs.Drawn.{DrawnPage}
 use Rattle.dms_sign.specs.State.{SignState}
-use Rattle.dms_lines.specs.declared.page_octets.Layer.{Layer}
-use Rattle.dms_lines.specs.PageOctets.{pages_octets}
+use Rattle.dms_face_lines.specs.declared.page_octets.Layer.{Layer}
+use Rattle.dms_face_lines.specs.PageOctets.{pages_octets}
 use Rattle.dms_sign_lines.specs.Answer.{shown_pages}
 use Rattle.wisangub_c.specs.Answers.{at_fault, given_answer, given_buffer}
 

@@ -3,19 +3,19 @@
 ghost use Rattle.std.specs.Prelude.{◌≡◌, ◌⊎◌, ◌≤◌, ◌<◌, ◌==◌, true, false, length, IsTrue, slice_get};
 ghost use Rattle.std.specs.Prelude.{None, IfOk, IfErr};
 ghost use denote.RawPtr.{null_ptr};
-ghost use Rattle.dms_ber.specs.Limits.{longest_datagram};
+ghost use Rattle.dms_wire_ber.specs.Limits.{longest_datagram};
 ghost use Rattle.dms_codes.specs.Limits.{has_community_size};
 ghost use Rattle.dms_centre.specs.State.{start};
 ghost use Rattle.dms_centre.specs.Inputs.{received, ticked, restarted};
 ghost use Rattle.dms_centre.specs.Room.{enters_at_tick};
 ghost use Rattle.dms_centre.specs.Commands.{commanded, refusal_of};
-ghost use Rattle.dms_requests.specs.CodeView.{command_model};
+ghost use Rattle.dms_centre_jobs.specs.CodeView.{command_model};
 ghost use Rattle.dms_centre.specs.CodeView.{settings_model, entry_model, sent_in};
 ghost use Rattle.wisangub_c.specs.Answers.{done, no_memory, too_small, at_fault, unless_memory, answer_of, size_of};
 ghost use Rattle.wisangub_c.specs.Answers.{buffer_with};
 ghost use Rattle.wisangub_c.specs.Codes.{order_of};
 ghost use Rattle.dms_centre.specs.Room.{enters_by};
-ghost use Rattle.dms_commands.specs.CommandReading.{IsOfOctets};
+ghost use Rattle.dms_centre_text.specs.CommandReading.{IsOfOctets};
 ghost use Rattle.wisangub_c.specs.Centre.{IsPlaced, command_in, refusal_answer, given_command_answer};
 ghost use Rattle.wisangub_c.specs.Centre.{given_command_size, given_command_buffer, command_answer, command_size};
 ghost use Rattle.wisangub_c.specs.Centre.{command_buffer, after_command, enters_by_call, code_parts};
@@ -34,8 +34,8 @@ use crate::loose::Loose;
 use dms_centre::{
     Centre, CentreFault, Command, CommandFault, Ended, Entry, Outcome, Settings, Why,
 };
+use dms_centre_text::read_command;
 use dms_codes::Activation;
-use dms_commands::read_command;
 use dms_wire::{MAX_DATAGRAM, Out};
 use std::alloc::Global;
 

@@ -3,10 +3,10 @@
 ghost use Rattle.std.specs.Prelude.{◌≡◌, ◌⊎◌, ◌≤◌, ◌==◌, false, length, Some, None, IfOk, IfErr};
 ghost use Rattle.std.specs.Str.Lines.{lines};
 ghost use denote.RawPtr.{null_ptr};
-ghost use Rattle.dms_ber.specs.Limits.{longest_datagram};
+ghost use Rattle.dms_wire_ber.specs.Limits.{longest_datagram};
 ghost use Rattle.dms_text.specs.Lines.{kept_lines};
-ghost use Rattle.dms_description.specs.Description.{Description, SpellsSign};
-ghost use Rattle.dms_description.specs.RefusedLine.{all_numbered, IsRefusedLine, NamesLine};
+ghost use Rattle.dms_sign_text.specs.Description.{Description, SpellsSign};
+ghost use Rattle.dms_sign_text.specs.RefusedLine.{all_numbered, IsRefusedLine, NamesLine};
 ghost use Rattle.dms_sign.specs.State.{start};
 ghost use Rattle.dms_sign.specs.Reply.{received, after_get};
 ghost use Rattle.dms_sign.specs.Events.{after_tick, after_power_loss, after_power_return};
@@ -18,8 +18,8 @@ use crate::answers::{AT_FAULT, DONE, NO_MEMORY, NOTHING_SENT, TOO_SMALL, put_fir
 use crate::loose::Loose;
 use crate::sign_handle::SignHandle;
 use crate::sign_place::SignPlace;
-use dms_description::{DescriptionFault, Setup, description};
 use dms_sign::{Receipt, Sign};
+use dms_sign_text::{DescriptionFault, Setup, description};
 use dms_wire::{MAX_DATAGRAM, Out};
 use std::alloc::Global;
 

@@ -63,7 +63,7 @@ def test_crates(made: MakesTree) -> None:
 
 
 def test_houses(made: MakesTree) -> None:
-    listed = "# NAME: a sentence.\n\n# octets\none: two\n\n# both ends\ntwo:\n"
+    listed = "# NAME: a sentence.\n\n## octets: one\n\n# words\none: two\n\n## both ends: two\n\ntwo:\n"
     heads = "# Page\n## Octets\none\n## Both ends\ntwo\n"
     table = "| **Octets**: one | |\n| **Both ends**: none | |\n"
     other = "## Both ends\none two\n## Octets\ntwo\n"
@@ -107,7 +107,7 @@ def test_sizes(made: MakesTree) -> None:
     assert crates.large(longer) == ["one: 2,001 lines of code, 2,000 at most", "two: 131 functions, 130 at most"]
 
 
-LISTED = "# low\nfirst:\nsecond: first\n# high\nthird: first second other\nthird_tests: third\n"
+LISTED = "## low: first\nfirst:\nsecond: first\n## high: third\nthird: first second other\nthird_tests: third\n"
 
 
 def test_nearest(made: MakesTree) -> None:

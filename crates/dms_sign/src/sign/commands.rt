@@ -5,16 +5,16 @@ ghost use Rattle.dms_wire.specs.Limits.{AreBindingsInLimits, most_bindings};
 ghost use Rattle.dms_table.specs.Rows.{asked};
 ghost use Rattle.dms_table.specs.Activation.{shown_by};
 ghost use Rattle.dms_sign.specs.InRange.{AreOctets, IsShownInRange};
-ghost use Rattle.dms_access.specs.Access.{AskRow, Activate};
-ghost use Rattle.dms_access.specs.ChangeView.{write_by};
+ghost use Rattle.dms_sign_access.specs.Access.{AskRow, Activate};
+ghost use Rattle.dms_sign_access.specs.ChangeView.{write_by};
 ghost use Rattle.dms_sign.specs.SetView.{AreSettings, IsCommandInRange, Says, StaysWithout};
 ghost use Rattle.dms_sign.specs.SetRequest.{assigned};
 ghost use Rattle.dms_sign.specs.Requests.{activated, with_remaining, writes_of, commanded, commanded_if, set};
 
 use crate::sign::set_request::{Judged, Refusal, write_fields};
 use crate::sign::{Sign, judge};
-use dms_access::{Change, Settings};
 use dms_codes::{Activation, Ask, RowId};
+use dms_sign_access::{Change, Settings};
 use dms_table::{Mode, seconds_of};
 use dms_wire::{Binds, ErrorStatus};
 

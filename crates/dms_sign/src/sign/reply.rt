@@ -14,7 +14,7 @@ ghost use Rattle.dms_sign.specs.declared.sign.reply.Receipt.TheVariants.{Dropped
 
 use crate::sign::Sign;
 use dms_codes::Activation;
-use dms_objects::Name;
+use dms_mib::Name;
 use dms_wire::{
     Bind, BindingOctets, ErrorStatus, Kind, Message, Out, heard, write_around, write_binding,
     write_response,

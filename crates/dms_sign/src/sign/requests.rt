@@ -9,7 +9,7 @@ ghost use Rattle.dms_sign.specs.Values.{bound, value_after};
 ghost use Rattle.dms_sign.specs.Requests.{has_no_value, with_value, is_last, next_after};
 
 use crate::sign::Sign;
-use dms_objects::{Instance, Name};
+use dms_mib::{Instance, Name};
 use dms_wire::{Bind, BindingOctets, Binds, Oid, Value};
 
 impl Sign {

@@ -5,23 +5,23 @@ ghost use Rattle.std.specs.Prelude.{false, length, take, find, option_map, slice
 ghost use Rattle.std.specs.List.{list_any, cons_option};
 ghost use Rattle.dms_wire.specs.Limits.{most_bindings};
 ghost use Rattle.dms_wire.specs.View.{var_bind};
-ghost use Rattle.dms_instances.specs.Places.{HasCounts};
+ghost use Rattle.dms_mib_instances.specs.Places.{HasCounts};
 ghost use Rattle.dms_sign.specs.State.{SignState};
-ghost use Rattle.dms_access.specs.Access.{is_command};
-ghost use Rattle.dms_access.specs.ChangeView.{write_by, IsChange};
+ghost use Rattle.dms_sign_access.specs.Access.{is_command};
+ghost use Rattle.dms_sign_access.specs.ChangeView.{write_by, IsChange};
 ghost use Rattle.dms_sign.specs.SetView.{refusal_of, is_field, StaysWithout};
-ghost use Rattle.dms_access.specs.Settings.{set_by};
+ghost use Rattle.dms_sign_access.specs.Settings.{set_by};
 ghost use Rattle.dms_sign.specs.SetRequest.{settable_instance, write_at, is_command_at};
 ghost use Rattle.dms_sign.specs.SetRequest.{is_refused_field, causes_at, causes, with_writes};
-ghost use Rattle.dms_access.specs.Slots.{AreTaken};
+ghost use Rattle.dms_sign_access.specs.Slots.{AreTaken};
 ghost use Rattle.dms_sign.specs.Requests.{writes_of, command_index};
 
 use crate::sign::Sign;
-use dms_access::{Change, Settings, Slots, is_settable, mark_name, was_given, write_of};
 use dms_codes::Status;
 use dms_face::Face;
-use dms_instances::Counts;
-use dms_objects::Instance;
+use dms_mib::Instance;
+use dms_mib_instances::Counts;
+use dms_sign_access::{Change, Settings, Slots, is_settable, mark_name, was_given, write_of};
 use dms_table::Table;
 use dms_wire::{Bind, Binds, ErrorStatus, Oid};
 
@@ -159,7 +159,7 @@ impl Sign {
 
 impl<'a> Judged<'a> {
     /// Notes what the binding of this index writes.
-    #[tactic(auto, unfolding(dms_access::specs::Settings::set_by))]
+    #[tactic(auto, unfolding(dms_sign_access::specs::Settings::set_by))]
     fn note(&mut self, index: u32, change: Change<'a>)
         requires { IsChange change }
         ensures settings { self.new.settings ≡ set_by self.old.settings (write_by change.entry ∷ []) }

@@ -4,16 +4,16 @@ ghost use Rattle.std.specs.Prelude.{◌≡◌, ◌<◌, ◌*◌, option_map};
 ghost use Rattle.dms_table.specs.Activation.{message_at};
 ghost use Rattle.dms_table.specs.Rows.{valid_count, row_count};
 ghost use Rattle.dms_wire.specs.View.{object_value};
-ghost use Rattle.dms_instances.specs.Objects.{instance_named};
-ghost use Rattle.dms_instances.specs.Places.{HasCounts};
-ghost use Rattle.dms_access.specs.Cells.{number_value, cell_value};
+ghost use Rattle.dms_mib_instances.specs.Objects.{instance_named};
+ghost use Rattle.dms_mib_instances.specs.Places.{HasCounts};
+ghost use Rattle.dms_sign_access.specs.Cells.{number_value, cell_value};
 ghost use Rattle.dms_sign.specs.Values.{free_octets, scalar_value, value_at, value_of};
 
 use crate::sign::Sign;
-use dms_access::{cell_value, number_value, shown_value, small_value};
 use dms_codes::{MAX_TEXT, RowId, memory};
-use dms_instances::Counts;
-use dms_objects::{Column, Instance, Scalar};
+use dms_mib::{Column, Instance, Scalar};
+use dms_mib_instances::Counts;
+use dms_sign_access::{cell_value, number_value, shown_value, small_value};
 use dms_wire::{Oid, Value};
 
 impl Sign {

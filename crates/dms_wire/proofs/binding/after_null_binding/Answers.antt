@@ -1,5 +1,5 @@
 use Rattle.std.proofs.Common.{◌≡◌, ◌∷◌, ◌++◌, List, ℕ, true, rules, sym, ap, ◌∙◌, arith, take-append-drop}
-use Rattle.dms_ber.specs.NameReading.{is_name, numbers_of}
+use Rattle.dms_wire_ber.specs.NameReading.{is_name, numbers_of}
 use Rattle.dms_wire.specs.Message.{null}
 use Rattle.dms_wire.proofs.Bindings.{null_binding}
 use Rattle.dms_wire.proofs.binding.after_null_binding.Goals as goal

@@ -1,5 +1,5 @@
 use Rattle.std.proofs.Common.{arith}
-use Rattle.dms_ber.proofs.Elements.{not_ok}
+use Rattle.dms_wire_ber.proofs.Elements.{not_ok}
 use Rattle.dms_wire.proofs.Bindings.{known_name, known_value, known_members_are, some_element}
 use Rattle.dms_wire.proofs.binding.known_members.Goals as goal
 

@@ -1,6 +1,6 @@
 use Rattle.std.proofs.Common.{arith}
 use Rattle.std.proofs.lemmas.Grind.{common_steps}
-use Rattle.dms_ber.specs.Reading.{length_at, content_at, element_at, integer_value}
+use Rattle.dms_wire_ber.specs.Reading.{length_at, content_at, element_at, integer_value}
 use Rattle.dms_wire.specs.Reading.{version_at}
 use Rattle.dms_wire.proofs.message.after_version.Goals as goal
 

@@ -1,9 +1,9 @@
 use Rattle.std.proofs.Common.{◌↔◌, ℕ, List, Result, IsOk, arith}
 use Rattle.std.specs.Int.Digits.{AllBelowBase}
-use Rattle.dms_ber.specs.declared.fault.WireFault.{WireFault}
+use Rattle.dms_wire_ber.specs.declared.fault.WireFault.{WireFault}
 use Rattle.dms_wire.specs.declared.message.Message.{Message}
 use Rattle.dms_wire.specs.Message.{SnmpMessage}
-use Rattle.dms_ber.specs.Reading.{Gives}
+use Rattle.dms_wire_ber.specs.Reading.{Gives}
 use Rattle.dms_wire.specs.Reading.{message_at}
 use Rattle.dms_wire.specs.Spelling.{Spells}
 use Rattle.dms_wire.specs.View.{snmp_message}

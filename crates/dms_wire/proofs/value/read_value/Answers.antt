@@ -1,6 +1,6 @@
 use Rattle.std.proofs.Common.{arith}
 use Rattle.std.proofs.lemmas.Grind.{common_steps}
-use Rattle.dms_ber.specs.Reading.{content_at, length_at}
+use Rattle.dms_wire_ber.specs.Reading.{content_at, length_at}
 use Rattle.dms_wire.specs.Reading.{value_at, after_tag, value_from}
 use Rattle.dms_wire.proofs.value.read_value.Goals as goal
 

@@ -1,5 +1,5 @@
 use Rattle.std.proofs.Common.{sym, subst, ap, ◌∙◌, refl}
-use Rattle.dms_instances.specs.Places.{HasCounts}
+use Rattle.dms_mib_instances.specs.Places.{HasCounts}
 use Rattle.dms_sign.specs.State.{SignState}
 use Rattle.dms_sign.specs.SetRequest.{assigned}
 use Rattle.dms_sign.specs.Requests.{writes_of}

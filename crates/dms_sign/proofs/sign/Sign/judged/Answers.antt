@@ -1,12 +1,12 @@
 use Rattle.std.proofs.Common.{◌≡◌, ◌+◌, [], ◌∷◌, ◌++◌, true, false, take, is_some, refl, sym, subst, ◌∙◌, arith}
 use Rattle.std.specs.Prelude.{option_map}
 use Rattle.dms_wire.specs.View.{var_bind}
-use Rattle.dms_access.specs.Access.{is_command}
-use Rattle.dms_access.specs.ChangeView.{write_by}
+use Rattle.dms_sign_access.specs.Access.{is_command}
+use Rattle.dms_sign_access.specs.ChangeView.{write_by}
 use Rattle.dms_codes.proofs.Options.{is_some_mapped}
 use Rattle.dms_sign.proofs.Causes.{judged_starts, judged_more, judged_refused, judged_all, all_taken, stays_more}
 use Rattle.dms_sign.specs.SetView.{StaysWithout}
-use Rattle.dms_access.specs.Slots.{AreTaken}
+use Rattle.dms_sign_access.specs.Slots.{AreTaken}
 use Rattle.dms_sign.proofs.Causes.{one_more}
 use Rattle.dms_sign.proofs.sign.Sign.judged.Goals as goal
 

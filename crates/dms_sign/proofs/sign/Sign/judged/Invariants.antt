@@ -1,7 +1,7 @@
 use Rattle.std.proofs.Common.{take}
 use Rattle.std.specs.Prelude.{option_map}
-use Rattle.dms_access.specs.ChangeView.{write_by}
-use Rattle.dms_access.specs.Slots.{AreTaken}
+use Rattle.dms_sign_access.specs.ChangeView.{write_by}
+use Rattle.dms_sign_access.specs.Slots.{AreTaken}
 use Rattle.dms_sign.specs.SetView.{StaysWithout}
 use Rattle.dms_sign.proofs.Causes.{HasJudged}
 use Rattle.dms_sign.proofs.sign.Sign.judged.Given as goal

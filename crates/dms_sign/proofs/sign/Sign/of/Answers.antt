@@ -4,7 +4,7 @@ use Rattle.dms_face.specs.declared.defaults.Defaults.{Defaults}
 use Rattle.dms_face.specs.Face.{fit}
 use Rattle.dms_sign.specs.KnownTexts.{first_known}
 use Rattle.dms_sign.proofs.KnownTexts.{known_made}
-use Rattle.dms_access.specs.Ranges.{AreDefaultsInRange}
+use Rattle.dms_sign_access.specs.Ranges.{AreDefaultsInRange}
 use Rattle.dms_sign.specs.State.{ConfigModel}
 use Rattle.dms_sign.proofs.Wholes.{made_kept, made_state, made_source}
 use Rattle.dms_sign.proofs.sign.Sign.of.Goals as goal

@@ -1,7 +1,7 @@
 use Rattle.std.proofs.Common.{◌≡◌, None, refl, sym, subst, ap, ◌∙◌, arith}
 use Rattle.std.specs.Prelude.{option_map}
 use Rattle.dms_sign.specs.Requests.{Answer}
-use Rattle.dms_access.specs.ChangeView.{write_by}
+use Rattle.dms_sign_access.specs.ChangeView.{write_by}
 use Rattle.dms_sign.specs.SetView.{refusal_of, Says}
 use Rattle.dms_sign.proofs.Assigned.{judged_settings, command_in_range, set_commanded, set_refused}
 use Rattle.dms_sign.proofs.sign.Sign.set.Goals as goal

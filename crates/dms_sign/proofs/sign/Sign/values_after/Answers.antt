@@ -1,5 +1,5 @@
 use Rattle.std.proofs.Common.{ap, ◌∙◌}
-use Rattle.dms_objects.specs.Names.{name_of}
+use Rattle.dms_mib.specs.Names.{name_of}
 use Rattle.dms_wire.specs.Message.{VarBind}
 use Rattle.dms_wire.specs.View.{object_value}
 use Rattle.dms_sign.specs.Values.{bound}

@@ -1,8 +1,8 @@
 use Rattle.std.proofs.Common.{◌≡◌, false, sym, ap, ◌∙◌, arith}
 use Rattle.std.specs.Prelude.{option_map}
 use Rattle.dms_wire.specs.View.{var_bind}
-use Rattle.dms_access.specs.Access.{is_settable}
-use Rattle.dms_access.specs.ChangeView.{write_by}
+use Rattle.dms_sign_access.specs.Access.{is_settable}
+use Rattle.dms_sign_access.specs.ChangeView.{write_by}
 use Rattle.dms_sign.proofs.Assigned.{settable_there, settable_not, settable_none}
 use Rattle.dms_sign.proofs.sign.set_request.change_of.Goals as goal
 

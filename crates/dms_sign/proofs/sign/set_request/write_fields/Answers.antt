@@ -2,7 +2,7 @@ use Rattle.std.proofs.Common.{◌++◌, [], ◌∷◌, sym, ap, ◌∙◌}
 use Rattle.std.specs.Prelude.{option_map}
 use Rattle.std.proofs.lemmas.List.{append_assoc}
 use Rattle.dms_wire.specs.View.{var_bind}
-use Rattle.dms_access.specs.ChangeView.{write_by}
+use Rattle.dms_sign_access.specs.ChangeView.{write_by}
 use Rattle.dms_sign.proofs.Assigned.{fields_more}
 use Rattle.dms_sign.proofs.sign.set_request.write_fields.Goals as goal
 

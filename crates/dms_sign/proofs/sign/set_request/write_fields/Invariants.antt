@@ -1,6 +1,6 @@
 use Rattle.std.proofs.Common.{◌≡◌, ◌++◌, List}
 use Rattle.dms_wire.specs.Message.{VarBind}
-use Rattle.dms_instances.specs.Places.{HasCounts}
+use Rattle.dms_mib_instances.specs.Places.{HasCounts}
 use Rattle.dms_sign.specs.State.{SignState}
 use Rattle.dms_sign.specs.SetRequest.{with_writes}
 use Rattle.dms_sign.specs.Requests.{writes_of}

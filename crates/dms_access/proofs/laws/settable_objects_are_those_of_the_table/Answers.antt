@@ -1,5 +1,0 @@
-use Rattle.dms_access.proofs.Settable.{settable}
-use Rattle.dms_access.proofs.laws.settable_objects_are_those_of_the_table.Goals as goal
-
-pub returns : goal.returns
-returns c = settable

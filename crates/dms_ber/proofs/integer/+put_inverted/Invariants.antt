@@ -1,4 +1,0 @@
-use Rattle.dms_ber.proofs.integer.+put_inverted.Given as goal
-
-abbrev pub decreases-put_inverted : goal.decreases-put_inverted
-decreases-put_inverted l = l.number

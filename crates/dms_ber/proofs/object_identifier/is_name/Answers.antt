@@ -1,5 +1,0 @@
-use Rattle.dms_ber.proofs.NameWalk.{below_dms}
-use Rattle.dms_ber.proofs.object_identifier.is_name.Goals as goal
-
-pub returns-in-Some : goal.returns-in-Some
-returns-in-Some c = rw (below_dms c.args.octets.now _ c.in-Some.ensures.some) c.goes_on.ensures

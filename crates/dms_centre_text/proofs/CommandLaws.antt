@@ -1,0 +1,459 @@
+-- The command that is read of a line is the one that the line spells.
+use Rattle.std.proofs.Common.{◌≡◌, ℕ, ◌<◌, cond, List, [], ◌∷◌, ◌++◌, length, Some, None, option_map, Result, Ok, Err, refl, sym, ap, subst, ◌∙◌, arith, rules}
+use Rattle.std.specs.Prelude.{codes, ◌+◌, ◌*◌, ◌/◌, ◌%◌, All, suc, slice_index}
+use Rattle.std.proofs.lemmas.Slice.Eq.{text_from_reads}
+use Rattle.std.proofs.lemmas.List.Elements.{All-nil, All-cons}
+use Rattle.std.proofs.lemmas.Bool.{eqb-true, eq-eqb}
+use Rattle.std.proofs.lemmas.Option.{cond_some, same_Some, none-some}
+use Rattle.hex.specs.Hex.{decode_of, IsBytes}
+use Rattle.hex.specs.declared.error.FromHexError.{FromHexError}
+use Rattle.hex.proofs.HexLemmas.{decode_of-ok}
+use Rattle.dms_text.specs.Words.{words_of, parts_of}
+use Rattle.dms_text.specs.Reading.{word_at, decimal_at}
+use Rattle.dms_text.proofs.WordLaws.{begun, goes_on, word_found, word_only, decimal_found, decimal_only, numeral_found, numeral_only}
+use Rattle.dms_codes.specs.declared.codes.Order.{Order}
+use Rattle.dms_codes.specs.declared.codes.Order.TheVariants.{High, Swapped}
+use Rattle.dms_codes.specs.declared.codes.Activation.{Activation}
+use Rattle.dms_codes.specs.Codes.{two_octets, octets_of_checksum, in_order, number_at, octets_of_activation, activation_of, IsActivation}
+use Rattle.dms_codes.specs.declared.row_id.RowId.{RowId}
+use Rattle.dms_codes.proofs.Activations.{activation_back}
+use Rattle.dms_codes.proofs.Options.{mapped_some}
+use Rattle.dms_centre_jobs.specs.declared.publication.Attributes.{Attributes}
+use Rattle.dms_centre_jobs.specs.declared.publication.Terms.{Terms}
+use Rattle.dms_centre_jobs.specs.Job.{PublicationModel}
+use Rattle.dms_centre_jobs.specs.Commands.{CommandModel, Publish, Blank, Activate}
+use Rattle.dms_text_forms.specs.Fields.{SpellsEach, SpellsOctet, SpellsTwoOctets, SpellsOne}
+use Rattle.dms_text_forms.specs.FieldsReading.{if_last}
+use Rattle.dms_text_forms.proofs.WordReading.{last_found, by_text}
+use Rattle.dms_text_forms.proofs.FieldLaws.{same_rest, next_octets_found, next_octets_only}
+use Rattle.dms_centre_text.specs.CommandFields.{SpellsAddressPart, SpellsAddress, SpellsCode}
+use Rattle.dms_centre_text.specs.CommandLine.{SpellsPublication, SpellsBlank, SpellsCommand}
+use Rattle.dms_centre_text.specs.CommandReading.{address_at, address_of, code_from, last_code_at, row_at, attributes_at, last_terms_at, publish_at, blank_at, command_word, command_after, command_of}
+use Rattle.dms_centre_text.specs.declared.command_word.CommandWord.{CommandWord}
+use Rattle.dms_centre_text.specs.declared.command_word.CommandWord.TheVariants as key
+
+-- ---- codes
+
+high_and_low : (octets : List ℕ) (i : ℕ) → IsBytes octets → two_octets (number_at octets i) ≡ slice_index octets i ∷ slice_index octets (i + 1) ∷ []
+high_and_low octets i bytes =
+    let high : number_at octets i / 256 ≡ slice_index octets i = omega (arith, bytes (i + 1)) in
+    let low : number_at octets i % 256 ≡ slice_index octets (i + 1) = omega (arith, bytes (i + 1)) in
+    cc
+
+checksum_spelled : (order : Order) (octets : List ℕ) (i : ℕ) → IsBytes octets
+    → octets_of_checksum order (in_order order (number_at octets i)) ≡ slice_index octets i ∷ slice_index octets (i + 1) ∷ []
+checksum_spelled High octets i bytes = high_and_low octets i bytes
+checksum_spelled Swapped octets i bytes =
+    let n = number_at octets i in
+    let one : n / 256 ≡ slice_index octets i = omega (arith, bytes (i + 1)) in
+    let other : n % 256 ≡ slice_index octets (i + 1) = omega (arith, bytes (i + 1)) in
+    let first : (n % 256 * 256 + n / 256) % 256 ≡ slice_index octets i = omega (arith, one, other, bytes i) in
+    let second : (n % 256 * 256 + n / 256) / 256 ≡ slice_index octets (i + 1) = omega (arith, one, other, bytes i) in
+    cc
+
+octets_spelled : (order : Order) (octets : List ℕ) → length octets ≡ 12 → IsBytes octets → octets_of_activation order (activation_of order octets) ≡ octets
+octets_spelled order octets twelve bytes =
+    let at = slice_index octets in
+    let address = at 8 ∷ at 9 ∷ at 10 ∷ at 11 ∷ [] in
+    let all : octets ≡ at 0 ∷ at 1 ∷ at 2 ∷ at 3 ∷ at 4 ∷ at 5 ∷ at 6 ∷ at 7 ∷ address = text_from_reads octets _ twelve (search rules) in
+    let number = octets_of_checksum order (in_order order (number_at octets 6)) in
+    ap (λ minutes. (minutes ++ at 2 ∷ ((at 3 ∷ two_octets (number_at octets 4)) ++ number)) ++ address) (high_and_low octets 0 bytes)
+    ∙ ap (λ row. ((at 0 ∷ at 1 ∷ []) ++ at 2 ∷ ((at 3 ∷ row) ++ number)) ++ address) (high_and_low octets 4 bytes)
+    ∙ ap (λ crc. ((at 0 ∷ at 1 ∷ []) ++ at 2 ∷ ((at 3 ∷ at 4 ∷ at 5 ∷ []) ++ crc)) ++ address) (checksum_spelled order octets 6 bytes)
+    ∙ sym all
+
+in_order_small : (order : Order) (octets : List ℕ) (i : ℕ) → IsBytes octets → in_order order (number_at octets i) < 65536
+in_order_small High octets i bytes = omega (arith, bytes i, bytes (i + 1))
+in_order_small Swapped octets i bytes = omega (arith, bytes i, bytes (i + 1))
+
+all_four_small : (a b c d : ℕ) → a < 256 → b < 256 → c < 256 → d < 256 → All (λ octet. octet < 256) (a ∷ b ∷ c ∷ d ∷ [])
+all_four_small a b c d in_a in_b in_c in_d =
+    let Small : ℕ → Type 0 = λ octet. octet < 256 in
+    All-cons Small a (b ∷ c ∷ d ∷ []) in_a (All-cons Small b (c ∷ d ∷ []) in_b (All-cons Small c (d ∷ []) in_c (All-cons Small d [] in_d (All-nil Small))))
+
+is_activation : (order : Order) (octets : List ℕ) → IsBytes octets → IsActivation (activation_of order octets)
+is_activation order octets bytes = record {
+  minutes = omega (arith, bytes 0, bytes 1);
+  priority = bytes 2;
+  id = record { memory = bytes 3; number = omega (arith, bytes 4, bytes 5); crc = in_order_small order octets 6 bytes };
+  size = refl;
+  octets = all_four_small _ _ _ _ (bytes 8) (bytes 9) (bytes 10) (bytes 11);
+}
+
+code_of_result : (order : Order) (word : List ℕ) (code : Activation) (result : Result (List ℕ) FromHexError) → decode_of word ≡ result
+    → code_from order result ≡ Some code → SpellsCode order code word
+code_of_result order word code (Err fault) is e = absurd (let none : None ≡ Some code = e in cc)
+code_of_result order word code (Ok octets) is e =
+    let tests = cond_some _ _ _ e in
+    let twelve : length octets ≡ 12 = eqb-true _ _ tests.0 in
+    let bytes = (decode_of-ok word octets is).3 in
+    subst (λ c. SpellsCode order c word) tests.1 (record {
+      is_code = is_activation order octets bytes;
+      digits = is ∙ ap Ok (sym (octets_spelled order octets twelve bytes));
+    })
+
+code_found : (order : Order) (word : List ℕ) (code : Activation) → code_from order (decode_of word) ≡ Some code → SpellsCode order code word
+code_found order word code e = code_of_result order word code (decode_of word) refl e
+
+twelve_octets : (order : Order) (code : Activation) → length code.address ≡ 4 → length (octets_of_activation order code) ≡ 12
+twelve_octets High code four = ap (λ n. suc (suc (suc (suc (suc (suc (suc (suc n)))))))) four
+twelve_octets Swapped code four = ap (λ n. suc (suc (suc (suc (suc (suc (suc (suc n)))))))) four
+
+code_only : (order : Order) (word : List ℕ) (code : Activation) → SpellsCode order code word → (code_from order (decode_of word) ≡ Some code) × (0 < length word)
+code_only order word code spelled =
+    let octets = octets_of_activation order code in
+    let twelve = twelve_octets order code spelled.is_code.size in
+    let digits = (decode_of-ok word octets spelled.digits).2 in (
+      ap (code_from order) spelled.digits ∙ ap (λ b. cond b (Some (activation_of order octets)) None) (eq-eqb _ _ twelve)
+          ∙ ap Some (activation_back order code spelled.is_code),
+      omega (arith, twelve, digits),
+    )
+
+last_code_found : (order : Order) (keyword : List ℕ) (words : List (List ℕ)) (code : Activation) → last_code_at order words ≡ Some code
+    → SpellsOne keyword (SpellsCode order code) (keyword ∷ words)
+unfolding last_code_at
+last_code_found order keyword words code e =
+    let read = begun _ _ _ e in
+    let found = begun _ _ _ read.2 in
+    let end = last_found found.0 read.0.1 code found.2 in
+    record {
+      word = read.0.0;
+      words_are = ap (λ rest. keyword ∷ rest) ((word_found words read.0 read.1).0 ∙ ap (λ rest. read.0.0 ∷ rest) end.0);
+      spelled = subst (λ c. SpellsCode order c read.0.0) end.1 (code_found order read.0.0 found.0 found.1);
+    }
+
+last_code_only : (order : Order) (word : List ℕ) (code : Activation) → SpellsCode order code word → last_code_at order (word ∷ []) ≡ Some code
+unfolding last_code_at
+last_code_only order word code spelled =
+    let is = code_only order word code spelled in
+    goes_on _ _ _ (word_only word [] is.1) ∙ goes_on _ _ _ is.0
+
+-- ---- addresses
+
+address_found : (word address : List ℕ) → address_of word ≡ Some address → SpellsAddress address word
+unfolding address_at
+address_found word address e =
+    let one = begun _ _ _ e in
+    let two = begun _ _ _ one.2 in
+    let three = begun _ _ _ two.2 in
+    let four = begun _ _ _ three.2 in
+    let first = numeral_found 3 0 255 (parts_of 46 word) one.0 one.1 in
+    let second = numeral_found 3 0 255 one.0.1 two.0 two.1 in
+    let third = numeral_found 3 0 255 two.0.1 three.0 three.1 in
+    let fourth = numeral_found 3 0 255 three.0.1 four.0 four.1 in
+    let end = last_found (one.0.0 ∷ two.0.0 ∷ three.0.0 ∷ four.0.0 ∷ []) four.0.1 address four.2 in
+    let parts : parts_of 46 word ≡ first.word ∷ second.word ∷ third.word ∷ fourth.word ∷ [] =
+    first.words_are ∙ ap (λ rest. first.word ∷ rest) (second.words_are ∙ ap (λ rest. second.word ∷ rest) (third.words_are ∙ ap (λ rest. third.word ∷ rest)
+    (fourth.words_are ∙ ap (λ rest. fourth.word ∷ rest) end.0))) in
+    subst (λ numbers. SpellsAddress numbers word) end.1 (record {
+      four = refl;
+      parts = subst (SpellsEach SpellsAddressPart (one.0.0 ∷ two.0.0 ∷ three.0.0 ∷ four.0.0 ∷ [])) (sym parts) (
+        record { spelled = first.spelled; small = first.greatest },
+        (
+          record { spelled = second.spelled; small = second.greatest },
+          (record { spelled = third.spelled; small = third.greatest }, (record { spelled = fourth.spelled; small = fourth.greatest }, refl)),
+        ),
+      );
+    })
+
+part_only : (number : ℕ) (word : List ℕ) (rest : List (List ℕ)) → SpellsAddressPart number word → decimal_at 3 0 255 (word ∷ rest) ≡ Some (number, rest)
+part_only number word rest spelled = numeral_only 3 0 255 number word rest spelled.spelled (omega arith) spelled.small
+
+parts_only : (address : List ℕ) (parts : List (List ℕ)) → length address ≡ 4 → SpellsEach SpellsAddressPart address parts → address_at parts ≡ Some address
+unfolding address_at
+parts_only [] parts four each = absurd (omega (arith, four))
+parts_only (a ∷ []) parts four each = absurd (omega (arith, four))
+parts_only (a ∷ b ∷ []) parts four each = absurd (omega (arith, four))
+parts_only (a ∷ b ∷ c ∷ []) parts four each = absurd (omega (arith, four))
+parts_only (a ∷ b ∷ c ∷ d ∷ []) [] four each = absurd each
+parts_only (a ∷ b ∷ c ∷ d ∷ []) (w ∷ []) four each = absurd each.1
+parts_only (a ∷ b ∷ c ∷ d ∷ []) (w ∷ x ∷ []) four each = absurd each.1.1
+parts_only (a ∷ b ∷ c ∷ d ∷ []) (w ∷ x ∷ y ∷ []) four each = absurd each.1.1.1
+parts_only (a ∷ b ∷ c ∷ d ∷ []) (w ∷ x ∷ y ∷ z ∷ rest) four each =
+    goes_on _ _ _ (part_only a w _ each.0)
+    ∙ goes_on _ _ _ (part_only b x _ each.1.0)
+    ∙ goes_on _ _ _ (part_only c y _ each.1.1.0)
+    ∙ goes_on _ _ _ (part_only d z rest each.1.1.1.0)
+    ∙ ap (if_last (a ∷ b ∷ c ∷ d ∷ [])) each.1.1.1.1
+parts_only (a ∷ b ∷ c ∷ d ∷ e ∷ more) parts four each = absurd (omega (arith, four))
+
+address_only : (word address : List ℕ) → SpellsAddress address word → address_of word ≡ Some address
+address_only word address spelled = parts_only address (parts_of 46 word) spelled.four spelled.parts
+
+-- a word that spells an address is not empty
+address_some : (word address : List ℕ) → SpellsAddress address word → 0 < length word
+address_some [] [] spelled = absurd (omega (arith, spelled.four))
+address_some [] (a ∷ address) spelled = absurd (omega (arith, spelled.parts.0.spelled.numeral.0))
+address_some (octet ∷ word) address spelled = omega arith
+
+-- ---- commands
+
+record FoundRow (words : List (List ℕ)) (found : RowId × List (List ℕ)) : Type 0 where
+  memory_word : List ℕ
+  number_word : List ℕ
+  words_are : words ≡ memory_word ∷ number_word ∷ found.1
+  memory : SpellsOctet found.0.memory memory_word
+  number : SpellsTwoOctets found.0.number number_word
+
+row_found : (words : List (List ℕ)) (found : RowId × List (List ℕ)) → row_at words ≡ Some found → FoundRow words found
+unfolding row_at
+row_found words found e =
+    let memory = begun _ _ _ e in
+    let number = begun _ _ _ memory.2 in
+    let at_memory = decimal_found 0 255 words memory.0 memory.1 in
+    let at_number = decimal_found 0 65535 memory.0.1 number.0 number.1 in
+    subst (FoundRow words) (same_Some _ _ number.2) (record {
+      memory_word = at_memory.word;
+      number_word = at_number.word;
+      words_are = at_memory.words_are ∙ ap (λ rest. at_memory.word ∷ rest) at_number.words_are;
+      memory = at_memory.spelled;
+      number = at_number.spelled;
+    })
+
+row_only : (memory number : ℕ) (memory_word number_word : List ℕ) (rest : List (List ℕ)) → SpellsOctet memory memory_word
+    → SpellsTwoOctets number number_word
+    → row_at (memory_word ∷ number_word ∷ rest) ≡ Some (record { memory = memory; number = number }, rest)
+unfolding row_at
+row_only memory number memory_word number_word rest in_memory in_number =
+    goes_on _ _ _ (decimal_only 0 255 memory memory_word _ in_memory)
+    ∙ goes_on _ _ _ (decimal_only 0 65535 number number_word rest in_number)
+
+record FoundAttributes (words : List (List ℕ)) (found : Attributes × List (List ℕ)) : Type 0 where
+  beacon_word : List ℕ
+  pixel_word : List ℕ
+  run_word : List ℕ
+  words_are : words ≡ beacon_word ∷ pixel_word ∷ run_word ∷ found.1
+  beacon : SpellsOctet found.0.beacon beacon_word
+  pixel : SpellsOctet found.0.pixel pixel_word
+  run_priority : SpellsOctet found.0.run_priority run_word
+
+attributes_found : (words : List (List ℕ)) (found : Attributes × List (List ℕ)) → attributes_at words ≡ Some found → FoundAttributes words found
+unfolding attributes_at
+attributes_found words found e =
+    let beacon = begun _ _ _ e in
+    let pixel = begun _ _ _ beacon.2 in
+    let run = begun _ _ _ pixel.2 in
+    let at_beacon = decimal_found 0 255 words beacon.0 beacon.1 in
+    let at_pixel = decimal_found 0 255 beacon.0.1 pixel.0 pixel.1 in
+    let at_run = decimal_found 0 255 pixel.0.1 run.0 run.1 in
+    subst (FoundAttributes words) (same_Some _ _ run.2) (record {
+      beacon_word = at_beacon.word;
+      pixel_word = at_pixel.word;
+      run_word = at_run.word;
+      words_are = at_beacon.words_are ∙ ap (λ rest. at_beacon.word ∷ rest) (at_pixel.words_are
+          ∙ ap (λ rest. at_pixel.word ∷ rest) at_run.words_are);
+      beacon = at_beacon.spelled;
+      pixel = at_pixel.spelled;
+      run_priority = at_run.spelled;
+    })
+
+attributes_only : (beacon pixel run_priority : ℕ) (beacon_word pixel_word run_word : List ℕ) (rest : List (List ℕ))
+    → SpellsOctet beacon beacon_word → SpellsOctet pixel pixel_word → SpellsOctet run_priority run_word
+    → attributes_at (beacon_word ∷ pixel_word ∷ run_word ∷ rest)
+    ≡ Some (record { beacon = beacon; pixel = pixel; run_priority = run_priority }, rest)
+unfolding attributes_at
+attributes_only beacon pixel run_priority beacon_word pixel_word run_word rest in_beacon in_pixel in_run =
+    goes_on _ _ _ (decimal_only 0 255 beacon beacon_word _ in_beacon)
+    ∙ goes_on _ _ _ (decimal_only 0 255 pixel pixel_word _ in_pixel)
+    ∙ goes_on _ _ _ (decimal_only 0 255 run_priority run_word rest in_run)
+
+record FoundTerms (words : List (List ℕ)) (terms : Terms) : Type 0 where
+  minutes_word : List ℕ
+  priority_word : List ℕ
+  address_word : List ℕ
+  words_are : words ≡ minutes_word ∷ priority_word ∷ address_word ∷ []
+  minutes : SpellsTwoOctets terms.minutes minutes_word
+  priority : SpellsOctet terms.priority priority_word
+  address : SpellsAddress terms.address address_word
+
+terms_found : (words : List (List ℕ)) (terms : Terms) → last_terms_at words ≡ Some terms → FoundTerms words terms
+unfolding last_terms_at
+terms_found words terms e =
+    let minutes = begun _ _ _ e in
+    let priority = begun _ _ _ minutes.2 in
+    let word = begun _ _ _ priority.2 in
+    let address = begun _ _ _ word.2 in
+    let at_minutes = decimal_found 0 65535 words minutes.0 minutes.1 in
+    let at_priority = decimal_found 0 255 minutes.0.1 priority.0 priority.1 in
+    let end = last_found _ word.0.1 terms address.2 in
+    subst (FoundTerms words) end.1 (record {
+      minutes_word = at_minutes.word;
+      priority_word = at_priority.word;
+      address_word = word.0.0;
+      words_are = at_minutes.words_are ∙ ap (λ rest. at_minutes.word ∷ rest) (at_priority.words_are ∙ ap (λ rest. at_priority.word ∷ rest)
+          ((word_found priority.0.1 word.0 word.1).0 ∙ ap (λ rest. word.0.0 ∷ rest) end.0));
+      minutes = at_minutes.spelled;
+      priority = at_priority.spelled;
+      address = address_found word.0.0 address.0 address.1;
+    })
+
+terms_only : (minutes priority : ℕ) (address minutes_word priority_word address_word : List ℕ) → SpellsTwoOctets minutes minutes_word
+    → SpellsOctet priority priority_word → SpellsAddress address address_word
+    → last_terms_at (minutes_word ∷ priority_word ∷ address_word ∷ []) ≡ Some (record { minutes = minutes; priority = priority; address = address })
+unfolding last_terms_at
+terms_only minutes priority address minutes_word priority_word address_word in_minutes in_priority in_address =
+    goes_on _ _ _ (decimal_only 0 65535 minutes minutes_word _ in_minutes)
+    ∙ goes_on _ _ _ (decimal_only 0 255 priority priority_word _ in_priority)
+    ∙ goes_on _ _ _ (word_only address_word [] (address_some address_word address in_address))
+    ∙ goes_on _ _ _ (address_only address_word address in_address)
+
+publish_found : (order : Order) (words : List (List ℕ)) (asked : CommandModel) → publish_at words ≡ Some asked
+    → SpellsCommand order asked (codes "publish" ∷ words)
+unfolding publish_at
+publish_found order words asked e =
+    let row = begun _ _ _ e in
+    let text = begun _ _ _ row.2 in
+    let owner = begun _ _ _ text.2 in
+    let attributes = begun _ _ _ owner.2 in
+    let terms = begun _ _ _ attributes.2 in
+    let at_row = row_found words row.0 row.1 in
+    let at_text = next_octets_found row.0.1 text.0 text.1 in
+    let at_owner = next_octets_found text.0.1 owner.0 owner.1 in
+    let at_attributes = attributes_found owner.0.1 attributes.0 attributes.1 in
+    let at_terms = terms_found attributes.0.1 terms.0 terms.1 in
+    subst (λ asked. SpellsCommand order asked (codes "publish" ∷ words)) (same_Some _ _ terms.2) (record {
+      memory_word = at_row.memory_word;
+      number_word = at_row.number_word;
+      text_word = at_text.word;
+      owner_word = at_owner.word;
+      beacon_word = at_attributes.beacon_word;
+      pixel_word = at_attributes.pixel_word;
+      run_word = at_attributes.run_word;
+      minutes_word = at_terms.minutes_word;
+      priority_word = at_terms.priority_word;
+      address_word = at_terms.address_word;
+      words_are = ap (λ rest. codes "publish" ∷ rest) (at_row.words_are ∙ ap (λ rest. at_row.memory_word ∷ at_row.number_word ∷ rest)
+          (at_text.words_are ∙ ap (λ rest. at_text.word ∷ rest) (at_owner.words_are ∙ ap (λ rest. at_owner.word ∷ rest)
+          (at_attributes.words_are ∙ ap (λ rest. at_attributes.beacon_word ∷ at_attributes.pixel_word ∷ at_attributes.run_word ∷ rest)
+          at_terms.words_are))));
+      memory = at_row.memory;
+      number = at_row.number;
+      text = at_text.spelled;
+      owner = at_owner.spelled;
+      beacon = at_attributes.beacon;
+      pixel = at_attributes.pixel;
+      run_priority = at_attributes.run_priority;
+      minutes = at_terms.minutes;
+      priority = at_terms.priority;
+      address = at_terms.address;
+    })
+
+publish_only : (publication : PublicationModel) (words : List (List ℕ)) → SpellsPublication publication (codes "publish" ∷ words)
+    → publish_at words ≡ Some (Publish publication)
+unfolding publish_at
+publish_only publication words spelled =
+    ap publish_at (same_rest _ _ _ _ spelled.words_are)
+    ∙ goes_on _ _ _ (row_only publication.memory publication.number spelled.memory_word spelled.number_word _ spelled.memory spelled.number)
+    ∙ goes_on _ _ _ (next_octets_only publication.text spelled.text_word _ spelled.text)
+    ∙ goes_on _ _ _ (next_octets_only publication.owner spelled.owner_word _ spelled.owner)
+    ∙ goes_on _ _ _ (attributes_only publication.beacon publication.pixel publication.run_priority spelled.beacon_word spelled.pixel_word spelled.run_word _
+    spelled.beacon spelled.pixel spelled.run_priority)
+    ∙ goes_on _ _ _ (terms_only publication.minutes publication.priority publication.address spelled.minutes_word spelled.priority_word spelled.address_word
+    spelled.minutes spelled.priority spelled.address)
+
+blank_found : (order : Order) (words : List (List ℕ)) (asked : CommandModel) → blank_at words ≡ Some asked → SpellsCommand order asked (codes "blank" ∷ words)
+unfolding blank_at
+blank_found order words asked e =
+    let number = begun _ _ _ e in
+    let terms = begun _ _ _ number.2 in
+    let at_number = decimal_found 0 65535 words number.0 number.1 in
+    let at_terms = terms_found number.0.1 terms.0 terms.1 in
+    subst (λ asked. SpellsCommand order asked (codes "blank" ∷ words)) (same_Some _ _ terms.2) (record {
+      number_word = at_number.word;
+      minutes_word = at_terms.minutes_word;
+      priority_word = at_terms.priority_word;
+      address_word = at_terms.address_word;
+      words_are = ap (λ rest. codes "blank" ∷ rest) (at_number.words_are ∙ ap (λ rest. at_number.word ∷ rest) at_terms.words_are);
+      has_number = at_number.spelled;
+      has_minutes = at_terms.minutes;
+      has_priority = at_terms.priority;
+      has_address = at_terms.address;
+    })
+
+blank_only : (number minutes priority : ℕ) (address : List ℕ) (words : List (List ℕ)) → SpellsBlank number minutes priority address (codes "blank" ∷ words)
+    → blank_at words ≡ Some (Blank number minutes priority address)
+unfolding blank_at
+blank_only number minutes priority address words spelled =
+    ap blank_at (same_rest _ _ _ _ spelled.words_are)
+    ∙ goes_on _ _ _ (decimal_only 0 65535 number spelled.number_word _ spelled.has_number)
+    ∙ goes_on _ _ _ (terms_only minutes priority address spelled.minutes_word spelled.priority_word spelled.address_word spelled.has_minutes spelled.has_priority
+    spelled.has_address)
+
+-- ---- lines
+
+abbrev pub command_text : CommandWord → List ℕ
+command_text key.Publish = codes "publish"
+command_text key.Blank = codes "blank"
+command_text key.Activate = codes "activate"
+
+pub command_some : (keyword : CommandWord) → 0 < length (command_text keyword)
+command_some keyword = grind arith
+
+command_word_only : (keyword : CommandWord) → command_word (command_text keyword) ≡ Some keyword
+unfolding command_word
+command_word_only keyword = grind arith
+
+pub command_word_found : (word : List ℕ) (keyword : CommandWord) → command_word word ≡ Some keyword → word ≡ command_text keyword
+unfolding command_word
+command_word_found word keyword e =
+    by_text command_text word key.Publish keyword _ e λ e.
+    by_text command_text word key.Blank keyword _ e λ e.
+    by_text command_text word key.Activate keyword _ e λ e.
+    absurd (none-some keyword e)
+
+-- what is read after a keyword is what the words from the keyword on spell
+pub command_after_found : (order : Order) (keyword : CommandWord) (words : List (List ℕ)) (asked : CommandModel) → command_after order keyword words ≡ Some asked
+    → SpellsCommand order asked (command_text keyword ∷ words)
+command_after_found order key.Publish words asked e = publish_found order words asked e
+command_after_found order key.Blank words asked e = blank_found order words asked e
+command_after_found order key.Activate words asked e =
+    let made = mapped_some _ _ _ e in subst (λ asked. SpellsCommand order asked (codes "activate" ∷ words)) made.2 (last_code_found order (codes "activate") words made.0 made.1)
+
+-- a command's words are a keyword, and words of which the command is read
+pub record IsRead (order : Order) (asked : CommandModel) (words : List (List ℕ)) : Type 0 where
+  pub keyword : CommandWord
+  pub rest : List (List ℕ)
+  pub words_are : words ≡ command_text keyword ∷ rest
+  pub read : command_after order keyword rest ≡ Some asked
+
+pub is_read : (order : Order) (asked : CommandModel) (words : List (List ℕ)) → SpellsCommand order asked words → IsRead order asked words
+is_read order (Publish publication) words spelled = record {
+  keyword = key.Publish;
+  rest = _;
+  words_are = spelled.words_are;
+  read = publish_only publication _ (subst (SpellsPublication publication) spelled.words_are spelled);
+}
+is_read order (Blank number minutes priority address) words spelled = record {
+  keyword = key.Blank;
+  rest = _;
+  words_are = spelled.words_are;
+  read = blank_only number minutes priority address _ (subst (SpellsBlank number minutes priority address) spelled.words_are spelled);
+}
+is_read order (Activate code) words spelled = record {
+  keyword = key.Activate;
+  rest = spelled.word ∷ [];
+  words_are = spelled.words_are;
+  read = ap (option_map Activate) (last_code_only order spelled.word code spelled.spelled);
+}
+
+pub command_found : (order : Order) (line : List ℕ) (asked : CommandModel) → command_of order line ≡ Some asked → SpellsCommand order asked (words_of line)
+unfolding command_of
+command_found order line asked e =
+    let read = begun _ _ _ e in
+    let keyword = begun _ _ _ read.2 in
+    let words : words_of line ≡ command_text keyword.0 ∷ read.0.1 =
+    (word_found (words_of line) read.0 read.1).0 ∙ ap (λ word. word ∷ read.0.1) (command_word_found read.0.0 keyword.0 keyword.1) in
+    subst (SpellsCommand order asked) (sym words) (command_after_found order keyword.0 read.0.1 asked keyword.2)
+
+pub command_only : (order : Order) (line : List ℕ) (asked : CommandModel) → SpellsCommand order asked (words_of line) → command_of order line ≡ Some asked
+unfolding command_of
+command_only order line asked spelled =
+    let is = is_read order asked (words_of line) spelled in
+    goes_on _ _ _ (ap word_at is.words_are ∙ word_only (command_text is.keyword) is.rest (command_some is.keyword))
+    ∙ goes_on _ _ _ (command_word_only is.keyword)
+    ∙ is.read
+
+-- a line spells at most one command
+pub one_command : (order : Order) (line : List ℕ) (one other : CommandModel) → SpellsCommand order one (words_of line) → SpellsCommand order other (words_of line)
+    → one ≡ other
+one_command order line one other this that = same_Some _ _ (sym (command_only order line one this) ∙ command_only order line other that)

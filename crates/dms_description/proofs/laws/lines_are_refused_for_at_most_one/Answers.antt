@@ -1,5 +1,0 @@
-use Rattle.dms_description.proofs.Refused.{one_refused}
-use Rattle.dms_description.proofs.laws.lines_are_refused_for_at_most_one.Goals as goal
-
-pub returns : goal.returns
-returns c = one_refused

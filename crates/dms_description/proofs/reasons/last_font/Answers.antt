@@ -1,7 +1,0 @@
-use Rattle.std.proofs.Common.{sym, ap, ◌∙◌}
-use Rattle.dms_description.specs.Causes.{last_font}
-use Rattle.dms_description.proofs.LastFont.{last_is}
-use Rattle.dms_description.proofs.reasons.last_font.Goals as goal
-
-pub returns-in-Some : goal.returns-in-Some
-returns-in-Some c = sym (ap last_font c.in-Some.ensures.items ∙ last_is c.pop.new.self.items c.in-Some.font)

@@ -1,9 +1,0 @@
--- The description that the code's parts are (this profile).
-use Rattle.std.specs.Prelude.{map}
-use Rattle.dms_description.specs.declared.reader.Parts.{Parts}
-use Rattle.dms_description.specs.Description.{Description}
-use Rattle.dms_description.specs.DescriptionReading.{described}
-use Rattle.dms_description.specs.Views.{head_seen, row_seen}
-
-abbrev pub parts_seen : Parts → Description
-parts_seen parts = described (head_seen parts.head) (map row_seen parts.rows.items) parts.fonts.items

@@ -1,0 +1,343 @@
+//! Drawing the characters of a page on the cells of a matrix.
+
+ghost use Rattle.std.specs.Prelude.{◌≡◌, ℕ, ◌+◌, ◌-◌, ◌*◌, ◌/◌, ◌%◌, ◌^◌, ◌<◌, ◌≤◌, ◌==◌, ◌&&◌, List, ◌++◌};
+ghost use Rattle.std.specs.Prelude.{length, map, filter, true, not, nat_le, nat_lt, slice_index_or, OnOk};
+ghost use Rattle.std.specs.List.{list_all, flat_map};
+ghost use Rattle.dms_face_font.specs.Glyph.{lit_at, is_bit};
+ghost use Rattle.dms_face_font.specs.Font.{FontModel};
+ghost use Rattle.dms_face.specs.declared.room.Block.{Block as BlockModel};
+ghost use Rattle.dms_face.specs.Layout.{Character, Line, PageModel};
+ghost use Rattle.dms_face.specs.Room.{begin, extent_at, placed_from, character_block, line_block};
+ghost use Rattle.dms_face.specs.Room.{line_height, greatest, characters_fit, page_fits};
+ghost use Rattle.dms_face.specs.Cells.{PlacedCharacter, is_lit_by, placed_in_line};
+ghost use Rattle.dms_face_pages.specs.Drawing.{has_place, covered, is_in_picture, is_lit_in_row};
+ghost use Rattle.dms_face_pages.specs.Drawing.{is_lit_on_row, lit_cell, placed_above, lines_characters, Shows};
+ghost use Rattle.dms_face_pages.specs.StylingView.{style_of};
+ghost use Rattle.dms_face_pages.specs.Styled.{style, IsLitStyle, Lights};
+
+use crate::cells::Cells;
+use crate::text_layout::{StyledGlyph, Styling, TextLine};
+use dms_face::room::{Block, Run};
+use dms_face::{Cell, Face, Glyph, Place};
+use std::alloc::AllocError;
+
+impl Styling<'_> {
+    /// The cell that a character of this style lights.
+    fn cell(self) -> Cell
+        ensures { result ≡ lit_cell (style_of self.entry) }
+    {
+        Cell {
+            lit: true,
+            colour: self.foreground,
+            flash: self.flash,
+        }
+    }
+}
+
+/// The row without its bit of this column.
+fn without(row: u32, column: u32) -> u32
+    requires { column < 32 }
+    ensures bits { (k : ℕ) → is_bit result k ≡ (is_bit row k && not (k == column)) }
+    ensures less { is_bit row column ≡ true → result < row }
+{
+    row & !(1 << column)
+}
+
+/// The first columns of a row.
+fn first_columns(row: u32, columns: usize) -> u32
+    requires { columns ≤ 32 }
+    ensures { (k : ℕ) → is_bit result k ≡ (nat_lt k columns && is_bit row k) }
+{
+    (u64::from(row) % (1 << columns)) as u32
+}
+
+/// Lights the cells of a row of a picture, of which `first` is that of its first column.
+fn light_bits(cells: &mut Cells, first: usize, row: u32, number: u8)
+    requires inside { (k : ℕ) → is_bit row k ≡ true → first + k < length cells.old.cells }
+    requires small { first < 2 ^ 33 }
+    requires number { IsLitStyle cells.old.styles number }
+    ensures { Lights (λ place. nat_le first place && is_bit row (place - first)) (style cells.old.styles number)
+        cells.old cells.new }
+{
+    let mut left = row;
+    while left != 0 {
+        let column = left.trailing_zeros();
+        cells.light(first + column as usize, number);
+        left = without(left, column);
+    }
+}
+
+/// Draws a row of a picture from the cell `first` on, in so many columns.
+fn light_row(cells: &mut Cells, first: usize, columns: usize, glyph: &Glyph, row: usize, number: u8)
+    requires inside { first + columns ≤ length cells.old.cells }
+    requires small { first + columns < 2 ^ 33 }
+    requires narrow { columns ≤ 32 }
+    requires number { IsLitStyle cells.old.styles number }
+    ensures { Lights (is_lit_in_row first columns glyph.now row) (style cells.old.styles number) cells.old cells.new }
+{
+    light_bits(cells, first, first_columns(glyph.row(row), columns), number);
+}
+
+/// Draws a row of a picture from column x on in line y; what stands outside of the matrix is left out.
+fn draw_row(
+    cells: &mut Cells,
+    face: &Face,
+    x: usize,
+    y: usize,
+    glyph: &Glyph,
+    row: usize,
+    number: u8,
+)
+    requires matrix { length cells.old.cells ≡ face.now.width * face.now.height }
+    requires number { IsLitStyle cells.old.styles number }
+    requires glyph { (column line : ℕ) → lit_at glyph.now column line ≡ true → column < glyph.now.width }
+    ensures { Lights (is_lit_on_row face.now.width x y glyph.now row) (style cells.old.styles number)
+        cells.old cells.new }
+{
+    let width = usize::from(face.width());
+    if x >= width || y >= usize::from(face.height()) {
+        return;
+    }
+    let columns = usize::from(glyph.width()).min(width - x);
+    light_row(cells, y * width + x, columns, glyph, row, number);
+}
+
+/// Draws a character with its left top corner in column x of line y.
+fn draw_character(
+    cells: &mut Cells,
+    face: &Face,
+    x: u32,
+    y: u32,
+    character: &StyledGlyph<'_>,
+) -> Result<(), AllocError>
+    requires { length cells.old.cells ≡ face.now.width * face.now.height }
+    ensures len { OnOk result (length cells.new.cells ≡ length cells.old.cells) }
+    ensures cells { OnOk result ((other : Cell) (place : ℕ) → place < length cells.old.cells
+        → slice_index_or cells.new.cells place other ≡ covered (is_lit_by (place % face.now.width)
+        (place / face.now.width) (record { x = x; y = y; character = character.now })) (lit_cell character.now.style)
+        (slice_index_or cells.old.cells place other)) }
+{
+    let number = cells.number_of(character.style.cell())?;
+    draw_picture(cells, face, x, y, character.glyph, number);
+    Ok(())
+}
+
+/// Draws a picture with its left top corner in column x of line y.
+fn draw_picture(cells: &mut Cells, face: &Face, x: u32, y: u32, glyph: &Glyph, number: u8)
+    requires matrix { length cells.old.cells ≡ face.now.width * face.now.height }
+    requires number { IsLitStyle cells.old.styles number }
+    ensures { Lights (λ place. is_in_picture (place % face.now.width) (place / face.now.width) x y glyph.now)
+        (style cells.old.styles number) cells.old cells.new }
+{
+    for row in 0..glyph.height() {
+        let row = usize::from(row);
+        draw_row(
+            cells,
+            face,
+            x as usize,
+            y as usize + row,
+            glyph,
+            row,
+            number,
+        );
+    }
+}
+
+/// What stands in a row with others of its kind: a character in its line, a line on its page.
+trait Placed {
+    ghost block_of: { Self → BlockModel };
+
+    /// What it is to the whole.
+    fn block(&self) -> Block
+        ensures { result ≡ block_of self.now };
+}
+
+impl Placed for StyledGlyph<'_> {
+    ghost block_of = { character_block };
+
+    fn block(&self) -> Block {
+        Block {
+            place: self.style.side.place(),
+            size: self.glyph.width(),
+            spacing: self.style.font.character_spacing(),
+            gap: None,
+        }
+    }
+}
+
+impl Placed for TextLine<'_> {
+    ghost block_of = { line_block };
+
+    fn block(&self) -> Block {
+        Block {
+            place: self.part.place(),
+            size: self.height(),
+            spacing: self.spacing(),
+            gap: self.gap,
+        }
+    }
+}
+
+impl TextLine<'_> {
+    /// The greatest height of the line's fonts.
+    fn height(&self) -> u8
+        ensures { result ≡ line_height self.now }
+    {
+        if self.characters.is_empty() {
+            return self.font.height();
+        }
+        let heights = self.characters.iter().map(|it| it.style.font.height());
+        heights.fold(0, |greatest, height| greatest.max(height))
+    }
+
+    /// The greatest line spacing of the line's fonts.
+    fn spacing(&self) -> u8
+        ensures { result ≡ greatest (λ (font : FontModel). font.line_spacing) self.now }
+    {
+        if self.characters.is_empty() {
+            return self.font.line_spacing();
+        }
+        let spacings = self
+            .characters
+            .iter()
+            .map(|it| it.style.font.line_spacing());
+        spacings.fold(0, |greatest, spacing| greatest.max(spacing))
+    }
+}
+
+/// Where something of a size begins at a place of the whole.
+fn begin(place: Place, whole: u32, size: u32) -> u32
+    ensures { result ≡ begin place whole size }
+{
+    match place {
+        Place::Start => 0,
+        Place::Halfway => whole.saturating_sub(size) / 2,
+        Place::End => whole.saturating_sub(size),
+    }
+}
+
+/// The room that the things at a place of their row take.
+fn extent<T: Placed>(things: &[T], place: Place) -> u32
+    requires { extent_at place (map T.block_of things.now) ≤ 256 }
+    ensures { result ≡ extent_at place (map T.block_of things.now) }
+{
+    let mut run = Run::EMPTY;
+    for thing in things {
+        let block = thing.block();
+        if block.is_at(place) {
+            run = run.with(block);
+        }
+    }
+    run.size
+}
+
+/// Draws the characters at a place of their line, from this column on, on the bottom of their line.
+fn draw_side(
+    cells: &mut Cells,
+    face: &Face,
+    characters: &[StyledGlyph<'_>],
+    side: Place,
+    first: u32,
+    bottom: u32,
+) -> Result<(), AllocError>
+    requires matrix { length cells.old.cells ≡ face.now.width * face.now.height }
+    requires room { extent_at side (map character_block characters.now) ≤ 256 }
+    requires first { first ≤ 256 }
+    ensures len { OnOk result (length cells.new.cells ≡ length cells.old.cells) }
+    ensures cells { OnOk result ((page : PageModel) (before : List PlacedCharacter)
+        → Shows face.now page before cells.old.cells → Shows face.now page (before ++ map (placed_above bottom)
+        (placed_from character_block first (filter (has_place character_block side) characters.now))) cells.new.cells) }
+{
+    let mut run = Run::EMPTY;
+    for character in characters {
+        let block = character.block();
+        if !block.is_at(side) {
+            continue;
+        }
+        run = run.with(block);
+        let x = first + run.size - u32::from(block.size);
+        let y = bottom.saturating_sub(u32::from(character.style.font.height()));
+        draw_character(cells, face, x, y, character)?;
+    }
+    Ok(())
+}
+
+/// Draws a line with its top in this row.
+fn draw_line(
+    cells: &mut Cells,
+    face: &Face,
+    line: &TextLine<'_>,
+    top: u32,
+) -> Result<(), AllocError>
+    requires matrix { length cells.old.cells ≡ face.now.width * face.now.height }
+    requires room { characters_fit face.now line.now.characters ≡ true }
+    requires top { top ≤ 1024 }
+    ensures len { OnOk result (length cells.new.cells ≡ length cells.old.cells) }
+    ensures cells { OnOk result
+        ((page : PageModel) (before : List PlacedCharacter) → Shows face.now page before cells.old.cells
+        → Shows face.now page (before ++ placed_in_line face.now (top, line.now)) cells.new.cells) }
+{
+    let width = u32::from(face.width());
+    let bottom = top + u32::from(line.height());
+    let characters = line.characters.as_slice();
+    let left = begin(Place::Start, width, extent(characters, Place::Start));
+    draw_side(cells, face, characters, Place::Start, left, bottom)?;
+    let centre = begin(Place::Halfway, width, extent(characters, Place::Halfway));
+    draw_side(cells, face, characters, Place::Halfway, centre, bottom)?;
+    let right = begin(Place::End, width, extent(characters, Place::End));
+    draw_side(cells, face, characters, Place::End, right, bottom)?;
+    Ok(())
+}
+
+/// Draws the lines at a place of their page, from this row on.
+fn draw_part(
+    cells: &mut Cells,
+    face: &Face,
+    lines: &[TextLine<'_>],
+    part: Place,
+    first: u32,
+) -> Result<(), AllocError>
+    requires matrix { length cells.old.cells ≡ face.now.width * face.now.height }
+    requires lines { list_all (λ (line : Line). characters_fit face.now line.characters) lines.now ≡ true }
+    requires room { extent_at part (map line_block lines.now) ≤ 256 }
+    requires first { first ≤ 256 }
+    ensures len { OnOk result (length cells.new.cells ≡ length cells.old.cells) }
+    ensures cells { OnOk result
+        ((page : PageModel) (before : List PlacedCharacter) → Shows face.now page before cells.old.cells
+        → Shows face.now page (before ++ flat_map (placed_in_line face.now)
+        (placed_from line_block first (filter (has_place line_block part) lines.now))) cells.new.cells) }
+{
+    let mut run = Run::EMPTY;
+    for line in lines {
+        let block = line.block();
+        if !block.is_at(part) {
+            continue;
+        }
+        run = run.with(block);
+        draw_line(cells, face, line, first + run.size - u32::from(block.size))?;
+    }
+    Ok(())
+}
+
+/// Draws the lines of a page that fits.
+pub(crate) fn draw_lines(
+    cells: &mut Cells,
+    face: &Face,
+    lines: &[TextLine<'_>],
+) -> Result<(), AllocError>
+    requires matrix { length cells.old.cells ≡ face.now.width * face.now.height }
+    requires room { page_fits face.now lines.now ≡ true }
+    ensures len { OnOk result (length cells.new.cells ≡ length cells.old.cells) }
+    ensures cells { OnOk result
+        ((page : PageModel) (before : List PlacedCharacter) → Shows face.now page before cells.old.cells
+        → Shows face.now page (before ++ lines_characters face.now lines.now) cells.new.cells) }
+{
+    let height = u32::from(face.height());
+    let top = begin(Place::Start, height, extent(lines, Place::Start));
+    draw_part(cells, face, lines, Place::Start, top)?;
+    let middle = begin(Place::Halfway, height, extent(lines, Place::Halfway));
+    draw_part(cells, face, lines, Place::Halfway, middle)?;
+    let bottom = begin(Place::End, height, extent(lines, Place::End));
+    draw_part(cells, face, lines, Place::End, bottom)?;
+    Ok(())
+}

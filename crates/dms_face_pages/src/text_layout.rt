@@ -1,0 +1,276 @@
+//! Pages of lines of characters, as the items of a text make them one by one.
+
+ghost use Rattle.std.specs.Prelude.{◌≡◌, [], IsTrue, OnOk};
+ghost use Rattle.dms_face_font.specs.Font.{glyph_of};
+ghost use Rattle.dms_face.specs.Face.{fit};
+ghost use Rattle.dms_face.specs.Layout.{under, first_style, styled, blank_layout, closed, has_line_in};
+ghost use Rattle.dms_face.specs.Layout.{with_character, with_line, with_page, with_part, with_item};
+ghost use Rattle.dms_face_pages.specs.StylingView.{style_of};
+
+use dms_face::{Defaults, Face, Flash, Font, Glyph, Part, Side};
+use dms_multi::Item;
+use std::alloc::{AllocError, Global};
+use std::marker::Model;
+use std::mem;
+
+/// What the items so far say of all that follows them: the font, the colour and the flash of characters, their side of
+/// the line, the part of the page where lines stand, and the page's background and times.
+#[derive(Clone, Copy)]
+pub(crate) struct Styling<'a> {
+    pub font: &'a Font,
+    pub foreground: u8,
+    pub flash: Option<Flash>,
+    pub side: Side,
+    pub part: Part,
+    pub background: u8,
+    pub on: u8,
+    pub off: u8,
+}
+
+impl<'a> Styling<'a> {
+    /// What holds before a text's first item.
+    fn first(face: &'a Face, defaults: &Defaults) -> Styling<'a>
+        requires { IsTrue (fit face.now.fonts defaults.now) }
+        ensures { style_of result ≡ first_style (under face.now defaults.now) }
+    {
+        Styling {
+            font: face.font(defaults.font).unwrap(),
+            foreground: defaults.foreground,
+            flash: None,
+            side: Side::of_number(defaults.line),
+            part: Part::of_number(defaults.page),
+            background: defaults.background,
+            on: defaults.on,
+            off: defaults.off,
+        }
+    }
+
+    /// What holds after an item. A value that is missing is the default.
+    fn after(self, face: &'a Face, defaults: &Defaults, item: Item) -> Styling<'a>
+        ensures { style_of result ≡ styled (under face.now defaults.now) (style_of self.entry) item }
+    {
+        let mut style = self;
+        match item {
+            Item::Background(colour) => style.background = colour.unwrap_or(defaults.background),
+            Item::Foreground(colour) => style.foreground = colour.unwrap_or(defaults.foreground),
+            Item::Font(None) => style.font = face.font(defaults.font).unwrap_or(style.font),
+            Item::Font(Some((number, _))) => style.font = face.font(number).unwrap_or(style.font),
+            Item::FlashOn { first, lit, dark } => {
+                style.flash = Some(Flash {
+                    first,
+                    lit: lit.unwrap_or(defaults.flash_on),
+                    dark: dark.unwrap_or(defaults.flash_off),
+                });
+            }
+            Item::FlashEnd => style.flash = None,
+            Item::JustLine(side) => style.side = Side::of_number(side.unwrap_or(defaults.line)),
+            Item::JustPage(part) => style.part = Part::of_number(part.unwrap_or(defaults.page)),
+            Item::PageTime { lit, dark } => {
+                style.on = lit.unwrap_or(defaults.on);
+                style.off = dark.unwrap_or(defaults.off);
+            }
+            Item::Char(_) | Item::NewLine(_) | Item::NewPage => {}
+        }
+        style
+    }
+}
+
+/// A character's picture, and what holds for it.
+#[derive(Drop)]
+pub(crate) struct StyledGlyph<'a> {
+    pub glyph: &'a Glyph,
+    pub style: Styling<'a>,
+}
+
+impl<'a> Model for StyledGlyph<'a> {
+    ghost use Rattle.dms_face.specs.Layout.{Character};
+
+    ghost Value = { Character };
+
+    ghost use Rattle.dms_face_pages.specs.StylingView.{style_of};
+
+    ghost view = { λ c. record { glyph = c.glyph.now; style = style_of c.style } };
+}
+
+/// A line's characters, its part of the page, the font current at its end, and the gap that its tag gives above it.
+#[derive(Drop)]
+pub(crate) struct TextLine<'a> {
+    pub characters: Vec<StyledGlyph<'a>>,
+    pub part: Part,
+    pub font: &'a Font,
+    pub gap: Option<u8>,
+}
+
+impl<'a> Model for TextLine<'a> {
+    ghost use Rattle.dms_face.specs.Layout.{Line};
+
+    ghost Value = { Line };
+
+    ghost view = { λ l. record { characters = l.characters.items; part = l.part; font = l.font.now; gap = l.gap } };
+}
+
+/// A page's lines, its background and its times.
+#[derive(Drop)]
+pub(crate) struct TextPage<'a> {
+    pub lines: Vec<TextLine<'a>>,
+    pub background: u8,
+    pub on: u8,
+    pub off: u8,
+}
+
+impl<'a> Model for TextPage<'a> {
+    ghost use Rattle.dms_face.specs.Layout.{PageModel};
+
+    ghost Value = { PageModel };
+
+    ghost view = { λ p. record { lines = p.lines.items; background = p.background; on = p.on; off = p.off } };
+}
+
+/// The pages that are closed; of the open page the lines that are closed; of the open line the characters and the gap
+/// above it; and what holds for all that follows.
+#[derive(Drop)]
+pub(crate) struct TextLayout<'a> {
+    pages: Vec<TextPage<'a>>,
+    lines: Vec<TextLine<'a>>,
+    characters: Vec<StyledGlyph<'a>>,
+    gap: Option<u8>,
+    style: Styling<'a>,
+}
+
+impl<'a> Model for TextLayout<'a> {
+    ghost use Rattle.dms_face.specs.Layout.{Layout};
+
+    ghost Value = { Layout };
+
+    ghost use Rattle.dms_face_pages.specs.StylingView.{style_of};
+
+    ghost view = { λ l. record {
+      pages = l.pages.items;
+      lines = l.lines.items;
+      characters = l.characters.items;
+      gap = l.gap;
+      style = style_of l.style;
+    } };
+}
+
+impl<'a> TextLayout<'a> {
+    /// A page with one open line, and nothing on it.
+    pub fn blank(alloc: Global, face: &'a Face, defaults: &Defaults) -> TextLayout<'a>
+        requires { IsTrue (fit face.now.fonts defaults.now) }
+        ensures { result ≡ blank_layout (under face.now defaults.now) }
+    {
+        TextLayout {
+            pages: Vec::new(alloc),
+            lines: Vec::new(alloc),
+            characters: Vec::new(alloc),
+            gap: None,
+            style: Styling::first(face, defaults),
+        }
+    }
+
+    /// The pages that are closed.
+    pub fn into_pages(self) -> Vec<TextPage<'a>>
+        ensures { result.items ≡ self.entry.pages }
+    {
+        self.pages
+    }
+
+    /// Puts a character on the open line, where the current font has it.
+    fn add_character(&mut self, character: u16) -> Result<(), AllocError>
+        ensures { OnOk result (self.new ≡ with_character self.old (glyph_of self.old.style.font character)) }
+    {
+        let font = self.style.font;
+        if let Some(glyph) = font.glyph(character) {
+            self.characters.push(StyledGlyph {
+                glyph,
+                style: self.style,
+            })?;
+        }
+        Ok(())
+    }
+
+    /// Closes the open line; the next one opens in the same part, with this gap above it.
+    fn close_line(&mut self, alloc: Global, gap: Option<u8>) -> Result<(), AllocError>
+        ensures { OnOk result (self.new ≡ with_line self.old gap) }
+    {
+        let line = TextLine {
+            characters: mem::replace(&mut self.characters, Vec::new(alloc)),
+            part: self.style.part,
+            font: self.style.font,
+            gap: self.gap,
+        };
+        self.gap = gap;
+        self.lines.push(line)?;
+        Ok(())
+    }
+
+    /// Closes the open line and its part: a part with a single line without a character has no lines.
+    fn close_part(&mut self, alloc: Global) -> Result<(), AllocError>
+        ensures { OnOk result (self.new ≡ record self.old { lines = closed self.old; characters = []; gap = None }) }
+    {
+        if self.characters.is_empty() && !has_line_in(self.lines.as_slice(), self.style.part) {
+            self.gap = None;
+            return Ok(());
+        }
+        self.close_line(alloc, None)
+    }
+
+    /// Closes the open line, its part and the page, and opens the next page.
+    pub fn close_page(&mut self, alloc: Global) -> Result<(), AllocError>
+        ensures { OnOk result (self.new ≡ with_page self.old) }
+    {
+        self.close_part(alloc)?;
+        let page = TextPage {
+            lines: mem::replace(&mut self.lines, Vec::new(alloc)),
+            background: self.style.background,
+            on: self.style.on,
+            off: self.style.off,
+        };
+        self.pages.push(page)?;
+        Ok(())
+    }
+
+    /// Closes the open line and its part where the part changes.
+    fn change_part(&mut self, alloc: Global, style: Styling<'a>) -> Result<(), AllocError>
+        ensures { OnOk result (self.new ≡ with_part self.old (style_of style.entry)) }
+    {
+        if style.part.is(self.style.part) {
+            return Ok(());
+        }
+        self.close_part(alloc)?;
+        self.style = style;
+        Ok(())
+    }
+
+    /// What an item makes of the layout.
+    pub fn add(
+        &mut self,
+        alloc: Global,
+        face: &'a Face,
+        defaults: &Defaults,
+        item: Item,
+    ) -> Result<(), AllocError>
+        ensures { OnOk result (self.new ≡ with_item (under face.now defaults.now) self.old item) }
+    {
+        match item {
+            Item::Char(character) => self.add_character(character),
+            Item::NewLine(gap) => self.close_line(alloc, gap),
+            Item::NewPage => self.close_page(alloc),
+            Item::JustPage(_) => {
+                let style = self.style.after(face, defaults, item);
+                self.change_part(alloc, style)
+            }
+            _ => {
+                self.style = self.style.after(face, defaults, item);
+                Ok(())
+            }
+        }
+    }
+}
+
+/// Whether a line stands in this part of the page.
+fn has_line_in(lines: &[TextLine<'_>], part: Part) -> bool
+    ensures { result ≡ has_line_in part lines.now }
+{
+    lines.iter().any(|line| line.part.is(part))
+}

@@ -1,7 +1,0 @@
-use Rattle.std.proofs.Common.{◌∙◌}
-use Rattle.dms_instances.proofs.Stops.{at_dms}
-use Rattle.dms_instances.proofs.counts.Counts.next_below.Goals as goal
-
-pub returns-in-None : goal.returns-in-None
-returns-in-None c = λ numbers e table has.
-    c.from_object.ensures table has ∙ at_dms table c.args.self.now has numbers (e ∙ c.in-None.ensures.none)

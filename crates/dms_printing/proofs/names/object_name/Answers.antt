@@ -1,9 +1,0 @@
-use Rattle.std.proofs.Common.{subst}
-use Rattle.dms_printing.specs.ObjectNames.{HasNone}
-use Rattle.dms_printing.proofs.names.object_name.Goals as goal
-
--- the table of the code is that of the definitions
-pub returns-clause-none : goal.returns-clause-none
-returns-clause-none c is =
-    subst (λ rows. HasNone rows c.args.group c.args.number)
-    c.objects_are_the_table.ensures (c.name_among.ensures.none is)

@@ -1,0 +1,22 @@
+-- What the changes of the code write (this profile).
+use Rattle.std.specs.Prelude.{◌<◌, ⊤}
+use Rattle.dms_mib.specs.declared.scalar.Scalar.TheVariants.{ShortPowerLossTime, TimeCommLoss}
+use Rattle.dms_table.specs.RowsView.{field_of}
+use Rattle.dms_sign_access.specs.declared.access.Change.{Change}
+use Rattle.dms_sign_access.specs.declared.access.Change.TheVariants as changes
+use Rattle.dms_sign_access.specs.Access.{Write, SetNumber, SetCode, SetField, AskRow, Activate, SetRemaining}
+
+abbrev pub write_by : Change → Write
+write_by (changes.Number object number) = SetNumber object number
+write_by (changes.Code object octets) = SetCode object octets
+write_by (changes.Field id field) = SetField id (field_of field)
+write_by (changes.Ask id ask) = AskRow id ask
+write_by (changes.Activate octets) = Activate octets
+write_by (changes.Remaining minutes) = SetRemaining minutes
+
+-- the number of a default is that of an octet
+abbrev pub IsChange : Change → Type 0
+IsChange (changes.Number ShortPowerLossTime number) = ⊤
+IsChange (changes.Number TimeCommLoss number) = ⊤
+IsChange (changes.Number _ number) = number < 256
+IsChange _ = ⊤

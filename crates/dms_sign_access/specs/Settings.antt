@@ -1,0 +1,63 @@
+-- The settings as a sign is made, and those that the writes of a SET leave (this profile).
+use Rattle.std.specs.Prelude.{List}
+use Rattle.dms_face.specs.declared.defaults.Defaults.{Defaults}
+use Rattle.dms_mib.specs.declared.scalar.Scalar.TheVariants.{ShortPowerRecoveryMessage, LongPowerRecoveryMessage}
+use Rattle.dms_mib.specs.declared.scalar.Scalar.TheVariants.{PowerLossMessage, EndDurationMessage}
+use Rattle.dms_mib.specs.declared.scalar.Scalar.TheVariants.{CommunicationsLossMessage, DefaultBackgroundColor}
+use Rattle.dms_mib.specs.declared.scalar.Scalar.TheVariants.{DefaultForegroundColor, DefaultFlashOn}
+use Rattle.dms_mib.specs.declared.scalar.Scalar.TheVariants.{DefaultFlashOff, DefaultFont, DefaultJustificationLine}
+use Rattle.dms_mib.specs.declared.scalar.Scalar.TheVariants.{DefaultJustificationPage, DefaultPageOnTime}
+use Rattle.dms_mib.specs.declared.scalar.Scalar.TheVariants.{DefaultPageOffTime, ShortPowerLossTime, TimeCommLoss}
+use Rattle.dms_sign_access.specs.declared.settings.Fallbacks.{Fallbacks}
+use Rattle.dms_sign_access.specs.declared.settings.Settings.{Settings}
+use Rattle.dms_table.specs.Activation.{blank_octets}
+use Rattle.dms_sign_access.specs.Access.{Write}
+use Rattle.dms_sign_access.specs.Assignment.{given, number_for, code_for}
+
+-- each code is that of blank message 1
+abbrev pub first_fallbacks : Fallbacks
+first_fallbacks = record {
+  short_power_recovery = blank_octets;
+  long_power_recovery = blank_octets;
+  power_loss = blank_octets;
+  end_duration = blank_octets;
+  communications_loss = blank_octets;
+}
+
+-- the settings as a sign is made: the times are 0
+abbrev pub first_settings : Defaults → Settings
+first_settings defaults =
+    record { fallbacks = first_fallbacks; short_power_loss_time = 0; time_comm_loss = 0; defaults = defaults }
+
+-- the codes of the messages that a sign activates by itself, after these writes (NTCIP 1203, signControl)
+abbrev pub codes_by : Fallbacks → List Write → Fallbacks
+codes_by f writes = record {
+  short_power_recovery = given (code_for ShortPowerRecoveryMessage) writes f.short_power_recovery;
+  long_power_recovery = given (code_for LongPowerRecoveryMessage) writes f.long_power_recovery;
+  power_loss = given (code_for PowerLossMessage) writes f.power_loss;
+  end_duration = given (code_for EndDurationMessage) writes f.end_duration;
+  communications_loss = given (code_for CommunicationsLossMessage) writes f.communications_loss;
+}
+
+-- the defaults after these writes (NTCIP 1203, multiCfg)
+abbrev pub defaults_by : Defaults → List Write → Defaults
+defaults_by d writes = record {
+  background = given (number_for DefaultBackgroundColor) writes d.background;
+  foreground = given (number_for DefaultForegroundColor) writes d.foreground;
+  flash_on = given (number_for DefaultFlashOn) writes d.flash_on;
+  flash_off = given (number_for DefaultFlashOff) writes d.flash_off;
+  font = given (number_for DefaultFont) writes d.font;
+  line = given (number_for DefaultJustificationLine) writes d.line;
+  page = given (number_for DefaultJustificationPage) writes d.page;
+  on = given (number_for DefaultPageOnTime) writes d.on;
+  off = given (number_for DefaultPageOffTime) writes d.off;
+}
+
+-- the settings after these writes
+unfoldable pub set_by : Settings → List Write → Settings
+set_by s writes = record {
+  fallbacks = codes_by s.fallbacks writes;
+  short_power_loss_time = given (number_for ShortPowerLossTime) writes s.short_power_loss_time;
+  time_comm_loss = given (number_for TimeCommLoss) writes s.time_comm_loss;
+  defaults = defaults_by s.defaults writes;
+}

@@ -1,0 +1,257 @@
+//! Which objects can be set, and what a value writes to one.
+
+ghost use Rattle.std.specs.Prelude.{◌≡◌, ◌≤◌, option_map, IfSome};
+ghost use Rattle.dms_wire.specs.View.{object_value};
+ghost use Rattle.dms_mib.specs.declared.scalar.Scalar.TheVariants.{DefaultFont};
+ghost use Rattle.dms_sign_access.specs.Access.{has_writable_rows, is_settable_column, is_settable_object, is_settable};
+ghost use Rattle.dms_sign_access.specs.Access.{is_command, number_in, octets_in, font_in, ask_of, SetNumber, SetCode};
+ghost use Rattle.dms_sign_access.specs.Access.{Activate, SetRemaining, object_write, cell_write, write_of};
+ghost use Rattle.dms_sign_access.specs.ChangeView.{write_by, IsChange};
+
+use dms_codes::{Ask, MAX_OWNER, MAX_TEXT, RowId, memory};
+use dms_face::Face;
+use dms_mib::{Column, Instance, Scalar};
+use dms_table::Field;
+use dms_wire::Value;
+
+/// What a binding writes. The last three are commands.
+#[derive(Clone, Copy, Debug, PartialEq, Eq)]
+pub enum Change<'a> {
+    /// The number of an object that is a setting.
+    /// The number of an object that is a setting.
+    Number(Scalar, u16),
+    /// The code of a message that the sign activates by itself.
+    Code(Scalar, [u8; 5]),
+    /// A field of a row.
+    Field(RowId, Field<'a>),
+    /// What is asked of a row (dmsMessageStatus).
+    Ask(RowId, Ask),
+    /// The code of the message that is to be shown (dmsActivateMessage).
+    Activate([u8; 12]),
+    /// Minutes.
+    Remaining(u16),
+}
+
+impl<'a> Change<'a> {
+    /// Whether it is a command, which assigns no value.
+    /// Whether it is a command, which assigns no value.
+    pub fn is_command(&self) -> bool
+        ensures { result ≡ is_command (write_by self.now) }
+    {
+        matches!(
+            self,
+            Change::Ask(..) | Change::Activate(_) | Change::Remaining(_)
+        )
+    }
+}
+
+/// Changeable and volatile rows can be written.
+fn has_writable_rows(kind: u8) -> bool
+    ensures { result ≡ has_writable_rows kind }
+{
+    kind == memory::CHANGEABLE || kind == memory::VOLATILE
+}
+
+fn is_settable_column(column: Column) -> bool
+    ensures { result ≡ is_settable_column column }
+{
+    !matches!(column, Column::MemoryType | Column::Number | Column::Crc)
+}
+
+#[tactic(auto, unfolding(crate::specs::Access::is_settable_object))]
+fn is_settable_object(object: Scalar) -> bool
+    ensures { result ≡ is_settable_object object }
+{
+    matches!(
+        object,
+        Scalar::DefaultBackgroundColor
+            | Scalar::DefaultForegroundColor
+            | Scalar::DefaultFlashOn
+            | Scalar::DefaultFlashOff
+            | Scalar::DefaultFont
+            | Scalar::DefaultJustificationLine
+            | Scalar::DefaultJustificationPage
+            | Scalar::DefaultPageOnTime
+            | Scalar::DefaultPageOffTime
+            | Scalar::ActivateMessage
+            | Scalar::MessageTimeRemaining
+            | Scalar::ShortPowerRecoveryMessage
+            | Scalar::LongPowerRecoveryMessage
+            | Scalar::ShortPowerLossTime
+            | Scalar::CommunicationsLossMessage
+            | Scalar::TimeCommLoss
+            | Scalar::PowerLossMessage
+            | Scalar::EndDurationMessage
+    )
+}
+
+/// Whether an instance can be set.
+pub fn is_settable(instance: Instance) -> bool
+    ensures { result ≡ is_settable instance }
+{
+    match instance {
+        Instance::Scalar(object) => is_settable_object(object),
+        Instance::Cell(column, id) => is_settable_column(column) && has_writable_rows(id.memory),
+    }
+}
+
+/// The number from low to high that a value is.
+fn number_in(low: u16, high: u16, value: &Value<'_>) -> Option<u16>
+    ensures exact { result ≡ number_in low high (object_value value.now) }
+    ensures most { IfSome result (λ number. number ≤ high) }
+{
+    match value {
+        Value::Integer(number) if *number >= i64::from(low) && *number <= i64::from(high) => {
+            u16::try_from(*number).ok()
+        }
+        _ => None,
+    }
+}
+
+/// The octets that a value is, from low to high of them.
+fn octets_in<'a>(low: usize, high: usize, value: &Value<'a>) -> Option<&'a [u8]>
+    ensures { option_map (λ octets. octets.now) result ≡ octets_in low high (object_value value.now) }
+{
+    match value {
+        Value::Octets(octets) if low <= octets.len() && octets.len() <= high => Some(octets),
+        _ => None,
+    }
+}
+
+/// The number of a font of the face that a value is.
+fn font_in(face: &Face, value: &Value<'_>) -> Option<u16>
+    ensures exact { result ≡ font_in face.now (object_value value.now) }
+    ensures most { IfSome result (λ number. number ≤ 255) }
+{
+    let number = number_in(1, 255, value)?;
+    match face.font(number as u8) {
+        Some(_) => Some(number),
+        None => None,
+    }
+}
+
+/// What is asked of a row by a number that dmsMessageStatus may be set to.
+fn ask_of(number: u16) -> Ask
+    ensures { result ≡ ask_of number }
+{
+    if number == u16::from(Ask::Modify.number()) {
+        Ask::Modify
+    } else if number == u16::from(Ask::Validate.number()) {
+        Ask::Validate
+    } else {
+        Ask::NotUsed
+    }
+}
+
+fn number<'a>(object: Scalar, low: u16, high: u16, value: &Value<'_>) -> Option<Change<'a>>
+    ensures exact { option_map write_by result
+        ≡ option_map (SetNumber object) (number_in low high (object_value value.now)) }
+    ensures change { high ≤ 255 → IfSome result IsChange }
+{
+    Some(Change::Number(object, number_in(low, high, value)?))
+}
+
+fn code<'a>(object: Scalar, value: &Value<'_>) -> Option<Change<'a>>
+    ensures exact { option_map write_by result ≡ option_map (SetCode object) (octets_in 5 5 (object_value value.now)) }
+    ensures change { IfSome result IsChange }
+{
+    match octets_in(5, 5, value)? {
+        &[a, b, c, d, e] => Some(Change::Code(object, [a, b, c, d, e])),
+        _ => None,
+    }
+}
+
+fn activation<'a>(value: &Value<'_>) -> Option<Change<'a>>
+    ensures exact { option_map write_by result ≡ option_map Activate (octets_in 12 12 (object_value value.now)) }
+    ensures change { IfSome result IsChange }
+{
+    match <[u8; 12]>::try_from(octets_in(12, 12, value)?) {
+        Ok(code) => Some(Change::Activate(code)),
+        Err(_) => None,
+    }
+}
+
+fn remaining<'a>(value: &Value<'_>) -> Option<Change<'a>>
+    ensures exact { option_map write_by result ≡ option_map SetRemaining (number_in 0 65535 (object_value value.now)) }
+    ensures change { IfSome result IsChange }
+{
+    Some(Change::Remaining(number_in(0, u16::MAX, value)?))
+}
+
+fn font<'a>(face: &Face, value: &Value<'_>) -> Option<Change<'a>>
+    ensures exact { option_map write_by result
+        ≡ option_map (SetNumber DefaultFont) (font_in face.now (object_value value.now)) }
+    ensures change { IfSome result IsChange }
+{
+    Some(Change::Number(Scalar::DefaultFont, font_in(face, value)?))
+}
+
+/// What a value writes to an object; none where its type, its length or its range is wrong.
+#[tactic(auto, unfolding(crate::specs::Access::object_write))]
+fn object_write<'a>(face: &Face, object: Scalar, value: &Value<'a>) -> Option<Change<'a>>
+    ensures exact { option_map write_by result ≡ object_write face.now object (object_value value.now) }
+    ensures change { IfSome result IsChange }
+{
+    match object {
+        Scalar::DefaultBackgroundColor | Scalar::DefaultForegroundColor => {
+            number(object, 0, 9, value)
+        }
+        Scalar::DefaultFlashOn
+        | Scalar::DefaultFlashOff
+        | Scalar::DefaultPageOnTime
+        | Scalar::DefaultPageOffTime => number(object, 0, 255, value),
+        Scalar::DefaultFont => font(face, value),
+        Scalar::DefaultJustificationLine | Scalar::DefaultJustificationPage => {
+            number(object, 2, 4, value)
+        }
+        Scalar::ShortPowerLossTime | Scalar::TimeCommLoss => number(object, 0, u16::MAX, value),
+        Scalar::ShortPowerRecoveryMessage | Scalar::LongPowerRecoveryMessage => code(object, value),
+        Scalar::PowerLossMessage | Scalar::EndDurationMessage => code(object, value),
+        Scalar::CommunicationsLossMessage => code(object, value),
+        Scalar::ActivateMessage => activation(value),
+        Scalar::MessageTimeRemaining => remaining(value),
+        _ => None,
+    }
+}
+
+fn flag(value: &Value<'_>) -> Option<u8>
+    ensures { result ≡ number_in 0 1 (object_value value.now) }
+{
+    u8::try_from(number_in(0, 1, value)?).ok()
+}
+
+fn priority(value: &Value<'_>) -> Option<u8>
+    ensures { result ≡ number_in 1 255 (object_value value.now) }
+{
+    u8::try_from(number_in(1, 255, value)?).ok()
+}
+
+/// What a value writes to a column of a row.
+#[tactic(auto, unfolding(crate::specs::Access::cell_write))]
+fn cell_write<'a>(column: Column, id: RowId, value: &Value<'a>) -> Option<Change<'a>>
+    ensures exact { option_map write_by result ≡ cell_write column id (object_value value.now) }
+    ensures change { IfSome result IsChange }
+{
+    let field = match column {
+        Column::MultiString => Field::Text(octets_in(0, MAX_TEXT, value)?),
+        Column::Owner => Field::Owner(octets_in(0, MAX_OWNER, value)?),
+        Column::Beacon => Field::Beacon(flag(value)?),
+        Column::PixelService => Field::Pixel(flag(value)?),
+        Column::RunTimePriority => Field::Priority(priority(value)?),
+        Column::Status => return Some(Change::Ask(id, ask_of(number_in(6, 8, value)?))),
+        _ => return None,
+    };
+    Some(Change::Field(id, field))
+}
+
+/// What a value writes to an instance.
+#[tactic(auto, unfolding(crate::specs::Access::write_of))]
+pub fn write_of<'a>(face: &Face, instance: Instance, value: &Value<'a>) -> Option<Change<'a>>
+    ensures exact { option_map write_by result ≡ write_of face.now instance (object_value value.now) }
+    ensures change { IfSome result IsChange }
+{
+    match instance {
+        Instance::Scalar(object) => object_write(face, object, value),
+        Instance::Cell(column, id) => cell_write(column, id, value),
+    }
+}

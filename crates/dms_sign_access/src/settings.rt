@@ -1,0 +1,150 @@
+//! What a SET assigns beside the fields of rows.
+
+ghost use Rattle.std.specs.Prelude.{◌≡◌, [], ◌∷◌};
+ghost use Rattle.dms_sign_access.specs.declared.access.Change.TheVariants as changes;
+ghost use Rattle.dms_sign_access.specs.Access.{SetNumber, SetCode};
+ghost use Rattle.dms_sign_access.specs.ChangeView.{write_by, IsChange};
+ghost use Rattle.dms_sign_access.specs.Settings.{first_settings, codes_by, set_by};
+ghost use Rattle.dms_sign_access.specs.Ranges.{AreDefaultsInRange};
+
+use crate::access::Change;
+use dms_codes::memory;
+use dms_face::Defaults;
+use dms_mib::Scalar;
+
+/// The codes of the messages that a sign activates by itself, each the five octets that were written (MessageIDCode).
+#[derive(Clone, Copy, Debug, PartialEq, Eq)]
+pub struct Fallbacks {
+    /// dmsShortPowerRecoveryMessage
+    pub short_power_recovery: [u8; 5],
+    /// dmsLongPowerRecoveryMessage
+    pub long_power_recovery: [u8; 5],
+    /// dmsPowerLossMessage
+    pub power_loss: [u8; 5],
+    /// dmsEndDurationMessage
+    pub end_duration: [u8; 5],
+    /// dmsCommunicationsLossMessage
+    pub communications_loss: [u8; 5],
+}
+
+/// The values of the objects that can be set, but for those of the message table.
+#[derive(Clone, Copy, Debug, PartialEq, Eq)]
+pub struct Settings {
+    pub fallbacks: Fallbacks,
+    /// dmsShortPowerLossTime: seconds
+    pub short_power_loss_time: u16,
+    /// dmsTimeCommLoss: minutes
+    pub time_comm_loss: u16,
+    pub defaults: Defaults,
+}
+
+impl Settings {
+    /// The settings as a sign is made: each code is that of blank message 1, and the times are 0.
+    pub fn new(defaults: Defaults) -> Settings
+        ensures first { result ≡ first_settings defaults }
+        ensures octets { AreDefaultsInRange defaults }
+    {
+        are_octets(&defaults);
+        let code = [memory::BLANK, 0, 1, 0, 0];
+        Settings {
+            fallbacks: Fallbacks {
+                short_power_recovery: code,
+                long_power_recovery: code,
+                power_loss: code,
+                end_duration: code,
+                communications_loss: code,
+            },
+            short_power_loss_time: 0,
+            time_comm_loss: 0,
+            defaults,
+        }
+    }
+
+    /// Assigns what a binding writes beside the fields of rows.
+    #[tactic(auto, unfolding(crate::specs::Settings::set_by))]
+    pub fn assign(&mut self, change: &Change<'_>)
+        requires { IsChange change.now }
+        ensures { self.new ≡ set_by self.old (write_by change.now ∷ []) }
+    {
+        match change {
+            Change::Number(object, number) => assign_number(self, *object, *number),
+            Change::Code(object, code) => assign_code(&mut self.fallbacks, *object, code),
+            Change::Field(..) | Change::Ask(..) | Change::Activate(_) | Change::Remaining(_) => {}
+        }
+    }
+}
+
+#[tactic(auto, unfolding(crate::specs::Settings::set_by))]
+fn assign_number(settings: &mut Settings, object: Scalar, number: u16)
+    requires { IsChange (changes.Number object number) }
+    ensures { settings.new ≡ set_by settings.old (SetNumber object number ∷ []) }
+{
+    match object {
+        Scalar::ShortPowerLossTime => settings.short_power_loss_time = number,
+        Scalar::TimeCommLoss => settings.time_comm_loss = number,
+        Scalar::DefaultBackgroundColor => settings.defaults.background = number as u8,
+        Scalar::DefaultForegroundColor => settings.defaults.foreground = number as u8,
+        Scalar::DefaultFlashOn => settings.defaults.flash_on = number as u8,
+        Scalar::DefaultFlashOff => settings.defaults.flash_off = number as u8,
+        Scalar::DefaultFont => settings.defaults.font = number as u8,
+        Scalar::DefaultJustificationLine => settings.defaults.line = number as u8,
+        Scalar::DefaultJustificationPage => settings.defaults.page = number as u8,
+        Scalar::DefaultPageOnTime => settings.defaults.on = number as u8,
+        Scalar::DefaultPageOffTime => settings.defaults.off = number as u8,
+        _ => {}
+    }
+}
+
+fn assign_code(fallbacks: &mut Fallbacks, object: Scalar, code: &[u8; 5])
+    ensures { fallbacks.new ≡ codes_by fallbacks.old (SetCode object code.now ∷ []) }
+{
+    match object {
+        Scalar::ShortPowerRecoveryMessage => fallbacks.short_power_recovery = *code,
+        Scalar::LongPowerRecoveryMessage => fallbacks.long_power_recovery = *code,
+        Scalar::PowerLossMessage => fallbacks.power_loss = *code,
+        Scalar::EndDurationMessage => fallbacks.end_duration = *code,
+        Scalar::CommunicationsLossMessage => fallbacks.communications_loss = *code,
+        _ => {}
+    }
+}
+
+/// Each default is an octet.
+fn are_octets(defaults: &Defaults)
+    ensures { AreDefaultsInRange defaults.now }
+{
+    nine_octets(
+        defaults.background,
+        defaults.foreground,
+        defaults.flash_on,
+        defaults.flash_off,
+        defaults.font,
+        defaults.line,
+        defaults.page,
+        defaults.on,
+        defaults.off,
+    );
+}
+
+fn nine_octets(
+    background: u8,
+    foreground: u8,
+    flash_on: u8,
+    flash_off: u8,
+    font: u8,
+    line: u8,
+    page: u8,
+    on: u8,
+    off: u8,
+)
+    ensures { AreDefaultsInRange (record {
+      background = background;
+      foreground = foreground;
+      flash_on = flash_on;
+      flash_off = flash_off;
+      font = font;
+      line = line;
+      page = page;
+      on = on;
+      off = off;
+    }) }
+{}

@@ -1,0 +1,10 @@
+use Rattle.std.proofs.Common.{◌≡◌, ℕ, List, subst}
+use Rattle.std.specs.Prelude.{IfOk}
+use Rattle.std.specs.Str.Lines.{lines}
+use Rattle.dms_text.proofs.LineFilter.{octets-numbered}
+use Rattle.dms_sign_text.specs.Causes.{first_cause}
+use Rattle.dms_sign_text.proofs.reasons.first_cause.Goals as goal
+
+pub returns : goal.returns
+returns c =
+    subst (λ (kept : List (List ℕ)). IfOk c.cause_of.result (λ found. found ≡ first_cause kept)) (octets-numbered 1 (lines c.args.octets.now)) c.cause_of.ensures

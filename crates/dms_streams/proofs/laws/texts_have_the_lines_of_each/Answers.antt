@@ -1,5 +1,0 @@
-use Rattle.dms_streams.proofs.Journals.{lines-append}
-use Rattle.dms_streams.proofs.laws.texts_have_the_lines_of_each.Goals as goal
-
-pub returns : goal.returns
-returns c = lines-append

@@ -1,0 +1,135 @@
+//! The first word of a line that is not what is wanted there.
+
+ghost use Rattle.std.specs.Prelude.{◌≡◌, ◌+◌, ◌<◌, ◌^◌, [], length, IfOk};
+ghost use Rattle.dms_text.specs.Words.{words_of};
+ghost use Rattle.dms_text_forms.specs.Form.{is_wanted, is_number, is_address, address_at, is_code, word_fault};
+ghost use Rattle.dms_text_forms.specs.Form.{fault_from};
+
+use crate::fault::{WordFault, WordFaultKind};
+use crate::wanted::Wanted;
+use dms_text::{Words, are_same, number, octets, version};
+use hex::FromHexError;
+use std::alloc::{AllocError, Global};
+
+/// The first word of a line that is not what is wanted there, where these are wanted and no more.
+pub fn word_fault(
+    alloc: Global,
+    form: &[Wanted],
+    line: &[u8],
+) -> Result<Option<WordFault>, AllocError>
+    ensures { IfOk result (λ found. found ≡ word_fault form.now (words_of line.now)) }
+{
+    fault_from(alloc, 1, form, Words::of(line))
+}
+
+/// The first of these words, that of this place first, that is not what is wanted.
+#[tactic(auto, unfolding(crate::specs::Form::fault_from))]
+fn fault_from(
+    alloc: Global,
+    place: usize,
+    form: &[Wanted],
+    words: Words<'_>,
+) -> Result<Option<WordFault>, AllocError>
+    requires { place + length form.now < 2 ^ 64 }
+    ensures { IfOk result (λ found. found ≡ fault_from place form.now words.entry) }
+{
+    match form {
+        [] => Ok(fault_at_end(place, words)),
+        [wanted, more @ ..] => {
+            if words.is_empty() {
+                return Ok(fault_at(place, WordFaultKind::Missing(*wanted)));
+            }
+            let Some((word, rest)) = words.next_word() else {
+                return Ok(fault_at(place, WordFaultKind::Empty));
+            };
+            if is_wanted(alloc, *wanted, word)? {
+                fault_from(alloc, place + 1, more, rest)
+            } else {
+                Ok(fault_at(place, WordFaultKind::Not(*wanted)))
+            }
+        }
+    }
+}
+
+fn fault_at(place: usize, kind: WordFaultKind) -> Option<WordFault>
+    ensures { result ≡ Some (record { place = place; kind = kind }) }
+{
+    Some(WordFault { place, kind })
+}
+
+/// The word that stands where no more words are wanted.
+#[tactic(auto, unfolding(crate::specs::Form::fault_from))]
+fn fault_at_end(place: usize, words: Words<'_>) -> Option<WordFault>
+    ensures { result ≡ fault_from place [] words.entry }
+{
+    if words.is_empty() {
+        return None;
+    }
+    match words.next_word() {
+        Some(_) => fault_at(place, WordFaultKind::More),
+        None => fault_at(place, WordFaultKind::Empty),
+    }
+}
+
+/// Whether a word is what is wanted.
+fn is_wanted(alloc: Global, wanted: Wanted, word: &[u8]) -> Result<bool, AllocError>
+    ensures { IfOk result (λ found. found ≡ is_wanted wanted word.now) }
+{
+    match wanted {
+        Wanted::Keyword(keyword) => Ok(are_same(word, keyword.text().as_bytes())),
+        Wanted::Either(one, other) => Ok(
+            are_same(word, one.text().as_bytes()) || are_same(word, other.text().as_bytes()),
+        ),
+        Wanted::Name(_) => Ok(true),
+        Wanted::Number(low, high) => Ok(is_number(word, 5, u64::from(low), u64::from(high))),
+        Wanted::FourOctets => Ok(is_number(word, 10, 0, 4_294_967_295)),
+        Wanted::Octets(_) => Ok(octets(alloc, word)?.is_some()),
+        Wanted::Version => Ok(version(word).is_some()),
+        Wanted::Address => Ok(is_address(word)),
+        Wanted::Code => is_code(alloc, word),
+    }
+}
+
+/// Whether a word is a number of one to `most` decimal digits, from `low` to `high`.
+fn is_number(word: &[u8], most: usize, low: u64, high: u64) -> bool
+    requires { most < 16 }
+    ensures { result ≡ is_number most low high word.now }
+{
+    match number(word, 10, most) {
+        Some(number) => low <= number && number <= high,
+        None => false,
+    }
+}
+
+/// Whether a word is four numbers with dots between them.
+fn is_address(word: &[u8]) -> bool
+    ensures { result ≡ is_address word.now }
+{
+    match after_address(Words::split(word, b'.')) {
+        Some(rest) => rest.is_empty(),
+        None => false,
+    }
+}
+
+/// What stands after the four numbers of an address.
+#[tactic(auto, unfolding(crate::specs::Form::address_at))]
+fn after_address(parts: Words<'_>) -> Option<Words<'_>>
+    ensures { result ≡ address_at parts.entry }
+{
+    let (_, parts) = parts.octet(3, 0, 255)?;
+    let (_, parts) = parts.octet(3, 0, 255)?;
+    let (_, parts) = parts.octet(3, 0, 255)?;
+    let (_, parts) = parts.octet(3, 0, 255)?;
+    Some(parts)
+}
+
+/// Whether a word is the twelve octets of a code in hexadecimal digits.
+fn is_code(alloc: Global, word: &[u8]) -> Result<bool, AllocError>
+    ensures { IfOk result (λ found. found ≡ is_code word.now) }
+{
+    match hex::decode(alloc, word) {
+        Ok(octets) => Ok(octets.len() == 12),
+        Err(FromHexError::OutOfMemory) => Err(AllocError),
+        Err(_) => Ok(false),
+    }
+}

@@ -1,0 +1,7 @@
+use Rattle.std.proofs.Common.{◌≡◌, ◌*◌, ◌^◌, ◌<◌, take}
+use Rattle.std.specs.Int.Digits.{number_from_digits}
+use Rattle.dms_wire_ber.proofs.integer.big_endian.Given as goal
+
+abbrev pub invariant-loop-octet : goal.invariant-loop-octet
+invariant-loop-octet l =
+    (l.number ≡ number_from_digits 256 (take l.octet-index l.octets)) × (l.number < 2 ^ (8 * l.octet-index))

@@ -1,0 +1,325 @@
+//! A call, carried out.
+
+ghost use Rattle.std.specs.Prelude.{◌≡◌, ◌++◌, List, ℕ, Option, codes, IfOk};
+ghost use Rattle.hex.specs.Hex.{encode_lower};
+ghost use Rattle.signtool_print.specs.declared.statuses.ExitStatus.TheVariants.{Done};
+ghost use Rattle.dms_sign.specs.Reply.{received};
+ghost use Rattle.dms_sign.specs.ReplyView.{sent};
+ghost use Rattle.signtool_print.specs.Printed.{answer, PrintsOrMemory};
+ghost use Rattle.signtool_acts.specs.CallAnswers.{reply_answer};
+
+use crate::inputs::{described_before, described_whole, replayed};
+use crate::refusal::Refusal;
+use dms_replay::{ReplayFault, address, bench};
+use dms_sign::{Receipt, Sign};
+use dms_sign_text::Setup;
+use dms_text_streams::{ConversationFault, Counted, Failed, Input, Party, Sink, Source, converse};
+use dms_wire::Out;
+use signtool_calls::{Call, Drawing, Form, SignWanted};
+use signtool_parties::{LiveCentre, LiveSign};
+use signtool_print::{
+    ExitStatus, activation, code, decode, list_items, print_count, print_hex_fault, print_made,
+    print_memory, print_no_memory, print_pages, print_text, say_why_dropped, status,
+};
+use std::alloc::{AllocError, Global};
+use std::io::{Read, Write};
+
+/// The line of the program's name and version.
+const VERSION: &[u8] = b"signtool 1.0.0\n";
+
+/// Carries out the call over the program's standard input and output, and gives the exit status: 0 where it was done, 1
+/// where it was refused or the output failed, 2 where the words are at fault.
+pub fn act<R: Read, W: Write>(
+    alloc: Global,
+    call: &Call<'_>,
+    reader: &mut R,
+    writer: &mut W,
+) -> u8 {
+    act_saying(alloc, call, reader, writer, &mut Vec::new(alloc)).number()
+}
+
+/// Carries out the call as `act` does, and says in words on the standard error why something was refused or dropped.
+pub fn act_saying<R: Read, W: Write, E: Write>(
+    alloc: Global,
+    call: &Call<'_>,
+    reader: &mut R,
+    writer: &mut W,
+    errors: &mut E,
+) -> ExitStatus {
+    let mut sink = Counted::new(&mut *writer);
+    status(carry_out(alloc, call, reader, &mut sink, errors))
+}
+
+/// Carries out the call over an output that counts its failures: the status of the call, or that a call of the output
+/// failed.
+pub fn carry_out<R: Read, W: Sink, E: Write>(
+    alloc: Global,
+    call: &Call<'_>,
+    reader: &mut R,
+    writer: &mut W,
+    errors: &mut E,
+) -> Result<ExitStatus, Failed> {
+    match *call {
+        Call::Answer { hex, sign } => print_answer(alloc, hex, sign, reader, writer, errors),
+        Call::Check { text, sign, form } => match form {
+            Form::Lines => print_check(alloc, text, sign, reader, writer, errors),
+            Form::Json => print_check_json(alloc, text, sign, reader, writer, errors),
+        },
+        Call::Pages {
+            text,
+            sign,
+            drawing,
+        } => print_drawing(alloc, (text, sign, drawing), reader, writer, errors),
+        Call::Decode { hex, spaced, form } => decode(alloc, (hex, spaced, form), writer, errors),
+        Call::Items { text, form } => list_items(alloc, text, form, writer, errors),
+        Call::Version => print_text(writer, VERSION, ExitStatus::Done),
+        Call::Code(words) => {
+            let address = address(words.terms.address.as_bytes());
+            code(alloc, &words, address, writer, errors)
+        }
+        Call::Activation(words) => {
+            let address = address(words.terms.address.as_bytes());
+            activation(alloc, &words, address, writer, errors)
+        }
+        Call::Replay => print_report(alloc, reader, writer, errors),
+        Call::Sign { sign } => be_sign(alloc, sign, reader, writer, errors),
+        Call::Centre { sign } => be_centre(alloc, sign, reader, writer, errors),
+    }
+}
+
+/// Answers the lines to a sign that the standard input has, or has after the sign's description.
+fn be_sign<R: Read, W: Sink, E: Write>(
+    alloc: Global,
+    wanted: SignWanted,
+    reader: &mut R,
+    writer: &mut W,
+    errors: &mut E,
+) -> Result<ExitStatus, Failed> {
+    let Ok(mut input) = Input::new(alloc, Counted::new(&mut *reader)) else {
+        return print_memory(writer);
+    };
+    match live_setup(alloc, wanted, &mut input) {
+        Ok(setup) => talk(alloc, LiveSign::new(setup.sign), &mut input, writer),
+        Err(refusal) => refusal.refuse(alloc, writer, errors),
+    }
+}
+
+/// Answers the lines to a sign's central system that the standard input has, or has after the sign's description.
+fn be_centre<R: Read, W: Sink, E: Write>(
+    alloc: Global,
+    wanted: SignWanted,
+    reader: &mut R,
+    writer: &mut W,
+    errors: &mut E,
+) -> Result<ExitStatus, Failed> {
+    let Ok(mut input) = Input::new(alloc, Counted::new(&mut *reader)) else {
+        return print_memory(writer);
+    };
+    let setup = match live_setup(alloc, wanted, &mut input) {
+        Ok(setup) => setup,
+        Err(refusal) => return refusal.refuse(alloc, writer, errors),
+    };
+    match LiveCentre::new(alloc, &setup) {
+        Ok(centre) => talk(alloc, centre, &mut input, writer),
+        Err(_) => print_memory(writer),
+    }
+}
+
+/// The sign that a conversation is about, which may be described before the conversation.
+fn live_setup<S: Source>(
+    alloc: Global,
+    wanted: SignWanted,
+    input: &mut Input<S>,
+) -> Result<Setup, Refusal> {
+    match wanted {
+        SignWanted::Bench => bench(alloc).map_err(Refusal::from),
+        SignWanted::Described => described_before(alloc, input),
+    }
+}
+
+/// Answers the lines that are left of the input.
+fn talk<P: Party + Drop, S: Source, W: Sink>(
+    alloc: Global,
+    mut party: P,
+    input: &mut Input<S>,
+    writer: &mut W,
+) -> Result<ExitStatus, Failed> {
+    match converse(alloc, &mut party, input, writer) {
+        Ok(()) => Ok(ExitStatus::Done),
+        Err(ConversationFault::Write) => Err(Failed),
+        Err(fault) => match talk_fault_line(alloc, fault) {
+            Ok(line) => print_made(writer, line, ExitStatus::Refused),
+            Err(_) => print_memory(writer),
+        },
+    }
+}
+
+fn talk_fault_line(alloc: Global, fault: ConversationFault) -> Result<Vec<u8>, AllocError> {
+    let mut line = Vec::new(alloc);
+    writeln!(line, "{fault}").or(Err(AllocError))?;
+    Ok(line)
+}
+
+/// The sign that a call is about, and the number of its centre's first request.
+fn setup<R: Source>(alloc: Global, wanted: SignWanted, reader: &mut R) -> Result<Setup, Refusal> {
+    match wanted {
+        SignWanted::Bench => bench_setup(alloc),
+        SignWanted::Described => described_whole(alloc, reader),
+    }
+}
+
+/// The bench sign.
+fn bench_setup(alloc: Global) -> Result<Setup, Refusal> {
+    match bench(alloc) {
+        Ok(setup) => Ok(setup),
+        Err(_) => Err(Refusal::from(ReplayFault::Memory)),
+    }
+}
+
+/// Prints the report of the script on the standard input.
+fn print_report<R: Read, W: Sink, E: Write>(
+    alloc: Global,
+    reader: &mut R,
+    writer: &mut W,
+    errors: &mut E,
+) -> Result<ExitStatus, Failed> {
+    match replayed(alloc, &mut Counted::new(&mut *reader), writer) {
+        Ok(()) => Ok(ExitStatus::Done),
+        Err(refusal) if refusal.fault == ReplayFault::Write => Err(Failed),
+        Err(refusal) => refusal.refuse(alloc, writer, errors),
+    }
+}
+
+/// Prints the sign's reply to a datagram, in lower case hexadecimal digits.
+fn print_answer<R: Read, W: Sink, E: Write>(
+    alloc: Global,
+    digits: &str,
+    sign: SignWanted,
+    reader: &mut R,
+    writer: &mut W,
+    errors: &mut E,
+) -> Result<ExitStatus, Failed> {
+    let datagram = match hex::decode(alloc, digits.as_bytes()) {
+        Ok(datagram) => datagram,
+        Err(fault) => return print_hex_fault(Form::Lines, (digits, fault), writer, errors),
+    };
+    match setup(alloc, sign, &mut Counted::new(&mut *reader)) {
+        Ok(setup) => print_reply(alloc, setup.sign, datagram.as_slice(), writer, errors),
+        Err(refusal) => refusal.refuse(alloc, writer, errors),
+    }
+}
+
+/// Prints a sign's reply to a datagram.
+fn print_reply<W: Sink, E: Write>(
+    alloc: Global,
+    sign: Sign,
+    datagram: &[u8],
+    writer: &mut W,
+    errors: &mut E,
+) -> Result<ExitStatus, Failed>
+    ensures { PrintsOrMemory (W.contents writer.old) (W.contents writer.new) (W.failed writer.old)
+        (W.failed writer.new) result (reply_answer (received sign datagram.now).reply) }
+{
+    let mut sign = sign;
+    let mut reply = Out::new();
+    let receipt = sign.receive(datagram, &mut reply);
+    if receipt == Receipt::Dropped {
+        say_why_dropped(datagram, errors);
+    }
+    print_receipt(alloc, receipt, &reply, writer)
+}
+
+/// Prints what was sent.
+fn print_receipt<W: Sink>(
+    alloc: Global,
+    receipt: Receipt,
+    reply: &Out,
+    writer: &mut W,
+) -> Result<ExitStatus, Failed>
+    ensures { (wanted : Option (List ℕ)) → sent receipt reply.now.items ≡ wanted
+        → PrintsOrMemory (W.contents writer.old) (W.contents writer.new) (W.failed writer.old) (W.failed writer.new)
+        result (reply_answer wanted) }
+{
+    match receipt {
+        Receipt::Dropped => print_text(writer, b"dropped\n", ExitStatus::Refused),
+        Receipt::Replied => print_octets(alloc, reply.as_slice(), writer),
+        Receipt::Accepted(_) => print_octets(alloc, reply.as_slice(), writer),
+    }
+}
+
+fn print_octets<W: Sink>(alloc: Global, octets: &[u8], writer: &mut W) -> Result<ExitStatus, Failed>
+    ensures { (wanted : List ℕ) → octets.now ≡ wanted → PrintsOrMemory (W.contents writer.old) (W.contents writer.new)
+        (W.failed writer.old) (W.failed writer.new) result (answer Done (encode_lower wanted ++ codes "\n")) }
+{
+    match digits_line(alloc, octets) {
+        Ok(line) => print_made(writer, line, ExitStatus::Done),
+        Err(_) => print_memory(writer),
+    }
+}
+
+/// The line of octets in hexadecimal digits.
+fn digits_line(alloc: Global, octets: &[u8]) -> Result<Vec<u8>, AllocError>
+    ensures { IfOk result (λ line. line.items ≡ encode_lower octets.now ++ codes "\n") }
+{
+    let digits = hex::encode(alloc, octets)?;
+    let mut line = Vec::new(alloc);
+    writeln!(line, "{digits}").or(Err(AllocError))?;
+    Ok(line)
+}
+
+/// Prints the number of a text's pages on the sign, or its fault.
+fn print_check<R: Read, W: Sink, E: Write>(
+    alloc: Global,
+    text: &str,
+    sign: SignWanted,
+    reader: &mut R,
+    writer: &mut W,
+    errors: &mut E,
+) -> Result<ExitStatus, Failed> {
+    match setup(alloc, sign, &mut Counted::new(&mut *reader)) {
+        Ok(setup) => { print_count(alloc, text, setup.sign.face(), Form::Lines, writer, errors) }
+        Err(refusal) => refusal.refuse(alloc, writer, errors),
+    }
+}
+
+/// Prints the same as an object of JSON.
+fn print_check_json<R: Read, W: Sink, E: Write>(
+    alloc: Global,
+    text: &str,
+    sign: SignWanted,
+    reader: &mut R,
+    writer: &mut W,
+    errors: &mut E,
+) -> Result<ExitStatus, Failed> {
+    match setup(alloc, sign, &mut Counted::new(&mut *reader)) {
+        Ok(setup) => print_count(alloc, text, setup.sign.face(), Form::Json, writer, errors),
+        Err(refusal) => {
+            let _ = refusal.say(errors);
+            match refused_object(alloc, refusal.fault) {
+                Ok(object) => print_made(writer, object, ExitStatus::Refused),
+                Err(_) => print_no_memory(Form::Json, writer),
+            }
+        }
+    }
+}
+
+fn refused_object(alloc: Global, fault: ReplayFault) -> Result<Vec<u8>, AllocError> {
+    let mut object = Vec::new(alloc);
+    writeln!(object, "{{\"refused\":\"{fault}\"}}").or(Err(AllocError))?;
+    Ok(object)
+}
+
+/// Prints the pages of a text on the sign, or its fault.
+fn print_drawing<R: Read, W: Sink, E: Write>(
+    alloc: Global,
+    words: (&str, SignWanted, Drawing),
+    reader: &mut R,
+    writer: &mut W,
+    errors: &mut E,
+) -> Result<ExitStatus, Failed> {
+    let (text, sign, drawing) = words;
+    match setup(alloc, sign, &mut Counted::new(&mut *reader)) {
+        Ok(setup) => print_pages(alloc, text, setup.sign.face(), drawing, writer, errors),
+        Err(refusal) => refusal.refuse(alloc, writer, errors),
+    }
+}

@@ -1,0 +1,200 @@
+//! Datagrams and texts, read and printed.
+
+use crate::fields::write_message;
+use crate::item_lines::write_items;
+use crate::json::{put_items, put_message};
+use crate::statuses::{ExitStatus, print, print_made, print_memory, print_text};
+use dms_text_streams::{Failed, Sink};
+use dms_wire::{Message, WireFault, read};
+use hex::FromHexError;
+use signtool_calls::Form;
+use std::alloc::Global;
+use std::io::Write;
+
+/// Prints the fields of a datagram in hexadecimal digits, or its fault. `spaced` is whether spaces and colons may stand
+/// between octets. Why it is refused is said in words too.
+pub fn decode<W: Sink, E: Write>(
+    alloc: Global,
+    words: (&str, bool, Form),
+    writer: &mut W,
+    errors: &mut E,
+) -> Result<ExitStatus, Failed> {
+    let (digits, spaced, form) = words;
+    let octets = if spaced {
+        spaced_octets(alloc, digits)
+    } else {
+        hex::decode(alloc, digits.as_bytes())
+    };
+    match octets {
+        Ok(datagram) => match read(datagram.as_slice()) {
+            Ok(message) => print_message(alloc, message, form, writer),
+            Err(fault) => {
+                let _ = writeln!(errors, "{fault}");
+                print_wire_fault(alloc, form, fault, writer)
+            }
+        },
+        // what is no digit in the word is a separator in its place
+        Err(FromHexError::OddLength) if spaced => {
+            say_odd_number(errors);
+            print_not_hex(form, writer)
+        }
+        Err(fault) => print_hex_fault(form, (digits, fault), writer, errors),
+    }
+}
+
+fn print_message<W: Sink>(
+    alloc: Global,
+    message: Message<'_>,
+    form: Form,
+    writer: &mut W,
+) -> Result<ExitStatus, Failed> {
+    let mut fields = Vec::new(alloc);
+    let made = match form {
+        Form::Lines => write_message(alloc, message, &mut fields),
+        Form::Json => put_message(alloc, message, &mut fields),
+    };
+    match made {
+        Ok(()) => print_made(writer, fields, ExitStatus::Done),
+        Err(_) => print_no_memory(form, writer),
+    }
+}
+
+/// Prints the items of a text before its fault, and its fault, if it has one, which is said in words too.
+pub fn list_items<W: Sink, E: Write>(
+    alloc: Global,
+    text: &str,
+    form: Form,
+    writer: &mut W,
+    errors: &mut E,
+) -> Result<ExitStatus, Failed> {
+    let mut lines = Vec::new(alloc);
+    let made = match form {
+        Form::Lines => write_items(text.as_bytes(), &mut lines),
+        Form::Json => put_items(text.as_bytes(), &mut lines),
+    };
+    match made {
+        Ok(None) => print_made(writer, lines, ExitStatus::Done),
+        Ok(Some(fault)) => {
+            let _ = writeln!(errors, "{fault}");
+            print_made(writer, lines, ExitStatus::Refused)
+        }
+        Err(_) => print_no_memory(form, writer),
+    }
+}
+
+/// The octets that pairs of digits are. Spaces and colons may stand between two pairs.
+fn spaced_octets(alloc: Global, digits: &str) -> Result<Vec<u8>, FromHexError> {
+    let mut pairs = Vec::new(alloc);
+    let mut is_after_separator = false;
+    for (index, digit) in digits.as_bytes().iter().enumerate() {
+        is_after_separator = matches!(*digit, b' ' | b':')
+            && !pairs.is_empty()
+            && pairs.len() % 2 == 0;
+        if !is_after_separator {
+            if !digit.is_ascii_hexdigit() {
+                return Err(FromHexError::InvalidHexCharacter {
+                    c: char::from(*digit),
+                    index,
+                });
+            }
+            if pairs.push(*digit).is_err() {
+                return Err(FromHexError::OutOfMemory);
+            }
+        }
+    }
+    if is_after_separator {
+        let index = digits.len().saturating_sub(1);
+        return Err(FromHexError::InvalidHexCharacter { c: ' ', index });
+    }
+    hex::decode(alloc, pairs.as_slice())
+}
+
+/// Prints that a word is no octets, and says which octet of it is no digit of a pair, or that there is no memory.
+pub fn print_hex_fault<W: Sink, E: Write>(
+    form: Form,
+    words: (&str, FromHexError),
+    writer: &mut W,
+    errors: &mut E,
+) -> Result<ExitStatus, Failed> {
+    let (digits, fault) = words;
+    match fault {
+        FromHexError::OutOfMemory => print_no_memory(form, writer),
+        FromHexError::InvalidHexCharacter { c: _, index } => {
+            say_no_digit(digits, index, errors);
+            print_not_hex(form, writer)
+        }
+        _ => {
+            match digits
+                .as_bytes()
+                .iter()
+                .position(|octet| !octet.is_ascii_hexdigit())
+            {
+                Some(index) => say_no_digit(digits, index, errors),
+                None => say_odd_number(errors),
+            }
+            print_not_hex(form, writer)
+        }
+    }
+}
+
+/// Says which octet of a word is no digit of a pair.
+fn say_no_digit<E: Write>(digits: &str, index: usize, errors: &mut E) {
+    let octet = digits.as_bytes().get(index).copied().unwrap_or(0);
+    let number = index.saturating_add(1);
+    let _ = writeln!(
+        errors,
+        "octet {number} of the word, {octet:02x} in hexadecimal, is no digit of a pair"
+    );
+}
+
+fn say_odd_number<E: Write>(errors: &mut E) {
+    let _ = writeln!(errors, "the word has an odd number of hexadecimal digits");
+}
+
+fn print_not_hex<W: Sink>(form: Form, writer: &mut W) -> Result<ExitStatus, Failed> {
+    match form {
+        Form::Lines => print_text(writer, b"not hex\n", ExitStatus::Misused),
+        Form::Json => print(writer, b"{\"refused\":\"not hex\"}\n", ExitStatus::Misused),
+    }
+}
+
+/// Says in words why a sign does not answer a datagram.
+pub fn say_why_dropped<E: Write>(datagram: &[u8], errors: &mut E) {
+    let _ = match read(datagram) {
+        Ok(_) => writeln!(
+            errors,
+            "no request, or not of a community that may ask this"
+        ),
+        Err(fault) => writeln!(errors, "{fault}"),
+    };
+}
+
+/// Prints why octets spell no message, and where.
+fn print_wire_fault<W: Sink>(
+    alloc: Global,
+    form: Form,
+    fault: WireFault,
+    writer: &mut W,
+) -> Result<ExitStatus, Failed> {
+    let mut text = Vec::new(alloc);
+    let made = match form {
+        Form::Lines => writeln!(text, "fault {fault}"),
+        Form::Json => writeln!(
+            text,
+            "{{\"fault\":\"{}\",\"octet\":{}}}",
+            fault.kind, fault.place
+        ),
+    };
+    match made {
+        Ok(()) => print_made(writer, text, ExitStatus::Refused),
+        Err(_) => print_no_memory(form, writer),
+    }
+}
+
+/// Prints that there is no memory.
+pub fn print_no_memory<W: Sink>(form: Form, writer: &mut W) -> Result<ExitStatus, Failed> {
+    match form {
+        Form::Lines => print_memory(writer),
+        Form::Json => print(writer, b"{\"refused\":\"memory\"}\n", ExitStatus::Refused),
+    }
+}

@@ -1,0 +1,423 @@
+//! Calls of the program by their words and their input, each with what it prints.
+
+mod cases;
+
+use signtool_acts::act::{act, act_saying};
+use signtool_calls::{Call, Drawing, Form, SignWanted};
+use signtool_cli::asked;
+use std::alloc::{AllocError, Global};
+use std::io;
+use std::io::Read;
+use std::test::Fail;
+
+/// The call that these words are, if they are one.
+fn call_of<'a>(alloc: Global, words: &'a [&'a str]) -> Option<Call<'a>> {
+    asked(alloc, words).ok()
+}
+
+/// The words of a line, after the program's name. What stands between two `'` is one word.
+fn words_of(alloc: Global, line: &str) -> Result<Vec<&str>, AllocError> {
+    let mut words = Vec::new(alloc);
+    words.push("signtool")?;
+    for (place, part) in line.split('\'').enumerate() {
+        if place % 2 == 1 {
+            words.push(part)?;
+        } else {
+            for word in part.split_ascii_whitespace() {
+                words.push(word)?;
+            }
+        }
+    }
+    Ok(words)
+}
+
+/// The status of a call over this standard input, and whether this is printed.
+fn acted(alloc: Global, call: &Call<'_>, mut input: impl Read + Drop, printed: &str) -> (u8, bool) {
+    let mut output = Vec::new(alloc);
+    let status = act(alloc, call, &mut input, &mut output);
+    (status, output.as_slice() == printed.as_bytes())
+}
+
+/// The same of the call that a line is, if it is one.
+fn called(alloc: Global, line: &str, input: &str, printed: &str) -> Option<(u8, bool)> {
+    let words = words_of(alloc, line).ok()?;
+    let call = call_of(alloc, &words)?;
+    Some(acted(alloc, &call, input.as_bytes(), printed))
+}
+
+#[test]
+fn answers(rt: HostRuntime) {
+    let sign = SignWanted::Bench;
+    for (hex, printed, status) in cases::ANSWERS {
+        let found = acted(
+            rt.alloc(),
+            &Call::Answer { hex, sign },
+            b"".as_slice(),
+            printed,
+        );
+        assert_eq!(rt; found, (status, true), "for {hex}");
+    }
+}
+
+#[test]
+fn calls(rt: HostRuntime) -> Result<(), Fail> {
+    for (line, printed, status) in cases::TEXTS {
+        let found = called(rt.alloc(), line, "", printed);
+        assert_eq!(rt; found, Some((status, true)), "for {line}");
+    }
+    for (line, crc, code) in cases::CODES {
+        let printed = format!(in rt.alloc(); "crc {crc}\ncode {code}\n")?;
+        let found = called(rt.alloc(), line, "", printed.as_str());
+        assert_eq!(rt; found, Some((0, true)), "for {line}");
+    }
+    Ok(())
+}
+
+/// A code, or a refusal with its status. What is wrong with a checksum is said before what is wrong with an address.
+#[test]
+fn activations(rt: HostRuntime) -> Result<(), Fail> {
+    for case in cases::ACTIVATIONS.lines() {
+        let (line, wanted) = case.split_once('|').unwrap_or((case, ""));
+        let (printed, status) = wanted.split_once('|').unwrap_or((wanted, ""));
+        let printed = format!(in rt.alloc(); "{printed}\n")?;
+        let found = called(rt.alloc(), line, "", printed.as_str());
+        assert_eq!(rt; found, Some((status.parse::<u8>()?, true)), "for {line}");
+    }
+    Ok(())
+}
+
+#[test]
+fn calls_with_input(rt: HostRuntime) {
+    for cases in [
+        cases::DESCRIBED.as_slice(),
+        cases::REPLAYS.as_slice(),
+        cases::CONVERSATIONS.as_slice(),
+    ] {
+        for (line, input, printed, status) in cases {
+            let found = called(rt.alloc(), line, input, printed);
+            assert_eq!(rt; found, Some((*status, true)), "for {line}");
+        }
+    }
+}
+
+/// The status of the call that a line is, and whether this is printed and that is said on the standard error.
+fn called_saying(alloc: Global, line: &str, printed: &str, said: &str) -> Option<(u8, bool, bool)> {
+    let words = words_of(alloc, line).ok()?;
+    let call = call_of(alloc, &words)?;
+    let mut output = Vec::new(alloc);
+    let mut errors = Vec::new(alloc);
+    let mut input: &[u8] = &[];
+    let status = act_saying(alloc, &call, &mut input, &mut output, &mut errors);
+    Some((
+        status.number(),
+        output.as_slice() == printed.as_bytes(),
+        errors.as_slice() == said.as_bytes(),
+    ))
+}
+
+#[test]
+fn readers(rt: HostRuntime) {
+    for cases in [
+        cases::DECODED.as_slice(),
+        cases::ITEMS.as_slice(),
+        cases::SAID.as_slice(),
+    ] {
+        for (line, printed, status, said) in cases {
+            let found = called_saying(rt.alloc(), line, printed, said);
+            assert_eq!(rt; found, Some((*status, true, true)), "for {line}");
+        }
+    }
+}
+
+/// Each refusal says why.
+#[test]
+fn refusals_say_why(rt: HostRuntime) -> Result<(), Fail> {
+    for case in cases::REFUSED.lines() {
+        let (line, rest) = case.split_once('|').unwrap_or((case, ""));
+        let (printed, rest) = rest.split_once('|').unwrap_or((rest, ""));
+        let (status, said) = rest.split_once('|').unwrap_or((rest, ""));
+        let printed = format!(in rt.alloc(); "{printed}\n")?;
+        let said = format!(in rt.alloc(); "{said}\n")?;
+        let found = called_saying(rt.alloc(), line, printed.as_str(), said.as_str());
+        assert_eq!(rt;
+            found,
+            Some((status.parse::<u8>()?, true, true)),
+            "for {line}"
+        );
+    }
+    Ok(())
+}
+
+#[test]
+fn refuses_a_long_text(rt: HostRuntime) -> Result<(), Fail> {
+    let long = [b'A'; 513];
+    for (length, status) in [(512, 0), (513, 1)] {
+        let text = str::from_utf8(&long[..length])?;
+        let line = format!(in rt.alloc(); "code 3 1 {text}")?;
+        let found = called(rt.alloc(), line.as_str(), "", "text too long\n");
+        assert_eq!(rt; found, Some((status, status == 1)));
+    }
+    Ok(())
+}
+
+/// The address is looked at before the length of the text.
+#[test]
+fn bad_address_first(rt: HostRuntime) -> Result<(), Fail> {
+    let text = [b'A'; 513];
+    let long = str::from_utf8(&text)?;
+    for (address, printed, status) in [
+        ("1.2.3", "bad address\n", 2),
+        ("1.2.3.4", "text too long\n", 1),
+    ] {
+        let line = format!(in rt.alloc(); "code 3 1 {long} --address {address}")?;
+        let found = called(rt.alloc(), line.as_str(), "", printed);
+        assert_eq!(rt; found, Some((status, true)));
+    }
+    Ok(())
+}
+
+#[test]
+fn reads_the_command_line(rt: HostRuntime) -> Result<(), Fail> {
+    let Some(Call::Answer { hex, sign }) = call_of(rt.alloc(), &["signtool", "answer", "30"]) else {
+        return Err("no answer".into());
+    };
+    assert!(rt; hex == "30" && sign == SignWanted::Bench);
+    let Some(Call::Check { text, sign, form }) = call_of(
+        rt.alloc(),
+        &["signtool", "check", "--sign", "A"],
+    ) else {
+        return Err("no check".into());
+    };
+    assert!(rt; text == "A" && sign == SignWanted::Described && form == Form::Lines);
+    let Some(Call::Sign { sign }) = call_of(rt.alloc(), &["signtool", "sign", "--sign"]) else {
+        return Err("no sign".into());
+    };
+    let Some(Call::Centre { sign: bench }) = call_of(rt.alloc(), &["signtool", "centre"]) else {
+        return Err("no centre".into());
+    };
+    assert!(rt; sign == SignWanted::Described && bench == SignWanted::Bench);
+    Ok(())
+}
+
+#[test]
+fn refuses_other_command_lines(rt: HostRuntime) -> Result<(), Fail> {
+    for line in cases::NO_CALLS {
+        let words = words_of(rt.alloc(), line)?;
+        assert!(rt; call_of(rt.alloc(), &words).is_none(), "for {line}");
+    }
+    Ok(())
+}
+
+/// What is said of a line that is no call.
+fn usage_of(alloc: Global, line: &str) -> Option<String> {
+    let words = words_of(alloc, line).ok()?;
+    match asked(alloc, &words) {
+        Ok(_) => None,
+        Err(usage) => format!(in alloc; "{usage}").ok(),
+    }
+}
+
+/// A number is digits alone, within its range, and what is said of another word names it.
+#[test]
+fn numbers_are_digits_alone(rt: HostRuntime) {
+    for case in cases::NO_NUMBERS.lines() {
+        let (line, said) = case.split_once('|').unwrap_or((case, ""));
+        let usage = usage_of(rt.alloc(), line);
+        let found = match &usage {
+            Some(usage) => !said.is_empty() && usage.as_str().contains(said),
+            None => false,
+        };
+        assert!(rt; found, "for {line}");
+    }
+}
+
+/// Where a word follows `--sign` as if it named a file, the last line says how a description is given.
+#[test]
+fn hints_at_the_standard_input(rt: HostRuntime) {
+    for (line, is_hinted) in cases::HINTED {
+        let usage = usage_of(rt.alloc(), line);
+        let found = match &usage {
+            Some(said) => Some(
+                said.as_str()
+                    .ends_with("the description is read from standard input: < FILE\n"),
+            ),
+            None => None,
+        };
+        assert_eq!(rt; found, Some(is_hinted), "for {line}");
+    }
+}
+
+/// The help names the option that stands alone, and says which sign answers.
+#[test]
+fn the_help_names_the_version_and_the_bench_sign(rt: HostRuntime) {
+    let usage = usage_of(rt.alloc(), "--help");
+    for wanted in [
+        "--version",
+        "activation",
+        "Where --sign is not given the bench sign answers",
+        "The manual is wisangub-signtool(1)",
+    ] {
+        let found = match &usage {
+            Some(said) => said.as_str().contains(wanted),
+            None => false,
+        };
+        assert!(rt; found, "no {wanted}");
+    }
+    let words = ["signtool", "--version", "check", "A"];
+    assert!(rt; matches!(call_of(rt.alloc(), &words), Some(Call::Version)));
+}
+
+/// The status of a call whose output takes nothing.
+fn status_where_full(alloc: Global, line: &str) -> Option<u8> {
+    let words = words_of(alloc, line).ok()?;
+    let call = call_of(alloc, &words)?;
+    let mut input: &[u8] = &[];
+    let mut output: &mut [u8] = &mut [];
+    Some(act(alloc, &call, &mut input, &mut output))
+}
+
+/// Where the output takes nothing, the status says so, whatever was to be printed.
+#[test]
+fn full_output(rt: HostRuntime) {
+    for line in cases::PRINTING {
+        assert_eq!(rt; status_where_full(rt.alloc(), line), Some(1));
+    }
+}
+
+/// A reader that gives so many `#` and then fails, or then ends.
+#[derive(Drop)]
+struct Filler {
+    left: usize,
+    fails: bool,
+}
+
+impl Read for Filler {
+    fn read(&mut self, buf: &mut [u8]) -> io::Result<usize> {
+        if self.left == 0 && self.fails {
+            return Err(io::Error::from(io::ErrorKind::Other));
+        }
+        let count = self.left.min(buf.len());
+        buf[..count].fill(b'#');
+        self.left -= count;
+        Ok(count)
+    }
+}
+
+/// Whatever reads the standard input says that it fails, and that it is too long.
+#[test]
+fn bad_inputs(rt: HostRuntime) {
+    for calls in [
+        cases::READ_FIRST.as_slice(),
+        cases::READ_BY_LINES.as_slice(),
+    ] {
+        for call in calls {
+            for (left, fails, printed) in cases::LENGTHS {
+                let found = acted(rt.alloc(), call, Filler { left, fails }, printed);
+                assert_eq!(rt; found, (1, true), "after {left}");
+            }
+        }
+    }
+}
+
+/// Where a whole input is read first, an octet past the limit decides before a call that would fail after it.
+#[test]
+fn too_long_before_a_failure(rt: HostRuntime) {
+    for call in &cases::READ_FIRST {
+        let input = Filler {
+            left: 1_048_577,
+            fails: true,
+        };
+        let found = acted(rt.alloc(), call, input, "too long\n");
+        assert_eq!(rt; found, (1, true));
+    }
+}
+
+/// A long line is refused, the lines around it are answered, and a reader that fails within a line is reported after
+/// them.
+#[test]
+fn long_lines_are_refused(rt: HostRuntime) {
+    for (call, fails, printed) in cases::LONG_LINES {
+        let input = Filler {
+            left: 200_000,
+            fails,
+        };
+        let found = acted(rt.alloc(), &call, input, printed);
+        assert_eq!(rt; found, (u8::from(fails), true));
+    }
+}
+
+/// An output that is full after each octet in turn has a prefix of what is to be printed, and the status says that this
+/// is not all.
+#[test]
+fn full_after_each_octet(rt: HostRuntime) {
+    for (call, input, printed) in cases::BY_LINES {
+        let printed = printed.as_bytes();
+        for room in 0..=printed.len() {
+            let mut buffer = [0_u8; 128];
+            let mut output: &mut [u8] = &mut buffer[..room];
+            let mut input = input.as_bytes();
+            let found = act(rt.alloc(), &call, &mut input, &mut output);
+            assert_eq!(rt; found, u8::from(room < printed.len()));
+            assert!(rt; buffer[..room] == printed[..room]);
+        }
+    }
+}
+
+/// The status of a call, and whether this is printed, or that there is no memory.
+fn acted_or_memory(alloc: Global, call: &Call<'_>, input: &str, printed: &str) -> (u8, bool, bool) {
+    let mut buffer = [0_u8; 256];
+    let mut output: &mut [u8] = &mut buffer;
+    let mut input = input.as_bytes();
+    let status = act(alloc, call, &mut input, &mut output);
+    let written = 256_usize.saturating_sub(output.len());
+    let text = &buffer[..written];
+    (
+        status,
+        text == printed.as_bytes(),
+        text == b"memory\n".as_slice(),
+    )
+}
+
+/// Where memory is refused once, as `rt try --test --fail-alloc N` refuses it, each call prints what it prints without,
+/// or `memory` with status 1. Done again, it prints that.
+#[test]
+fn printed_or_out_of_memory(rt: HostRuntime) {
+    for (call, input, printed, status) in cases::ALLOCATING {
+        for refused in [false, true] {
+            let (found, whole, memory) = acted_or_memory(rt.alloc(), &call, input, printed);
+            if found == status && whole {
+                break;
+            }
+            assert_eq!(rt; (found, memory, refused), (1, true, false), "for {call:?}");
+        }
+    }
+}
+
+/// The status of two pages that are drawn so, whether a document is printed, or page 2, and in how many lines.
+fn drawn(alloc: Global, drawing: Drawing) -> (u8, bool, bool, usize) {
+    let call = Call::Pages {
+        text: "A[np]B",
+        sign: SignWanted::Bench,
+        drawing,
+    };
+    let mut output = Vec::new(alloc);
+    let mut input: &[u8] = &[];
+    let status = act(alloc, &call, &mut input, &mut output);
+    let text = output.as_slice();
+    (
+        status,
+        text.starts_with(b"<svg ") && text.ends_with(b"</svg>\n"),
+        text.starts_with(b"page 2 on 30 off 0 back 0\n"),
+        text.iter().filter(|octet| **octet == b'\n').count(),
+    )
+}
+
+/// A picture begins and ends as a document; a page alone is as many rows as the sign has, and the line before them.
+#[test]
+fn pictures(rt: HostRuntime) {
+    for (svg, page) in [(true, None), (true, Some(2)), (false, Some(2))] {
+        let (status, document, second, lines) = drawn(rt.alloc(), Drawing { svg, page });
+        assert_eq!(rt; (status, document, second), (0, svg, !svg));
+        assert!(rt; svg || lines == 15);
+    }
+}

@@ -1,0 +1,71 @@
+"""A bar of the crates' families: what crates.txt says of each crate, its name, and the page on the crates agree."""
+
+import re
+
+from . import crates
+from .tree import Tree
+
+PAGE = "docs/ARCHITECTURE.md"
+MOST_WORDS = 10
+SAID = re.compile(r"# (?P<what>[^\[\]]+?)(?: \[(?P<apart>[^\[\]]+)\])?")
+ROW = re.compile(r"(?m)^\| (?P<crate>\w+) \|[^|\n]*\|[^|\n]*\|(?P<apart>[^|\n]*)\|$")
+
+
+def families(tree: Tree) -> dict[str, list[str]]:
+    """The families of each house, by its line of crates.txt."""
+    lines = (crates.HOUSE.fullmatch(line) for _, line in tree.lines(crates.LIST))
+    return {line["house"]: line["families"].split(", ") for line in lines if line}
+
+
+def family(crate: str, known: list[str]) -> str | None:
+    """The family to which a crate belongs by its name: the longest that is it, or that it begins with."""
+    found = [name for name in known if crate == name or crate.startswith(f"{name}_")]
+    return max(found, key=len) if found else None
+
+
+def said(tree: Tree) -> dict[str, tuple[str, str]]:
+    """What crates.txt says of each crate in the line above it: what it is, and why it is apart from its family's."""
+    lines = [line for _, line in tree.lines(crates.LIST)]
+    found = {}
+    for above, line in zip(["", *lines], lines):
+        comment = SAID.fullmatch(above)
+        if re.match(r"\w", line):
+            found[line.split(":")[0].split()[0]] = (comment["what"], comment["apart"] or "") if comment else ("", "")
+    return found
+
+
+def told(tree: Tree) -> dict[str, str]:
+    """Why each crate is apart, as the page's table has it."""
+    return {row["crate"]: row["apart"].strip() for row in ROW.finditer(tree.text(PAGE))}
+
+
+def of_names(tree: Tree) -> list[str]:
+    """Crates whose name is that of no family of their house, and families without a crate of their name."""
+    by_house, houses = families(tree), crates.houses(tree)
+    known = [name for names in by_house.values() for name in names]
+    found = [f"{crates.LIST}: there is no crate {name}" for name in known if name not in crates.names(tree)]
+    for house, members in houses.items():
+        for crate in members:
+            if family(crate, known) not in by_house[house]:
+                found.append(f"{crates.LIST}: {crate} begins with none of {', '.join(by_house[house])}")
+    return found
+
+
+def of_words(tree: Tree) -> list[str]:
+    """Crates of which crates.txt says nothing or too much, or not why they are apart, or another reason than the page."""
+    known, reasons = [name for names in families(tree).values() for name in names], told(tree)
+    found = []
+    for crate, (what, apart) in said(tree).items():
+        is_part = crate not in known and not crates.is_tests(crate)
+        if not 0 < len(what.split()) <= MOST_WORDS:
+            found.append(f"{crates.LIST}: what {crate} is, in one to {MOST_WORDS} words, does not stand above it")
+        if is_part and not apart:
+            found.append(f"{crates.LIST}: why {crate} is apart does not stand above it, in brackets")
+        if reasons.get(crate) != apart:
+            found.append(f"{PAGE}: {crate} is apart for '{reasons.get(crate, '')}'; in {crates.LIST} for '{apart}'")
+    return found
+
+
+def kept(tree: Tree) -> list[str]:
+    """What does not agree."""
+    return [*of_names(tree), *of_words(tree)]
