@@ -5,3 +5,6 @@ pub mod ExitNumbers
 pub mod ObjectNames
 pub mod Printed
 pub mod TextAnswers
+pub mod ItemLines
+pub mod ItemWords
+pub mod InstanceNames

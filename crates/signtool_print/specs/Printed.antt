@@ -5,7 +5,7 @@ use Rattle.dms_text_streams.specs.Calls.{one_more}
 use Rattle.dms_text_streams.specs.Prefixes.{AppendsPrefix}
 use Rattle.dms_text_streams.specs.declared.failed.Failed.{Failed}
 use Rattle.signtool_print.specs.declared.statuses.ExitStatus.{ExitStatus}
-use Rattle.signtool_print.specs.declared.statuses.ExitStatus.TheVariants.{Done, Refused, Misused}
+use Rattle.signtool_print.specs.declared.statuses.ExitStatus.TheVariants.{Refused}
 
 -- the text of a call, and the status with which it ends
 pub record Answer : Type 0 where

@@ -1,5 +1,9 @@
 //! What the items of a text are, in words, with their values.
 
+ghost use Rattle.std.specs.Prelude.{◌≡◌, ◌++◌, [], None, codes};
+ghost use Rattle.signtool_print.specs.ItemLines.{flash_name, font_number, font_version, value_text};
+ghost use Rattle.signtool_print.specs.ItemWords.{text_of_values};
+
 use dms_multi::{Item, Lead};
 
 /// What an item is, and its values, of which none is the sign's default.
@@ -20,8 +24,16 @@ pub(crate) enum Values {
 }
 
 impl ItemWords {
+    ghost use Rattle.std.specs.Prelude.{◌≡◌};
+    ghost use Rattle.signtool_print.specs.ItemLines.{item_name, values_text, item_version};
+    ghost use Rattle.signtool_print.specs.ItemWords.{text_of_values};
+
     /// The words of an item.
-    pub(crate) fn of(item: Item) -> ItemWords {
+    pub(crate) fn of(item: Item) -> ItemWords
+        ensures name { result.name.now ≡ item_name item }
+        ensures values { text_of_values result.values ≡ values_text item }
+        ensures version { result.version ≡ item_version item }
+    {
         match item {
             Item::Char(character) => one("character", Some(character)),
             Item::Background(colour) => one("background", wide(colour)),
@@ -38,7 +50,11 @@ impl ItemWords {
     }
 }
 
-fn of_font(font: Option<(u8, Option<u16>)>) -> ItemWords {
+fn of_font(font: Option<(u8, Option<u16>)>) -> ItemWords
+    ensures name { result.name.now ≡ codes "font" }
+    ensures values { text_of_values result.values ≡ value_text (font_number font) }
+    ensures version { result.version ≡ font_version font }
+{
     let (number, version) = match font {
         Some((number, version)) => (Some(u16::from(number)), version),
         None => (None, None),
@@ -51,14 +67,20 @@ fn of_font(font: Option<(u8, Option<u16>)>) -> ItemWords {
 }
 
 /// The name of a flash that begins with this time.
-fn flash_name(first: Lead) -> &'static str {
+fn flash_name(first: Lead) -> &'static str
+    ensures { result.now ≡ flash_name first }
+{
     match first {
         Lead::Lit => "flash lit",
         Lead::Dark => "flash dark",
     }
 }
 
-fn without_values(name: &'static str) -> ItemWords {
+fn without_values(name: &'static str) -> ItemWords
+    ensures name { result.name.now ≡ name.now }
+    ensures values { text_of_values result.values ≡ [] }
+    ensures version { result.version ≡ None }
+{
     ItemWords {
         name,
         values: Values::Nothing,
@@ -66,7 +88,11 @@ fn without_values(name: &'static str) -> ItemWords {
     }
 }
 
-fn one(name: &'static str, value: Option<u16>) -> ItemWords {
+fn one(name: &'static str, value: Option<u16>) -> ItemWords
+    ensures name { result.name.now ≡ name.now }
+    ensures values { text_of_values result.values ≡ value_text value }
+    ensures version { result.version ≡ None }
+{
     ItemWords {
         name,
         values: Values::One(value),
@@ -74,7 +100,11 @@ fn one(name: &'static str, value: Option<u16>) -> ItemWords {
     }
 }
 
-fn two(name: &'static str, lit: Option<u8>, dark: Option<u8>) -> ItemWords {
+fn two(name: &'static str, lit: Option<u8>, dark: Option<u8>) -> ItemWords
+    ensures name { result.name.now ≡ name.now }
+    ensures values { text_of_values result.values ≡ value_text lit ++ value_text dark }
+    ensures version { result.version ≡ None }
+{
     ItemWords {
         name,
         values: Values::Two(wide(lit), wide(dark)),
@@ -82,6 +112,11 @@ fn two(name: &'static str, lit: Option<u8>, dark: Option<u8>) -> ItemWords {
     }
 }
 
-fn wide(value: Option<u8>) -> Option<u16> {
-    value.map(u16::from)
+fn wide(value: Option<u8>) -> Option<u16>
+    ensures { result ≡ value }
+{
+    match value {
+        Some(value) => Some(u16::from(value)),
+        None => None,
+    }
 }

@@ -67,6 +67,11 @@ enum Instance {
 }
 
 impl fmt::Display for Instance {
+    ghost use Rattle.std.specs.Prelude.{Some};
+    ghost use Rattle.signtool_print.specs.InstanceNames.{instance_text};
+
+    ghost output = { λ instance. Some (instance_text instance) };
+
     fn fmt<W: fmt::Write>(&self, f: &mut fmt::Formatter<W>) -> fmt::Result {
         match self {
             Instance::Only(object) => write!(f, "{object}.0"),

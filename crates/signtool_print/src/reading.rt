@@ -1,9 +1,17 @@
 //! Datagrams and texts, read and printed.
 
+ghost use Rattle.std.specs.Prelude.{◌≡◌, codes};
+ghost use Rattle.hex.specs.declared.error.FromHexError.TheVariants.{OutOfMemory};
+ghost use Rattle.signtool_print.specs.declared.statuses.ExitStatus.TheVariants.{Misused};
+ghost use Rattle.signtool_calls.specs.declared.call.Form.TheVariants.{Lines};
+ghost use Rattle.signtool_print.specs.Printed.{Answer, answer, PrintsOrMemory};
+ghost use Rattle.signtool_print.specs.ItemLines.{items_answer, status_by};
+
 use crate::fields::write_message;
 use crate::item_lines::write_items;
 use crate::json::{put_items, put_message};
 use crate::statuses::{ExitStatus, print, print_made, print_memory, print_text};
+use dms_multi::SyntaxFault;
 use dms_text_streams::{Failed, Sink};
 use dms_wire::{Message, WireFault, read};
 use hex::FromHexError;
@@ -66,19 +74,69 @@ pub fn list_items<W: Sink, E: Write>(
     form: Form,
     writer: &mut W,
     errors: &mut E,
-) -> Result<ExitStatus, Failed> {
+) -> Result<ExitStatus, Failed>
+    ensures { form ≡ Lines → PrintsOrMemory (W.contents writer.old) (W.contents writer.new) (W.failed writer.old)
+        (W.failed writer.new) result (items_answer text.now) }
+{
+    match form {
+        Form::Lines => print_items(alloc, text, writer, errors),
+        Form::Json => print_items_json(alloc, text, writer, errors),
+    }
+}
+
+/// Prints the items of a text and its fault as lines.
+fn print_items<W: Sink, E: Write>(
+    alloc: Global,
+    text: &str,
+    writer: &mut W,
+    errors: &mut E,
+) -> Result<ExitStatus, Failed>
+    ensures { PrintsOrMemory (W.contents writer.old) (W.contents writer.new) (W.failed writer.old)
+        (W.failed writer.new) result (items_answer text.now) }
+{
     let mut lines = Vec::new(alloc);
-    let made = match form {
-        Form::Lines => write_items(text.as_bytes(), &mut lines),
-        Form::Json => put_items(text.as_bytes(), &mut lines),
-    };
-    match made {
-        Ok(None) => print_made(writer, lines, ExitStatus::Done),
-        Ok(Some(fault)) => {
+    match write_items(text.as_bytes(), &mut lines) {
+        Ok(fault) => print_listed(writer, lines, say_items_fault(fault, errors)),
+        Err(_) => print_memory(writer),
+    }
+}
+
+/// Prints them as an object of JSON.
+fn print_items_json<W: Sink, E: Write>(
+    alloc: Global,
+    text: &str,
+    writer: &mut W,
+    errors: &mut E,
+) -> Result<ExitStatus, Failed> {
+    let mut object = Vec::new(alloc);
+    match put_items(text.as_bytes(), &mut object) {
+        Ok(fault) => print_made(writer, object, say_items_fault(fault, errors)),
+        Err(_) => print_no_memory(Form::Json, writer),
+    }
+}
+
+/// Prints lines that there was memory for, with this status.
+fn print_listed<W: Sink>(
+    writer: &mut W,
+    lines: Vec<u8>,
+    status: ExitStatus,
+) -> Result<ExitStatus, Failed>
+    ensures { (wanted : Answer) → answer status lines.items ≡ wanted → PrintsOrMemory (W.contents writer.old)
+        (W.contents writer.new) (W.failed writer.old) (W.failed writer.new) result wanted }
+{
+    print_made(writer, lines, status)
+}
+
+/// Says the fault of a text in words, if it has one, and gives the status by it.
+fn say_items_fault<E: Write>(fault: Option<SyntaxFault>, errors: &mut E) -> ExitStatus
+    ensures { result ≡ status_by fault }
+{
+    match fault {
+        None => ExitStatus::Done,
+        Some(fault) => {
             let _ = writeln!(errors, "{fault}");
-            print_made(writer, lines, ExitStatus::Refused)
+            ExitStatus::Refused
         }
-        Err(_) => print_no_memory(form, writer),
     }
 }
 
@@ -115,7 +173,12 @@ pub fn print_hex_fault<W: Sink, E: Write>(
     words: (&str, FromHexError),
     writer: &mut W,
     errors: &mut E,
-) -> Result<ExitStatus, Failed> {
+) -> Result<ExitStatus, Failed>
+    ensures digits { form ≡ Lines → PrintsOrMemory (W.contents writer.old) (W.contents writer.new)
+        (W.failed writer.old) (W.failed writer.new) result (answer Misused (codes "not hex\n")) }
+    ensures memory { form ≡ Lines → words.entry.1 ≡ OutOfMemory → (wanted : Answer) → PrintsOrMemory
+        (W.contents writer.old) (W.contents writer.new) (W.failed writer.old) (W.failed writer.new) result wanted }
+{
     let (digits, fault) = words;
     match fault {
         FromHexError::OutOfMemory => print_no_memory(form, writer),
@@ -151,7 +214,10 @@ fn say_odd_number<E: Write>(errors: &mut E) {
     let _ = writeln!(errors, "the word has an odd number of hexadecimal digits");
 }
 
-fn print_not_hex<W: Sink>(form: Form, writer: &mut W) -> Result<ExitStatus, Failed> {
+fn print_not_hex<W: Sink>(form: Form, writer: &mut W) -> Result<ExitStatus, Failed>
+    ensures { form ≡ Lines → PrintsOrMemory (W.contents writer.old) (W.contents writer.new) (W.failed writer.old)
+        (W.failed writer.new) result (answer Misused (codes "not hex\n")) }
+{
     match form {
         Form::Lines => print_text(writer, b"not hex\n", ExitStatus::Misused),
         Form::Json => print(writer, b"{\"refused\":\"not hex\"}\n", ExitStatus::Misused),
@@ -192,7 +258,10 @@ fn print_wire_fault<W: Sink>(
 }
 
 /// Prints that there is no memory.
-pub fn print_no_memory<W: Sink>(form: Form, writer: &mut W) -> Result<ExitStatus, Failed> {
+pub fn print_no_memory<W: Sink>(form: Form, writer: &mut W) -> Result<ExitStatus, Failed>
+    ensures { form ≡ Lines → (wanted : Answer) → PrintsOrMemory (W.contents writer.old) (W.contents writer.new)
+        (W.failed writer.old) (W.failed writer.new) result wanted }
+{
     match form {
         Form::Lines => print_memory(writer),
         Form::Json => print(writer, b"{\"refused\":\"memory\"}\n", ExitStatus::Refused),
