@@ -30,6 +30,14 @@ names_line (faults.Line number) = true
 names_line faults.TooLong = false
 names_line faults.Memory = false
 
+-- whether the output failed
+abbrev pub is_write : ReplayFault → Bool
+is_write faults.Read = false
+is_write faults.Write = true
+is_write (faults.Line number) = false
+is_write faults.TooLong = false
+is_write faults.Memory = false
+
 -- whether it is said that the input has nothing at all: a line is missing, and there is none
 abbrev pub says_empty : ReplayFault → List ℕ → Bool
 says_empty fault octets = names_line fault && (length octets == 0)

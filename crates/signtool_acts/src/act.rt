@@ -1,12 +1,28 @@
 //! A call, carried out.
 
-ghost use Rattle.std.specs.Prelude.{◌≡◌, ◌++◌, List, ℕ, Option, codes, IfOk};
-ghost use Rattle.hex.specs.Hex.{encode_lower};
+ghost use Rattle.std.specs.Prelude.{◌≡◌, ◌≢◌, ◌≤◌, ◌<◌, ◌++◌, List, ℕ, Option, codes, length, Ok, Err};
+ghost use Rattle.std.specs.Prelude.{◌⊎◌, IfOk, IfErr, IfSome, OnOk, OnErr};
+ghost use Rattle.hex.specs.declared.error.FromHexError.TheVariants.{OutOfMemory};
+ghost use Rattle.std.specs.Io.KnownBytes.{Keeps};
+ghost use Rattle.dms_text_streams.specs.Calls.{one_more};
+ghost use Rattle.dms_text_streams.specs.DescriptionText.{longest_input};
+ghost use Rattle.dms_replay.specs.RefusedScript.{IsRefusedIn};
+ghost use Rattle.dms_replay.specs.Replayed.{Replayed, ReplayedPrefix, NoScript};
+ghost use Rattle.signtool_acts.specs.Refused.{with_fault, is_write};
+ghost use Rattle.hex.specs.Hex.{encode_lower, decode_of};
+ghost use Rattle.dms_sign_text.specs.declared.reading_fault.ReplayFault.TheVariants as faults;
+ghost use Rattle.signtool_print.specs.TextAnswers.{check_answer, pages_answer};
 ghost use Rattle.signtool_print.specs.declared.statuses.ExitStatus.TheVariants.{Done};
+ghost use Rattle.dms_text.specs.Lines.{kept_lines};
+ghost use Rattle.dms_sign_text.specs.BenchSign.{bench_text};
+ghost use Rattle.dms_sign_text.specs.Description.{Description, SpellsDescription, SpellsSign};
+ghost use Rattle.dms_sign_text.specs.Setups.{IsMade};
 ghost use Rattle.dms_sign.specs.Reply.{received};
 ghost use Rattle.dms_sign.specs.ReplyView.{sent};
 ghost use Rattle.signtool_print.specs.Printed.{answer, PrintsOrMemory};
-ghost use Rattle.signtool_acts.specs.CallAnswers.{reply_answer};
+ghost use Rattle.signtool_acts.specs.CallAnswers.{reply_answer, answer_to, CarriesOut, IsWanted, IsInputFault};
+ghost use Rattle.signtool_acts.specs.CallAnswers.{IsRefused};
+ghost use Rattle.signtool_acts.specs.CallAnswers.{OfSign, OfDigits, OfScript};
 
 use crate::inputs::{described_before, described_whole, replayed};
 use crate::refusal::Refusal;
@@ -15,6 +31,7 @@ use dms_sign::{Receipt, Sign};
 use dms_sign_text::Setup;
 use dms_text_streams::{ConversationFault, Counted, Failed, Input, Party, Sink, Source, converse};
 use dms_wire::Out;
+use hex::FromHexError;
 use signtool_calls::{Call, Drawing, Form, SignWanted};
 use signtool_parties::{LiveCentre, LiveSign};
 use signtool_print::{
@@ -58,7 +75,10 @@ pub fn carry_out<R: Read, W: Sink, E: Write>(
     reader: &mut R,
     writer: &mut W,
     errors: &mut E,
-) -> Result<ExitStatus, Failed> {
+) -> Result<ExitStatus, Failed>
+    ensures { CarriesOut call.now (R.remaining reader.old) (PrintsOrMemory (W.contents writer.old)
+        (W.contents writer.new) (W.failed writer.old) (W.failed writer.new) result) }
+{
     match *call {
         Call::Answer { hex, sign } => print_answer(alloc, hex, sign, reader, writer, errors),
         Call::Check { text, sign, form } => match form {
@@ -161,19 +181,34 @@ fn talk_fault_line(alloc: Global, fault: ConversationFault) -> Result<Vec<u8>, A
 }
 
 /// The sign that a call is about, and the number of its centre's first request.
-fn setup<R: Source>(alloc: Global, wanted: SignWanted, reader: &mut R) -> Result<Setup, Refusal> {
+fn setup<R: Read>(alloc: Global, wanted: SignWanted, reader: &mut R) -> Result<Setup, Refusal>
+    ensures sign { IfOk result (IsWanted wanted (R.remaining reader.old)) }
+    ensures fault { IfErr result (λ refusal. IsRefused wanted (R.remaining reader.old) refusal.fault) }
+{
     match wanted {
         SignWanted::Bench => bench_setup(alloc),
-        SignWanted::Described => described_whole(alloc, reader),
+        SignWanted::Described => described_setup(alloc, reader),
     }
 }
 
 /// The bench sign.
-fn bench_setup(alloc: Global) -> Result<Setup, Refusal> {
+fn bench_setup(alloc: Global) -> Result<Setup, Refusal>
+    ensures sign { IfOk result (λ setup. (it : Description) × SpellsSign (kept_lines bench_text) it × IsMade it setup) }
+    ensures memory { IfErr result (λ refusal. refusal.fault ≡ faults.Memory) }
+{
     match bench(alloc) {
         Ok(setup) => Ok(setup),
         Err(_) => Err(Refusal::from(ReplayFault::Memory)),
     }
+}
+
+/// The sign that the whole input describes.
+fn described_setup<R: Read>(alloc: Global, reader: &mut R) -> Result<Setup, Refusal>
+    ensures sign { IfOk result (λ setup. IfSome (R.remaining reader.old) (λ octets.
+        (it : Description) × SpellsDescription octets it × IsMade it setup)) }
+    ensures fault { IfErr result (λ refusal. IsInputFault (R.remaining reader.old) refusal.fault) }
+{
+    described_whole(alloc, &mut Counted::new(&mut *reader))
 }
 
 /// Prints the report of the script on the standard input.
@@ -182,12 +217,52 @@ fn print_report<R: Read, W: Sink, E: Write>(
     reader: &mut R,
     writer: &mut W,
     errors: &mut E,
-) -> Result<ExitStatus, Failed> {
-    match replayed(alloc, &mut Counted::new(&mut *reader), writer) {
+) -> Result<ExitStatus, Failed>
+    ensures { OfScript (R.remaining reader.old) (PrintsOrMemory (W.contents writer.old) (W.contents writer.new)
+        (W.failed writer.old) (W.failed writer.new) result) }
+{
+    match report_script(alloc, reader, writer) {
         Ok(()) => Ok(ExitStatus::Done),
-        Err(refusal) if refusal.fault == ReplayFault::Write => Err(Failed),
+        Err(refusal) if is_write(refusal.fault) => Err(Failed),
         Err(refusal) => refusal.refuse(alloc, writer, errors),
     }
+}
+
+/// Whether the output failed.
+fn is_write(fault: ReplayFault) -> bool
+    ensures { result ≡ is_write fault }
+{
+    match fault {
+        ReplayFault::Write => true,
+        ReplayFault::Read => false,
+        ReplayFault::Line(_) => false,
+        ReplayFault::TooLong => false,
+        ReplayFault::Memory => false,
+    }
+}
+
+/// Writes the report of the script on the standard input.
+fn report_script<R: Read, W: Sink>(
+    alloc: Global,
+    reader: &mut R,
+    writer: &mut W,
+) -> Result<(), Refusal>
+    ensures report { OnOk result (IfSome (R.remaining reader.old) (λ octets.
+        Replayed octets (W.contents writer.old) (W.contents writer.new))) }
+    ensures prefix { with_fault result ≡ Err faults.Write → IfSome (R.remaining reader.old) (λ octets.
+        ReplayedPrefix octets (W.contents writer.old) (W.contents writer.new)) }
+    ensures nothing { OnErr result (with_fault result ≢ Err faults.Write
+        → Keeps (W.contents writer.old) (W.contents writer.new)) }
+    ensures line { (number : ℕ) → with_fault result ≡ Err (faults.Line number)
+        → IfSome (R.remaining reader.old) (λ octets. (length octets ≤ longest_input) × NoScript octets) }
+    ensures number { (number : ℕ) → with_fault result ≡ Err (faults.Line number)
+        → IfSome (R.remaining reader.old) (λ octets. IsRefusedIn octets number) }
+    ensures too_long { with_fault result ≡ Err faults.TooLong → IfSome (R.remaining reader.old) (λ octets.
+        longest_input < length octets) }
+    ensures write { with_fault result ≡ Err faults.Write → W.failed writer.new ≡ one_more (W.failed writer.old) }
+    ensures all_written { with_fault result ≢ Err faults.Write → W.failed writer.new ≡ W.failed writer.old }
+{
+    replayed(alloc, &mut Counted::new(&mut *reader), writer)
 }
 
 /// Prints the sign's reply to a datagram, in lower case hexadecimal digits.
@@ -198,12 +273,39 @@ fn print_answer<R: Read, W: Sink, E: Write>(
     reader: &mut R,
     writer: &mut W,
     errors: &mut E,
-) -> Result<ExitStatus, Failed> {
-    let datagram = match hex::decode(alloc, digits.as_bytes()) {
-        Ok(datagram) => datagram,
-        Err(fault) => return print_hex_fault(Form::Lines, (digits, fault), writer, errors),
-    };
-    match setup(alloc, sign, &mut Counted::new(&mut *reader)) {
+) -> Result<ExitStatus, Failed>
+    ensures { OfDigits sign (R.remaining reader.old) (PrintsOrMemory (W.contents writer.old) (W.contents writer.new)
+        (W.failed writer.old) (W.failed writer.new) result)
+        (decode_of digits.now) }
+{
+    match octets_of(alloc, digits) {
+        Ok(datagram) => print_reply_of(alloc, datagram, sign, reader, writer, errors),
+        Err(fault) => print_hex_fault(Form::Lines, (digits, fault), writer, errors),
+    }
+}
+
+/// The octets that hexadecimal digits are.
+fn octets_of(alloc: Global, digits: &str) -> Result<Vec<u8>, FromHexError>
+    ensures octets { IfOk result (λ octets. decode_of digits.now ≡ Ok octets.items) }
+    ensures fault { IfErr result (λ fault. (fault ≡ OutOfMemory) ⊎ (decode_of digits.now ≡ Err fault)) }
+{
+    hex::decode(alloc, digits.as_bytes())
+}
+
+/// Prints the reply of the sign that is wanted to a datagram.
+fn print_reply_of<R: Read, W: Sink, E: Write>(
+    alloc: Global,
+    datagram: Vec<u8>,
+    sign: SignWanted,
+    reader: &mut R,
+    writer: &mut W,
+    errors: &mut E,
+) -> Result<ExitStatus, Failed>
+    ensures { OfSign sign (R.remaining reader.old) (PrintsOrMemory (W.contents writer.old) (W.contents writer.new)
+        (W.failed writer.old) (W.failed writer.new) result)
+        (answer_to datagram.items) }
+{
+    match setup(alloc, sign, reader) {
         Ok(setup) => print_reply(alloc, setup.sign, datagram.as_slice(), writer, errors),
         Err(refusal) => refusal.refuse(alloc, writer, errors),
     }
@@ -275,8 +377,12 @@ fn print_check<R: Read, W: Sink, E: Write>(
     reader: &mut R,
     writer: &mut W,
     errors: &mut E,
-) -> Result<ExitStatus, Failed> {
-    match setup(alloc, sign, &mut Counted::new(&mut *reader)) {
+) -> Result<ExitStatus, Failed>
+    ensures { OfSign sign (R.remaining reader.old) (PrintsOrMemory (W.contents writer.old) (W.contents writer.new)
+        (W.failed writer.old) (W.failed writer.new) result)
+        (λ sign. check_answer sign.config.face text.now) }
+{
+    match setup(alloc, sign, reader) {
         Ok(setup) => { print_count(alloc, text, setup.sign.face(), Form::Lines, writer, errors) }
         Err(refusal) => refusal.refuse(alloc, writer, errors),
     }
@@ -291,7 +397,7 @@ fn print_check_json<R: Read, W: Sink, E: Write>(
     writer: &mut W,
     errors: &mut E,
 ) -> Result<ExitStatus, Failed> {
-    match setup(alloc, sign, &mut Counted::new(&mut *reader)) {
+    match setup(alloc, sign, reader) {
         Ok(setup) => print_count(alloc, text, setup.sign.face(), Form::Json, writer, errors),
         Err(refusal) => {
             let _ = refusal.say(errors);
@@ -316,9 +422,13 @@ fn print_drawing<R: Read, W: Sink, E: Write>(
     reader: &mut R,
     writer: &mut W,
     errors: &mut E,
-) -> Result<ExitStatus, Failed> {
+) -> Result<ExitStatus, Failed>
+    ensures { OfSign words.entry.1 (R.remaining reader.old) (PrintsOrMemory (W.contents writer.old)
+        (W.contents writer.new) (W.failed writer.old) (W.failed writer.new) result)
+        (λ sign. pages_answer sign.config.face words.entry.0.now words.entry.2) }
+{
     let (text, sign, drawing) = words;
-    match setup(alloc, sign, &mut Counted::new(&mut *reader)) {
+    match setup(alloc, sign, reader) {
         Ok(setup) => print_pages(alloc, text, setup.sign.face(), drawing, writer, errors),
         Err(refusal) => refusal.refuse(alloc, writer, errors),
     }
