@@ -77,9 +77,7 @@ class Port:
                 return reply
             self.passed_over += message.number not in self.given_up
 
-    def ask_once(
-        self, octets: bytes, number: int, expected: bytes | None = None, wait: float | None = None
-    ) -> Heard:
+    def ask_once(self, octets: bytes, number: int, expected: bytes | None = None, wait: float | None = None) -> Heard:
         """A request that is sent once. The octets of the reply that is expected need not be looked into."""
         if number != self.number:
             self.note(number, octets)

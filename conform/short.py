@@ -16,7 +16,9 @@ from .kept import keep
 from .mutants.__main__ import BENCH, tried
 from .mutants.table import MUTANTS
 
-MODULES = tuple(f"conform.tests.test_{part}" for part in ("signs", "udp", "parts", "reports", "ways", "seconds", "watch"))
+MODULES = tuple(
+    f"conform.tests.test_{part}" for part in ("signs", "udp", "parts", "reports", "ways", "seconds", "watch")
+)
 
 
 def names() -> list[tuple[str, str]]:

@@ -17,10 +17,19 @@ from .store import Store, whole
 
 LINES_A_SECOND = round(1 / PACE)
 LEAST_STEP = 1_000_000  # numbers that are left out at least
-TIMES = ("at FROM lines", "at FROM commands", "ended FROM commands", "at FROM ledger", "heard FROM readings",
-         "polled FROM signs", "at FROM audit")
-NOT_DONE = ("unknown: the database was restored from a copy; before it was begun there, and whether it was carried out"
-            " since is not known")
+TIMES = (
+    "at FROM lines",
+    "at FROM commands",
+    "ended FROM commands",
+    "at FROM ledger",
+    "heard FROM readings",
+    "polled FROM signs",
+    "at FROM audit",
+)
+NOT_DONE = (
+    "unknown: the database was restored from a copy; before it was begun there, and whether it was carried out"
+    " since is not known"
+)
 
 
 @dataclass(frozen=True)
@@ -39,11 +48,13 @@ class Step:
         """In words."""
         when = datetime.datetime.fromtimestamp(self.newest, datetime.timezone.utc).strftime("%d %B %Y, %H:%M:%S UTC")
         numbers = f"number {self.least}" + (f" to number {self.most}" if self.most != self.least else "")
-        return (f"The newest entry of this database is of {when}, {self.seconds:.0f} seconds ago.\n"
-                f"What happened since is not in it: its ledger lacks the activations of that time, and {self.ended}"
-                " commands that had not ended are ended as unknown. Users log in anew, with the passwords of that time.\n"
-                f"Each centre of its {self.signs} signs begins anew, from {numbers},"
-                " above all that were used before")
+        return (
+            f"The newest entry of this database is of {when}, {self.seconds:.0f} seconds ago.\n"
+            f"What happened since is not in it: its ledger lacks the activations of that time, and {self.ended}"
+            " commands that had not ended are ended as unknown. Users log in anew, with the passwords of that time.\n"
+            f"Each centre of its {self.signs} signs begins anew, from {numbers},"
+            " above all that were used before"
+        )
 
 
 def newest(store: Store) -> float:
@@ -71,15 +82,22 @@ def advance(store: Store, who: str, first: int | None) -> Step:
         check(known, begins)
         for sign, number in begins.items():
             store.run("UPDATE signs SET least = ?, holder = NULL, polled = 0, wanted = 1 WHERE id = ?", number, sign)
-        lowered = store.run("UPDATE signs SET reading_number = reading_number - ? WHERE reading_number - ? > ?"
-                            " RETURNING id", step, step, LEAST_NUMBER)
+        lowered = store.run(
+            "UPDATE signs SET reading_number = reading_number - ? WHERE reading_number - ? > ?" " RETURNING id",
+            step,
+            step,
+            LEAST_NUMBER,
+        )
         if len(lowered) < len(known):
             raise Refusal("a sign has too few numbers of readings left below 0")
         ended = end_all(store)
         numbers = begins.values()
         found = Step(len(known), since, seconds, step, min(numbers, default=0), max(numbers, default=0), ended)
-        store.run(f"INSERT INTO audit (at, who, what) VALUES ({CLOCK}, ?, ?)", who,
-                  "restored from a copy: " + found.told().replace("\n", " "))
+        store.run(
+            f"INSERT INTO audit (at, who, what) VALUES ({CLOCK}, ?, ?)",
+            who,
+            "restored from a copy: " + found.told().replace("\n", " "),
+        )
         return found
 
 
@@ -89,14 +107,18 @@ def check(known: dict[int, int], begins: dict[int, int]) -> None:
         if number < known[sign]:
             raise Refusal(f"sign {sign} has used numbers up to {known[sign] - 1}: --first has to be above")
         if number > LAST_NUMBER:
-            raise Refusal(f"so many numbers may have been used since that none is left for sign {sign}: look in its own"
-                          " log for the last request, and say --first NUMBER above it")
+            raise Refusal(
+                f"so many numbers may have been used since that none is left for sign {sign}: look in its own"
+                " log for the last request, and say --first NUMBER above it"
+            )
 
 
 def end_all(store: Store) -> int:
     """Ends what had not ended when the copy was made, log-ins too; how many commands."""
-    begun = store.run(f"UPDATE commands SET how = ?, ended = {CLOCK} WHERE number IS NOT NULL AND how IS NULL"
-                      " RETURNING id", RESTORED)
+    begun = store.run(
+        f"UPDATE commands SET how = ?, ended = {CLOCK} WHERE number IS NOT NULL AND how IS NULL" " RETURNING id",
+        RESTORED,
+    )
     waiting = store.run(f"UPDATE commands SET how = ?, ended = {CLOCK} WHERE how IS NULL RETURNING id", NOT_DONE)
     store.run(f"UPDATE ledger SET outcome = 'unknown', at = {CLOCK} WHERE outcome = 'waiting'")
     store.run(f"UPDATE logins SET ended = {CLOCK} WHERE ended IS NULL")  # one that was ended since would count again

@@ -32,7 +32,6 @@ from .sqlite import address_of
 from .store import Store
 
 
-
 @contextlib.contextmanager
 def faults_told() -> Iterator[None]:
     """Faults of files and of SQLite in words."""
@@ -51,8 +50,9 @@ def copied(source: str, target: pathlib.Path) -> None:
     with faults_told():
         os.close(os.open(target, os.O_RDWR | os.O_CREAT | os.O_EXCL, MODE))
         try:
-            with contextlib.closing(sqlite3.connect(address_of(source, "ro"), uri=True)) as old, \
-                    contextlib.closing(sqlite3.connect(target)) as new:
+            with contextlib.closing(sqlite3.connect(address_of(source, "ro"), uri=True)) as old, contextlib.closing(
+                sqlite3.connect(target)
+            ) as new:
                 old.backup(new)
                 new.execute("PRAGMA journal_mode = DELETE")  # the file is all there is of it
                 if new.execute("PRAGMA integrity_check").fetchall() != [("ok",)]:
@@ -68,8 +68,16 @@ def environment(url: str) -> dict[str, str]:
     """The place of a database of PostgreSQL for its programs: a password stands in no list of processes."""
     from psycopg.conninfo import conninfo_to_dict
 
-    words = {"host": "PGHOST", "port": "PGPORT", "user": "PGUSER", "password": "PGPASSWORD", "dbname": "PGDATABASE",
-             "sslmode": "PGSSLMODE", "sslrootcert": "PGSSLROOTCERT", "passfile": "PGPASSFILE"}
+    words = {
+        "host": "PGHOST",
+        "port": "PGPORT",
+        "user": "PGUSER",
+        "password": "PGPASSWORD",
+        "dbname": "PGDATABASE",
+        "sslmode": "PGSSLMODE",
+        "sslrootcert": "PGSSLROOTCERT",
+        "passfile": "PGPASSFILE",
+    }
     held = {words[name]: str(value) for name, value in conninfo_to_dict(url).items() if name in words}
     if "PGDATABASE" not in held:
         raise Refusal("the database has no name: postgresql://USER@HOST/NAME")
@@ -79,8 +87,13 @@ def environment(url: str) -> dict[str, str]:
 def called(url: str, name: str, *words: str) -> None:
     """Runs one of PostgreSQL's programs to its end."""
     try:
-        done = subprocess.run([program(name), *words], env=environment(url), stdin=subprocess.DEVNULL,
-                              stdout=subprocess.PIPE, stderr=subprocess.STDOUT)
+        done = subprocess.run(
+            [program(name), *words],
+            env=environment(url),
+            stdin=subprocess.DEVNULL,
+            stdout=subprocess.PIPE,
+            stderr=subprocess.STDOUT,
+        )
     except OSError as fault:
         raise Refusal(f"{name}: {reason(fault)}") from fault
     if done.returncode:
@@ -110,8 +123,11 @@ def named(part: pathlib.Path, target: pathlib.Path) -> None:
 
 def restore(where: str, source: pathlib.Path, who: str, first: int | None) -> str:
     """A database from a copy, with numbers above all that may have been used since: in words, what was done."""
-    return restored_server(where, source, who, first) if database.is_url(where) else restored_file(
-        pathlib.Path(where), source, who, first)
+    return (
+        restored_server(where, source, who, first)
+        if database.is_url(where)
+        else restored_file(pathlib.Path(where), source, who, first)
+    )
 
 
 def restored_file(target: pathlib.Path, source: pathlib.Path, who: str, first: int | None) -> str:
@@ -136,8 +152,16 @@ def restored_server(url: str, source: pathlib.Path, who: str, first: int | None)
         if any(map(held.has_table, ("signs", database.RESTORING))):
             raise Refusal("the database is not empty: a database is restored where there is none")
         held.run(f"CREATE TABLE {database.RESTORING} (at DOUBLE PRECISION)")
-        called(url, "pg_restore", "--exit-on-error", "--single-transaction", "--no-owner", "--no-acl",
-               f"--dbname={environment(url)['PGDATABASE']}", str(source))
+        called(
+            url,
+            "pg_restore",
+            "--exit-on-error",
+            "--single-transaction",
+            "--no-owner",
+            "--no-acl",
+            f"--dbname={environment(url)['PGDATABASE']}",
+            str(source),
+        )
         database.migrate(held, database.migrations())
         told = advance(Store(held), who, first).told()
         held.run(f"DROP TABLE {database.RESTORING}")
@@ -157,7 +181,8 @@ def advanced(where: str, who: str, first: int | None) -> str:
 
 def arguments() -> argparse.ArgumentParser:
     words = argparse.ArgumentParser(
-        prog=places.called("control.backup"), description=places.in_words_of_command(__doc__),
+        prog=places.called("control.backup"),
+        description=places.in_words_of_command(__doc__),
         formatter_class=argparse.RawDescriptionHelpFormatter,
     )
     words.add_argument("what", choices=("copy", "restore", "advance"))

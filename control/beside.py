@@ -64,8 +64,20 @@ class Service:
 
     def start(self) -> None:
         """Returns when its pages answer."""
-        call = [sys.executable, "-m", "control", "--fleet", str(self.fleet), "--database", self.where, "--signtool",
-                self.signtool, "--listen", f"127.0.0.1:{self.port}", *self.words]
+        call = [
+            sys.executable,
+            "-m",
+            "control",
+            "--fleet",
+            str(self.fleet),
+            "--database",
+            self.where,
+            "--signtool",
+            self.signtool,
+            "--listen",
+            f"127.0.0.1:{self.port}",
+            *self.words,
+        ]
         with open(self.said, "ab") as said:
             self.process = subprocess.Popen(call, cwd=TOP, stdin=subprocess.DEVNULL, stdout=said, stderr=said)
         until_answers(self.port, lambda: self.is_standing)
@@ -108,8 +120,14 @@ def enter(where: str) -> None:
 
 def ended(where: str, module: str, *words: str, said: str = "") -> subprocess.CompletedProcess[str]:
     """A program over the database, run to its end."""
-    return subprocess.run([sys.executable, "-m", module, "--database", where, *words], cwd=TOP, input=said + "\n",
-                          capture_output=True, text=True, timeout=PATIENCE)
+    return subprocess.run(
+        [sys.executable, "-m", module, "--database", where, *words],
+        cwd=TOP,
+        input=said + "\n",
+        capture_output=True,
+        text=True,
+        timeout=PATIENCE,
+    )
 
 
 def worker_ended(fleet: pathlib.Path, where: str, signtool: str) -> int | None:

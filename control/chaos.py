@@ -122,12 +122,16 @@ class Run:
 def run(asked: Asked, folder: pathlib.Path, place: Place) -> Outcome:
     """A run, and all that is looked at after it."""
     names = [f"sign {at}" for at in range(asked.signs)]
-    loopback = Loopback(asked.signtool, {name: DESCRIPTION.read_bytes() for name in names}, Fates(asked.seed),
-                        asked.tick)
-    (folder / "fleet.toml").write_text("".join(
-        f'[[sign]]\nname = "{live.name}"\naddress = "127.0.0.1:{live.port}"\ndescription = "{DESCRIPTION}"\n'
-        f"poll = {max(2, asked.signs // 20)}\n"
-        for live in loopback.signs))
+    loopback = Loopback(
+        asked.signtool, {name: DESCRIPTION.read_bytes() for name in names}, Fates(asked.seed), asked.tick
+    )
+    (folder / "fleet.toml").write_text(
+        "".join(
+            f'[[sign]]\nname = "{live.name}"\naddress = "127.0.0.1:{live.port}"\ndescription = "{DESCRIPTION}"\n'
+            f"poll = {max(2, asked.signs // 20)}\n"
+            for live in loopback.signs
+        )
+    )
     with opened(place.where) as store:
         rows = store.enter(fleet.read(folder / "fleet.toml"))
     enter(place.where)
@@ -170,16 +174,23 @@ def told(store: Store, loopback: Loopback, workers: Workers, place: Place, secon
         tell(f"{times} commands: {how}")
     lines, datagrams = count(store, "lines"), sum(len(live.requests) for live in loopback.signs)
     accepted = sum(len(live.accepted) for live in loopback.signs)
-    tell(f"{datagrams} datagrams to signs, {lines} lines, {accepted} acceptances, {count(store, 'ledger')} entries of"
-         f" ledgers, {count(store, 'readings')} readings and {count(store, 'messages')} rows of tables kept")
-    tell(f"{workers.killed} workers killed, {workers.paused} stopped past their lease, {workers.gave_up} ended as there"
-         f" was no database, {place.restarts} crashes of the server")
+    tell(
+        f"{datagrams} datagrams to signs, {lines} lines, {accepted} acceptances, {count(store, 'ledger')} entries of"
+        f" ledgers, {count(store, 'readings')} readings and {count(store, 'messages')} rows of tables kept"
+    )
+    tell(
+        f"{workers.killed} workers killed, {workers.paused} stopped past their lease, {workers.gave_up} ended as there"
+        f" was no database, {place.restarts} crashes of the server"
+    )
     tell(f"{seconds:.0f} seconds, load {os.getloadavg()[0]:.1f}")
 
 
 def arguments() -> argparse.ArgumentParser:
-    words = argparse.ArgumentParser(prog=called("control.chaos"), description=in_words_of_command(__doc__),
-                                    formatter_class=argparse.RawDescriptionHelpFormatter)
+    words = argparse.ArgumentParser(
+        prog=called("control.chaos"),
+        description=in_words_of_command(__doc__),
+        formatter_class=argparse.RawDescriptionHelpFormatter,
+    )
     words.add_argument("--signs", type=int, default=10, metavar="N")
     words.add_argument("--commands", type=int, default=40, metavar="N")
     words.add_argument("--workers", type=int, default=1, metavar="N", help="that go at a time, beside the service")

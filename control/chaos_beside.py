@@ -56,8 +56,11 @@ class Beside(threading.Thread):
             status = beside.worker_ended(self.fleet, self.where, self.signtool)
             self.faults += [f"a worker that was ended beside it has status {status}"] * (status not in (0, None))
         else:
-            words = {0: ("control.users", "list"), 2: ("control.command", "--wait", "1", self.sign, LINE),
-                     3: ("control.backup", "copy", "--to", str(self.fleet.with_name(f"copy {self.programs}")))}[at]
+            words = {
+                0: ("control.users", "list"),
+                2: ("control.command", "--wait", "1", self.sign, LINE),
+                3: ("control.backup", "copy", "--to", str(self.fleet.with_name(f"copy {self.programs}"))),
+            }[at]
             done = beside.ended(self.where, *words)
             self.faults += [f"{words[0]}: {done.stderr}"] * ("Traceback" in done.stderr)
         self.programs += 1
@@ -83,5 +86,7 @@ class Beside(threading.Thread):
 
     def told(self) -> str:
         """The numbers."""
-        return (f"{self.programs} programs ended beside a service of up to {self.most_connections} connections, which"
-                f" was killed {self.killed} times")
+        return (
+            f"{self.programs} programs ended beside a service of up to {self.most_connections} connections, which"
+            f" was killed {self.killed} times"
+        )

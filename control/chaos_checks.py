@@ -67,18 +67,24 @@ def look_at(found: Outcome, store: Store, row: int, sign: fleet.Sign, live: Loop
     activations = look_at_datagrams(found, live)
     ledger = {int(line.split(" ")[1]): line.split(" ", 3)[2:] for line in store.ledger(row)}
     found.holds(f"{live.name}: each activation that went out stands in the ledger", activations <= set(ledger))
-    found.holds(f"{live.name}: each acceptance of the sign stands in the ledger",
-                all(number in ledger and ledger[number][0] == code for number, code in live.accepted))
+    found.holds(
+        f"{live.name}: each acceptance of the sign stands in the ledger",
+        all(number in ledger and ledger[number][0] == code for number, code in live.accepted),
+    )
     for number, (code, how) in ledger.items():
         if how == "accepted":
             found.holds(f"{live.name}: the sign accepted {number}", (number, code) in live.accepted)
     accepted = store.run("SELECT count(*) FROM commands WHERE sign = ? AND how = 'accepted'", row)[0][0]
-    found.holds(f"{live.name}: each command that ended accepted has its activation",
-                accepted == sum(how == "accepted" for _, how in ledger.values()))
+    found.holds(
+        f"{live.name}: each command that ended accepted has its activation",
+        accepted == sum(how == "accepted" for _, how in ledger.values()),
+    )
     asked = whole(store.run("SELECT count(*) FROM commands WHERE sign = ?", row)[0][0])
     audit = [str(what[0]) for what in store.run("SELECT what FROM audit")]
-    found.holds(f"{live.name}: each command stands in the audit",
-                asked == sum(what.startswith(f"{live.name}: ") for what in audit))
+    found.holds(
+        f"{live.name}: each command stands in the audit",
+        asked == sum(what.startswith(f"{live.name}: ") for what in audit),
+    )
     is_foretold = store.ledger(row) == foretold(store, row, sign)
     found.holds(f"{live.name}: the ledger is the model's, handed the lines", is_foretold)
     numbers = [line[0] for line in store.run("SELECT number FROM lines WHERE sign = ? ORDER BY number", row)]

@@ -16,8 +16,21 @@ class Workers:
 
     def __init__(self, count: int, folder: pathlib.Path, where: str, signtool: str, tick: float, lease: float) -> None:
         self.count, self.lease = count, lease
-        self.call = [sys.executable, "-m", "control.worker", "--fleet", str(folder / "fleet.toml"),
-                     "--database", where, "--signtool", signtool, "--tick", str(tick), "--lease", str(lease)]
+        self.call = [
+            sys.executable,
+            "-m",
+            "control.worker",
+            "--fleet",
+            str(folder / "fleet.toml"),
+            "--database",
+            where,
+            "--signtool",
+            signtool,
+            "--tick",
+            str(tick),
+            "--lease",
+            str(lease),
+        ]
         self.said = folder / "workers"
         self.going: list[subprocess.Popen[bytes]] = []
         self.stopped: list[tuple[float, subprocess.Popen[bytes]]] = []
@@ -27,8 +40,11 @@ class Workers:
         """As many as are asked for go."""
         while len(self.going) < self.count:
             with open(self.said, "ab") as said:
-                self.going.append(subprocess.Popen(self.call, cwd=TOP, stdin=subprocess.DEVNULL,
-                                                   stdout=subprocess.DEVNULL, stderr=said))
+                self.going.append(
+                    subprocess.Popen(
+                        self.call, cwd=TOP, stdin=subprocess.DEVNULL, stdout=subprocess.DEVNULL, stderr=said
+                    )
+                )
 
     def refill(self) -> None:
         """Others go where some gave up, since there was no database as they began."""

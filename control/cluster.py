@@ -47,8 +47,9 @@ class Cluster:
         self.user = self.other_user()
         if self.user is not None:
             os.chown(folder, self.user.pw_uid, self.user.pw_gid)
-        self.call("initdb", "-D", str(self.data), "-A", "trust", "-U", "control", "-E", "UTF8", "--locale=C",
-                  "--no-sync")
+        self.call(
+            "initdb", "-D", str(self.data), "-A", "trust", "-U", "control", "-E", "UTF8", "--locale=C", "--no-sync"
+        )
 
     @staticmethod
     def other_user() -> pwd.struct_passwd | None:
@@ -64,14 +65,23 @@ class Cluster:
         """The call of one of its programs as that user, ended with this process."""
         if shutil.which("setpriv") is None:
             raise Refusal("there is no setpriv: apt-get install util-linux")
-        who = [] if self.user is None else [f"--reuid={self.user.pw_uid}", f"--regid={self.user.pw_gid}",
-                                           "--clear-groups"]
+        who = (
+            []
+            if self.user is None
+            else [f"--reuid={self.user.pw_uid}", f"--regid={self.user.pw_gid}", "--clear-groups"]
+        )
         return ["setpriv", "--pdeathsig=QUIT", *who, program(name)]
 
     def call(self, name: str, *words: str) -> None:
         """Runs one of its programs to its end."""
-        done = subprocess.run([*self.words(name), *words], stdin=subprocess.DEVNULL, stdout=subprocess.PIPE,
-                              stderr=subprocess.STDOUT, cwd="/", timeout=120)
+        done = subprocess.run(
+            [*self.words(name), *words],
+            stdin=subprocess.DEVNULL,
+            stdout=subprocess.PIPE,
+            stderr=subprocess.STDOUT,
+            cwd="/",
+            timeout=120,
+        )
         if done.returncode:
             raise Refusal(f"{name}: {done.stdout.decode(errors='replace').strip()[-500:]}")
 
@@ -80,11 +90,23 @@ class Cluster:
 
     def start(self) -> None:
         """The server, once it answers."""
-        call = [*self.words("postgres"), "-D", str(self.data), "-p", str(self.port), "-c", "listen_addresses=127.0.0.1",
-                "-c", f"unix_socket_directories={self.folder}", "-c", "max_connections=100"]
+        call = [
+            *self.words("postgres"),
+            "-D",
+            str(self.data),
+            "-p",
+            str(self.port),
+            "-c",
+            "listen_addresses=127.0.0.1",
+            "-c",
+            f"unix_socket_directories={self.folder}",
+            "-c",
+            "max_connections=100",
+        ]
         with open(self.folder / "log", "ab") as log:
-            self.process = subprocess.Popen(call, stdin=subprocess.DEVNULL, stdout=log, stderr=log, cwd="/",
-                                            process_group=0)
+            self.process = subprocess.Popen(
+                call, stdin=subprocess.DEVNULL, stdout=log, stderr=log, cwd="/", process_group=0
+            )
         ends = time.monotonic() + START
         while self.process.poll() is None and time.monotonic() < ends:
             with contextlib.suppress(Refusal):
@@ -124,8 +146,9 @@ def cluster() -> Iterator[Cluster]:
 
 
 def main() -> int:
-    words = argparse.ArgumentParser(prog="python3 -m control.cluster", description=__doc__,
-                                    formatter_class=argparse.RawDescriptionHelpFormatter)
+    words = argparse.ArgumentParser(
+        prog="python3 -m control.cluster", description=__doc__, formatter_class=argparse.RawDescriptionHelpFormatter
+    )
     words.parse_args()
     with cluster():
         return 0

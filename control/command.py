@@ -67,8 +67,11 @@ def explain(store: Store, command: int, how: str) -> None:
 
 
 def main() -> int:
-    words = argparse.ArgumentParser(prog=called("control.command"), description=in_words_of_command(__doc__),
-                                    formatter_class=argparse.RawDescriptionHelpFormatter)
+    words = argparse.ArgumentParser(
+        prog=called("control.command"),
+        description=in_words_of_command(__doc__),
+        formatter_class=argparse.RawDescriptionHelpFormatter,
+    )
     words.add_argument("--database", required=True, metavar="WHERE", help=database.WHERE)
     words.add_argument("--who", default=getpass.getuser(), metavar="NAME", help="who asks; else the user")
     words.add_argument("--wait", type=seconds, default=120.0, metavar="SECONDS", help="how long its end is waited for")

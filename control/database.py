@@ -8,8 +8,21 @@ from door.refusal import Refusal
 from .connection import Away, Database, Failed, NotYet, Row, Taken, Value
 from .sqlite import Sqlite
 
-__all__ = ["Away", "Database", "Failed", "NotYet", "Row", "Taken", "Value", "connected", "is_url", "migrate",
-           "migrations", "named", "opened"]
+__all__ = [
+    "Away",
+    "Database",
+    "Failed",
+    "NotYet",
+    "Row",
+    "Taken",
+    "Value",
+    "connected",
+    "is_url",
+    "migrate",
+    "migrations",
+    "named",
+    "opened",
+]
 MIGRATIONS = pathlib.Path(__file__).resolve().parent / "migrations"
 RESTORING = "restoring"  # a table of this name keeps all out of a database that control/backup.py restores
 URLS = ("postgresql://", "postgres://")

@@ -13,8 +13,9 @@ import signal
 import subprocess
 import sys
 import tempfile
-import tomllib
 from typing import Iterator
+
+import tomllib
 
 from door.places import called, in_words_of_command
 from door.refusal import Refusal, status_of, tell
@@ -60,8 +61,11 @@ def begin_signs(path: pathlib.Path, program: str, running: list[subprocess.Popen
     """The signs are among what runs; refused where one does not stand."""
     found = entries(path)
     for _, port, description in found:
-        running.append(begun(["tools/udp_sign.py", "--signtool", program, "--sign", str(description), "--port",
-                              str(port), "--quiet"]))
+        running.append(
+            begun(
+                ["tools/udp_sign.py", "--signtool", program, "--sign", str(description), "--port", str(port), "--quiet"]
+            )
+        )
     with contextlib.suppress(subprocess.TimeoutExpired):
         running[-1].wait(SILENCE)
     dead = [entry[0] for entry, process in zip(found, running) if process.poll() is not None]
@@ -80,8 +84,11 @@ def enter(where: str) -> None:
 
 
 def main() -> int:
-    words = argparse.ArgumentParser(prog=called("control.demo"), description=in_words_of_command(__doc__),
-                                    formatter_class=argparse.RawDescriptionHelpFormatter)
+    words = argparse.ArgumentParser(
+        prog=called("control.demo"),
+        description=in_words_of_command(__doc__),
+        formatter_class=argparse.RawDescriptionHelpFormatter,
+    )
     words.add_argument("--listen", default=LISTEN, metavar="HOST:PORT")
     words.add_argument("--fleet", type=pathlib.Path, default=FLEET, metavar="FILE")
     words.add_argument("--signtool", default=str(SIGNTOOL), metavar="PATH")
@@ -94,8 +101,22 @@ def main() -> int:
         with contextlib.suppress(KeyboardInterrupt), ended(running):
             begin_signs(path, asked.signtool, running)
             enter(where)
-            running.append(begun(["-m", "control", "--fleet", str(path), "--database", where, "--listen", asked.listen,
-                                  "--signtool", asked.signtool]))
+            running.append(
+                begun(
+                    [
+                        "-m",
+                        "control",
+                        "--fleet",
+                        str(path),
+                        "--database",
+                        where,
+                        "--listen",
+                        asked.listen,
+                        "--signtool",
+                        asked.signtool,
+                    ]
+                )
+            )
             running[-1].wait()
             raise Refusal("the control room ended by itself", 1)
     return 0

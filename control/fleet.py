@@ -3,9 +3,10 @@
 import pathlib
 import re
 import stat
-import tomllib
 from dataclasses import dataclass, replace
 from typing import NoReturn
+
+import tomllib
 
 from door import description
 from door.refusal import Refusal, reason, say
@@ -170,8 +171,17 @@ class Entry:
         found = COMMUNITIES.search(text)
         if found is None:
             self.refuse("description", "the description has no line `communities READER WRITER`")
-        return Sign(self.name(), self.word("place"), host, port, text, found[1], self.poll(), self.first(text),
-                    path=str(self.source.path.parent / self.word("description")))
+        return Sign(
+            self.name(),
+            self.word("place"),
+            host,
+            port,
+            text,
+            found[1],
+            self.poll(),
+            self.first(text),
+            path=str(self.source.path.parent / self.word("description")),
+        )
 
 
 def is_open(path: str) -> bool:
@@ -179,7 +189,8 @@ def is_open(path: str) -> bool:
     place = pathlib.Path(path).resolve()
     try:
         return bool(place.stat().st_mode & stat.S_IROTH) and all(
-            folder.stat().st_mode & stat.S_IXOTH for folder in place.parents)
+            folder.stat().st_mode & stat.S_IXOTH for folder in place.parents
+        )
     except OSError:
         return False
 
@@ -189,7 +200,9 @@ def tell_open(signs: list[Sign]) -> None:
     found = [path for path in sorted({sign.path for sign in signs}) if is_open(path)]
     if found:
         more = f" and {len(found) - MOST_NAMED} more" if len(found) > MOST_NAMED else ""
-        say(f"others on this machine can read {', '.join(found[:MOST_NAMED])}{more}, where communities stand: chmod o-r")
+        say(
+            f"others on this machine can read {', '.join(found[:MOST_NAMED])}{more}, where communities stand: chmod o-r"
+        )
 
 
 def entries(source: Source) -> list[Entry]:

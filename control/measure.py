@@ -61,11 +61,16 @@ def count(store: Store, rows: str) -> int:
 def begun_once(store: Store, rows: list[int]) -> None:
     """Waits until each sign was read and had a command, so that what is measured is the work that goes on."""
     with store.database.transaction():
-        store.database.run_all("INSERT INTO commands (sign, who, at, line) VALUES (?, 'before', {clock}, ?)",
-                               [(row, "blank 1 65535 255 192.0.2.1") for row in rows])
+        store.database.run_all(
+            "INSERT INTO commands (sign, who, at, line) VALUES (?, 'before', {clock}, ?)",
+            [(row, "blank 1 65535 255 192.0.2.1") for row in rows],
+        )
     ends = time.monotonic() + START
-    while (count(store, "commands WHERE how IS NULL") or count(store, "messages") < len(rows)
-           or count(store, "signs WHERE id IN (SELECT sign FROM readings)") < len(rows)):
+    while (
+        count(store, "commands WHERE how IS NULL")
+        or count(store, "messages") < len(rows)
+        or count(store, "signs WHERE id IN (SELECT sign FROM readings)") < len(rows)
+    ):
         if time.monotonic() > ends:
             break
         time.sleep(LOOK)
@@ -93,8 +98,10 @@ class Watch:
         self.next_look, of = time.monotonic() + LOOK_AT_MEMORY, children()
         for group in self.groups:
             group.look(of)
-        age = self.store.run("SELECT max({clock} - heard) FROM readings"
-                             " WHERE (sign, number) IN (SELECT sign, min(number) FROM readings GROUP BY sign)")[0][0]
+        age = self.store.run(
+            "SELECT max({clock} - heard) FROM readings"
+            " WHERE (sign, number) IN (SELECT sign, min(number) FROM readings GROUP BY sign)"
+        )[0][0]
         self.oldest = max(self.oldest, float(age or 0))
 
 
@@ -108,7 +115,8 @@ def carried(asked: Asked, store: Store, rows: list[int], watch: Watch) -> float:
             with store.database.transaction():
                 store.database.run_all(
                     "INSERT INTO commands (sign, who, at, line) VALUES (?, 'measure', {clock}, ?)",
-                    [(rows[at % len(rows)], publication(at)) for at in range(sent, to_send)])
+                    [(rows[at % len(rows)], publication(at)) for at in range(sent, to_send)],
+                )
             sent = to_send
         watch.look()
         if not took and sent == asked.commands and not count(store, "commands WHERE how IS NULL"):
@@ -134,16 +142,24 @@ def beginning(asked: Asked) -> float:
 def told(asked: Asked, store: Store, seconds: float, watch: Watch) -> None:
     """The numbers."""
     span, gets = watch.span(), watch.gets() - watch.gets_before
-    took = sorted(float(row[0] or 0) for row in store.run(
-        "SELECT ended - at FROM commands WHERE who = 'measure' AND how = 'accepted'"))
-    tell(f"{asked.signs} signs, {asked.workers} workers, {asked.database}, tick {asked.tick:g} s, poll {asked.poll:g} s,"
-         f" {'all at once' if not asked.rate else f'{asked.rate:g} a second'}")
+    took = sorted(
+        float(row[0] or 0)
+        for row in store.run("SELECT ended - at FROM commands WHERE who = 'measure' AND how = 'accepted'")
+    )
+    tell(
+        f"{asked.signs} signs, {asked.workers} workers, {asked.database}, tick {asked.tick:g} s, poll {asked.poll:g} s,"
+        f" {'all at once' if not asked.rate else f'{asked.rate:g} a second'}"
+    )
     tell(f"{len(took)} of {asked.commands} commands accepted in {seconds:.1f} s: {len(took) / seconds:.1f} a second")
     if took:
         at = [took[min(len(took) - 1, len(took) * part // 100)] for part in (50, 95)]
-        tell(f"time to accepted: median {statistics.median(took):.2f} s, 95 of 100 within {at[1]:.2f} s, all within"
-             f" {took[-1]:.2f} s")
-    tell(f"in {span:.1f} s {gets / span:.0f} Gets a second; what is known of a sign was {watch.oldest:.1f} s old at most")
+        tell(
+            f"time to accepted: median {statistics.median(took):.2f} s, 95 of 100 within {at[1]:.2f} s, all within"
+            f" {took[-1]:.2f} s"
+        )
+    tell(
+        f"in {span:.1f} s {gets / span:.0f} Gets a second; what is known of a sign was {watch.oldest:.1f} s old at most"
+    )
     tell(f"{count(store, 'lines')} lines; a co-process begins in {beginning(asked):.1f} ms, half of the times")
     for group in watch.groups:
         tell(group.told(span))
@@ -164,9 +180,13 @@ def run(asked: Asked, folder: pathlib.Path, place: Place) -> bool:
     """A measure; whether all commands were accepted."""
     names = [f"sign {at}" for at in range(asked.signs)]
     loopback = Loopback(asked.signtool, {name: DESCRIPTION.read_bytes() for name in names}, Fates(1, 0.0), 1.0)
-    (folder / "fleet.toml").write_text("".join(
-        f'[[sign]]\nname = "{live.name}"\naddress = "127.0.0.1:{live.port}"\ndescription = "{DESCRIPTION}"\n'
-        f"poll = {asked.poll}\n" for live in loopback.signs))
+    (folder / "fleet.toml").write_text(
+        "".join(
+            f'[[sign]]\nname = "{live.name}"\naddress = "127.0.0.1:{live.port}"\ndescription = "{DESCRIPTION}"\n'
+            f"poll = {asked.poll}\n"
+            for live in loopback.signs
+        )
+    )
     store = Store(database.opened(place.where))
     rows = sorted(store.enter(fleet.read(folder / "fleet.toml")))
     workers = Workers(asked.workers, folder, place.where, asked.signtool, asked.tick, 10.0)
@@ -187,19 +207,22 @@ def run(asked: Asked, folder: pathlib.Path, place: Place) -> bool:
 
 
 def arguments() -> argparse.ArgumentParser:
-    words = argparse.ArgumentParser(prog="python3 -m control.measure", description=__doc__,
-                                    formatter_class=argparse.RawDescriptionHelpFormatter)
+    words = argparse.ArgumentParser(
+        prog="python3 -m control.measure", description=__doc__, formatter_class=argparse.RawDescriptionHelpFormatter
+    )
     words.add_argument("--signs", type=int, default=200, metavar="N")
     words.add_argument("--commands", type=int, default=200, metavar="N")
     words.add_argument("--workers", type=int, default=1, metavar="N")
-    words.add_argument("--rate", type=float, default=0, metavar="N",
-                       help="commands asked for a second; else all at once")
+    words.add_argument(
+        "--rate", type=float, default=0, metavar="N", help="commands asked for a second; else all at once"
+    )
     words.add_argument("--poll", type=float, default=10.0, metavar="SECONDS", help="from reading to reading of a sign")
     words.add_argument("--seconds", type=float, default=300, metavar="N", help="that the commands have to end")
     words.add_argument("--hold", type=float, default=0, metavar="N", help="that signs are watched for at least")
     words.add_argument("--tick", type=float, default=1.0, metavar="SECONDS")
-    words.add_argument("--one-processor", action="store_true", dest="is_pinned",
-                       help="workers, co-processes and server on one")
+    words.add_argument(
+        "--one-processor", action="store_true", dest="is_pinned", help="workers, co-processes and server on one"
+    )
     words.add_argument("--database", choices=KINDS, default=KINDS[0])
     words.add_argument("--signtool", default=str(SIGNTOOL), metavar="PATH")
     return words
@@ -210,8 +233,9 @@ def main() -> int:
     if asked.database == "postgresql":
         start.needed("control.measure", "psycopg")
     signal.signal(signal.SIGTERM, lambda *_: sys.exit(143))
-    with tempfile.TemporaryDirectory(prefix="measure-") as folder, \
-            placed(asked.database, pathlib.Path(folder)) as place:
+    with tempfile.TemporaryDirectory(prefix="measure-") as folder, placed(
+        asked.database, pathlib.Path(folder)
+    ) as place:
         return 0 if run(asked, pathlib.Path(folder), place) else 1
 
 

@@ -31,8 +31,9 @@ def is_password(password: str, secret: str) -> bool:
     kind, cost, block, lanes, salt, kept = secret.split(" ")
     if kind != "scrypt" or len(password) > MOST:
         return False
-    return hmac.compare_digest(digest(password, bytes.fromhex(salt), int(cost), int(block), int(lanes)),
-                               bytes.fromhex(kept))
+    return hmac.compare_digest(
+        digest(password, bytes.fromhex(salt), int(cost), int(block), int(lanes)), bytes.fromhex(kept)
+    )
 
 
 def fault_of(password: str) -> str | None:

@@ -21,8 +21,11 @@ def batch(held: Database, number: int) -> Batch | None:
     rows = held.run("SELECT id, who, at, what FROM batches WHERE id = ?", number)
     if not rows:
         return None
-    of = held.run(f"{COMMANDS} JOIN batch_commands ON batch_commands.command = commands.id"
-                  " WHERE batch_commands.batch = ? ORDER BY commands.id", number)
+    of = held.run(
+        f"{COMMANDS} JOIN batch_commands ON batch_commands.command = commands.id"
+        " WHERE batch_commands.batch = ? ORDER BY commands.id",
+        number,
+    )
     return Batch(whole(rows[0][0]), str(rows[0][1]), time_of(rows[0][2]), str(rows[0][3]), list(map(command_view, of)))
 
 
@@ -33,8 +36,9 @@ def people(held: Database) -> list[str]:
 
 def ledger(held: Database, number: int, most: int = 200) -> list[tuple[int, str, str, float]]:
     """The newest entries: the request's number, the code, the outcome, and when it was noted."""
-    rows = held.run("SELECT number, code, outcome, at FROM ledger WHERE sign = ? ORDER BY number DESC LIMIT ?",
-                    number, most)
+    rows = held.run(
+        "SELECT number, code, outcome, at FROM ledger WHERE sign = ? ORDER BY number DESC LIMIT ?", number, most
+    )
     return [(whole(row[0]), str(row[1]), str(row[2]), time_of(row[3])) for row in rows]
 
 
@@ -50,8 +54,12 @@ class ReadingView:
 
 def readings(held: Database, number: int, most: int = 100) -> list[ReadingView]:
     rows = held.run("SELECT at, heard, shown, fault FROM readings WHERE sign = ? ORDER BY number LIMIT ?", number, most)
-    return [ReadingView(time_of(row[0]), time_of(row[1]), None if row[2] is None else Shown.of(str(row[2])),
-                        text_or_none(row[3])) for row in rows]
+    return [
+        ReadingView(
+            time_of(row[0]), time_of(row[1]), None if row[2] is None else Shown.of(str(row[2])), text_or_none(row[3])
+        )
+        for row in rows
+    ]
 
 
 def audit(held: Database, before: int | None, most: int = 100) -> list[tuple[int, float, str, str]]:

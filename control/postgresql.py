@@ -26,12 +26,22 @@ NEEDED = {  # as the server says it, once connected: a pooler may drop what was 
     "full_page_writes": ("on",),
     "transaction_read_only": ("off",),  # a standby takes no lines
 }
-LASTING = ("authentication failed", "does not exist", "pg_hba.conf", "no password supplied", "certificate",
-           "not support SSL")  # what a server says that does so again
+LASTING = (
+    "authentication failed",
+    "does not exist",
+    "pg_hba.conf",
+    "no password supplied",
+    "certificate",
+    "not support SSL",
+)  # what a server says that does so again
 ALONE = 0x5163_6E73  # the advisory lock of those transactions of which one is under way at a time
 SILENCE: dict[str, Any] = {  # after which a server that does not answer is given up
-    "connect_timeout": 10, "tcp_user_timeout": 10_000, "keepalives_idle": 5, "keepalives_interval": 2,
-    "keepalives_count": 3}
+    "connect_timeout": 10,
+    "tcp_user_timeout": 10_000,
+    "keepalives_idle": 5,
+    "keepalives_interval": 2,
+    "keepalives_count": 3,
+}
 logging.getLogger("psycopg").setLevel(logging.CRITICAL)  # what it would say comes as an exception too
 
 
@@ -56,8 +66,9 @@ class Postgresql(Database):
     def connect(self) -> psycopg.Connection[Row]:
         """The connection that stands, or a new one."""
         if self.connection is None:
-            options = " ".join(f"-c {name}={value}".replace(" ", "\\ ").replace("-c\\ ", "-c ")
-                               for name, value in SETTINGS.items())
+            options = " ".join(
+                f"-c {name}={value}".replace(" ", "\\ ").replace("-c\\ ", "-c ") for name, value in SETTINGS.items()
+            )
             made = psycopg.connect(self.url, autocommit=True, options=options, application_name="control", **SILENCE)
             try:
                 check(made)
@@ -135,8 +146,10 @@ def check(connection: "psycopg.Connection[Row]") -> None:
     found = connection.execute(f"SELECT {asked}").fetchone()
     for (name, wanted), value in zip(NEEDED.items(), found or ()):
         if value not in wanted:
-            raise Failed(f"the server has {name} {value} for this connection, and not {wanted[0]}: what it commits may be"
-                         " lost. A pooler between may drop what was asked for as the connection began")
+            raise Failed(
+                f"the server has {name} {value} for this connection, and not {wanted[0]}: what it commits may be"
+                " lost. A pooler between may drop what was asked for as the connection began"
+            )
 
 
 def may_pass(fault: Exception) -> bool:

@@ -112,8 +112,9 @@ class Worker:
     def wait(self) -> None:
         """Until something is due or heard."""
         now = time.monotonic()
-        doors = [session.door.fileno() for session in self.sessions.values()
-                 if session.is_busy and session.ready_at <= now]
+        doors = [
+            session.door.fileno() for session in self.sessions.values() if session.is_busy and session.ready_at <= now
+        ]
         due = [self.next_look, self.next_renewal]
         for row, session in self.sessions.items():
             if session.ready_at > now or not session.is_busy:
@@ -177,7 +178,7 @@ class Worker:
         """Takes signs that have work and that nobody drives; looks again soon where there are more of them."""
         room = min(BEGUN_AT_ONCE, self.pace.most - len(self.sessions))
         free = [row for row in self.store.with_work() if row in self.signs and row not in self.sessions]
-        leased = self.store.lease(free[:max(0, room)], self.name, self.pace.lease)
+        leased = self.store.lease(free[: max(0, room)], self.name, self.pace.lease)
         for row in sorted(leased):
             self.begin(row)
         if len(free) > room and room > 0 and leased:

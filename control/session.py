@@ -24,8 +24,10 @@ MOST_LINES = 1000  # of a centre; one that is idle after more gives way to a new
 MOST_LATE = 1000  # datagrams that came while no job was under way and are let go at once
 PACE = 0.01  # seconds from one line of a sign to the next at least: control/backup.py counts on it
 CHANGED = "failed: the sign's description changed while it was under way"
-RESTORED = ("unknown: the sign's numbers began anew, since the database was restored from a copy or the sign has an"
-            " address that another one had, while it was under way")
+RESTORED = (
+    "unknown: the sign's numbers began anew, since the database was restored from a copy or the sign has an"
+    " address that another one had, while it was under way"
+)
 
 
 class Lost(Exception):

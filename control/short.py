@@ -17,10 +17,38 @@ from door.refusal import status_of, tell
 from . import SIGNTOOL, TOP, start
 
 MODULES = ("pytest", "aiohttp", "jinja2", "psycopg")
-CHAOS = ("--signs", "6", "--commands", "16", "--workers", "2", "--troubles", "6", "--tick", "0.5", "--lease", "5",
-         "--seconds", "400")
-ALONE = ("--signs", "3", "--commands", "6", "--workers", "0", "--tick", "0.5", "--lease", "5", "--seconds", "200",
-         "--database", "sqlite")  # a service over SQLite whose connections alone keep the log from who ends beside it
+CHAOS = (
+    "--signs",
+    "6",
+    "--commands",
+    "16",
+    "--workers",
+    "2",
+    "--troubles",
+    "6",
+    "--tick",
+    "0.5",
+    "--lease",
+    "5",
+    "--seconds",
+    "400",
+)
+ALONE = (
+    "--signs",
+    "3",
+    "--commands",
+    "6",
+    "--workers",
+    "0",
+    "--tick",
+    "0.5",
+    "--lease",
+    "5",
+    "--seconds",
+    "200",
+    "--database",
+    "sqlite",
+)  # a service over SQLite whose connections alone keep the log from who ends beside it
 BROWSER = "control/tests/test_browser*.py"  # some minutes by themselves: run by hand
 PYTEST = ("-q", "-rs", "-p", "no:cacheprovider")
 PARTS = 2  # in which the tests run, side by side
@@ -45,8 +73,14 @@ class Program:
     def __init__(self, python: str, environment: dict[str, str], module: str, *words: str) -> None:
         self.module = module
         self.output = tempfile.TemporaryFile()
-        self.process = subprocess.Popen([python, "-m", module, *words], cwd=TOP, env=environment,
-                                        stdin=subprocess.DEVNULL, stdout=self.output, stderr=self.output)
+        self.process = subprocess.Popen(
+            [python, "-m", module, *words],
+            cwd=TOP,
+            env=environment,
+            stdin=subprocess.DEVNULL,
+            stdout=self.output,
+            stderr=self.output,
+        )
 
     def ended(self) -> tuple[int | None, str]:
         """Its exit status, none where it took too long, and what it printed."""
@@ -77,8 +111,14 @@ def judged(program: Program) -> Outcome:
 
 def kind_of_database(python: str, environment: dict[str, str]) -> tuple[str, list[str]]:
     """PostgreSQL's where a server of its own can be started; else SQLite's, and what is skipped and why."""
-    done = subprocess.run([python, "-m", "control.cluster"], cwd=TOP, env=environment, stdin=subprocess.DEVNULL,
-                          capture_output=True, text=True)
+    done = subprocess.run(
+        [python, "-m", "control.cluster"],
+        cwd=TOP,
+        env=environment,
+        stdin=subprocess.DEVNULL,
+        capture_output=True,
+        text=True,
+    )
     if done.returncode == 0:
         return "postgresql", []
     return "sqlite", [f"chaos over PostgreSQL: {(done.stderr.strip().splitlines() or ['no server'])[-1]}"]
@@ -106,8 +146,9 @@ def short(python: str, program: str) -> int:
 
 
 def main() -> int:
-    words = argparse.ArgumentParser(prog="python3 -m control.short", description=__doc__,
-                                    formatter_class=argparse.RawDescriptionHelpFormatter)
+    words = argparse.ArgumentParser(
+        prog="python3 -m control.short", description=__doc__, formatter_class=argparse.RawDescriptionHelpFormatter
+    )
     words.add_argument("--signtool", default=str(SIGNTOOL), metavar="PATH")
     program = os.path.abspath(words.parse_args().signtool)
     python = start.seeing(MODULES)

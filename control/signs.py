@@ -33,8 +33,11 @@ def rename(held: Database, old: str, new: str, who: str) -> None:
 
 
 def arguments() -> argparse.ArgumentParser:
-    words = argparse.ArgumentParser(prog=called("control.signs"), description=in_words_of_command(__doc__),
-                                    formatter_class=argparse.RawDescriptionHelpFormatter)
+    words = argparse.ArgumentParser(
+        prog=called("control.signs"),
+        description=in_words_of_command(__doc__),
+        formatter_class=argparse.RawDescriptionHelpFormatter,
+    )
     words.add_argument("--database", required=True, metavar="WHERE", help=database.WHERE)
     calls = words.add_subparsers(dest="call", required=True, metavar="CALL")
     calls.add_parser("list")

@@ -17,7 +17,6 @@ from door.refusal import Refusal, reason
 
 from .connection import PATIENCE, Away, Database, Failed, NotYet, Row, Taken
 
-
 MAKING = threading.Lock()
 Mark = tuple[int, int] | None
 
@@ -55,8 +54,9 @@ class Sqlite(Database):
         self.marks: list[Mark] = []
         try:
             make(path)
-            self.connection = sqlite3.connect(address_of(path, "rw"), uri=True, timeout=PATIENCE,
-                                              isolation_level=None, check_same_thread=False)
+            self.connection = sqlite3.connect(
+                address_of(path, "rw"), uri=True, timeout=PATIENCE, isolation_level=None, check_same_thread=False
+            )
             for pragma in ("journal_mode = WAL", "synchronous = FULL", "foreign_keys = ON"):
                 self.run(f"PRAGMA {pragma}")
             self.run("SELECT count(*) FROM sqlite_master")  # from here on it has the log

@@ -13,8 +13,13 @@ import sys
 
 from door.refusal import Refusal
 
-PACKAGES = {"psycopg": "python3-psycopg", "aiohttp": "python3-aiohttp", "jinja2": "python3-jinja2",
-            "pytest": "python3-pytest", "selenium": "python3-selenium"}
+PACKAGES = {
+    "psycopg": "python3-psycopg",
+    "aiohttp": "python3-aiohttp",
+    "jinja2": "python3-jinja2",
+    "pytest": "python3-pytest",
+    "selenium": "python3-selenium",
+}
 SEEN = "CONTROL_PYTHON"  # set for the Python that was looked for, so that it does not look again
 PLACES = ("/usr/bin", "/usr/local/bin")
 
@@ -35,8 +40,16 @@ def sees(python: str, modules: tuple[str, ...]) -> bool:
     """Whether this Python is 3.11 or newer and sees them all."""
     asked = f"import sys, {', '.join(modules)}; sys.exit(sys.version_info < (3, 11))"
     try:
-        return subprocess.run([python, "-c", asked], stdin=subprocess.DEVNULL, stdout=subprocess.DEVNULL,
-                              stderr=subprocess.DEVNULL, timeout=20).returncode == 0
+        return (
+            subprocess.run(
+                [python, "-c", asked],
+                stdin=subprocess.DEVNULL,
+                stdout=subprocess.DEVNULL,
+                stderr=subprocess.DEVNULL,
+                timeout=20,
+            ).returncode
+            == 0
+        )
     except (OSError, subprocess.TimeoutExpired):
         return False
 

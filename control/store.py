@@ -58,11 +58,16 @@ class Store(AddressStore):
         if new:
             every = {sign.name: sign.every | {sign.address} for sign in signs}
             moved = {name for name, _, address, _ in new if name not in held or held[name][1] != address}
-            known = others({name: str(row[1]) for name, row in held.items() if name not in said} if moved else {}) | every
+            known = (
+                others({name: str(row[1]) for name, row in held.items() if name not in said} if moved else {}) | every
+            )
             with self.database.transaction(is_alone=True):
-                self.database.run_all("INSERT INTO signs (name, place, address, poll) VALUES (?, ?, ?, ?)"
-                                      " ON CONFLICT (name) DO UPDATE SET place = excluded.place,"
-                                      " address = excluded.address, poll = excluded.poll", new)
+                self.database.run_all(
+                    "INSERT INTO signs (name, place, address, poll) VALUES (?, ?, ?, ?)"
+                    " ON CONFLICT (name) DO UPDATE SET place = excluded.place,"
+                    " address = excluded.address, poll = excluded.poll",
+                    new,
+                )
                 if moved:
                     self.know({whole(row[3]): known[name] for name, row in held.items() if name not in moved})
                 for name in sorted(moved):
@@ -78,39 +83,53 @@ class Store(AddressStore):
 
     def with_work(self) -> list[int]:
         """Signs that have a command which has not ended, and that nobody drives: the longest waiting first."""
-        rows = self.run(f"SELECT commands.sign FROM commands JOIN signs ON signs.id = commands.sign"
-                        f" WHERE commands.how IS NULL AND {OVER}"
-                        " GROUP BY commands.sign ORDER BY min(commands.id)")
+        rows = self.run(
+            f"SELECT commands.sign FROM commands JOIN signs ON signs.id = commands.sign"
+            f" WHERE commands.how IS NULL AND {OVER}"
+            " GROUP BY commands.sign ORDER BY min(commands.id)"
+        )
         return [whole(row[0]) for row in rows]
 
     def lease(self, signs: Sequence[int], worker: str, seconds: float) -> set[int]:
         """Which of these signs the worker drives for so many seconds from now on."""
         if not signs:
             return set()
-        rows = self.run(f"WITH free AS MATERIALIZED (SELECT id FROM signs WHERE id IN ({places(signs)})"
-                        f" AND {OVER} {{skip}})"
-                        f" UPDATE signs SET holder = ?, leased = {CLOCK}, until = {CLOCK} + ?"
-                        " WHERE id IN (SELECT id FROM free)"
-                        " RETURNING id", *signs, worker, seconds)
+        rows = self.run(
+            f"WITH free AS MATERIALIZED (SELECT id FROM signs WHERE id IN ({places(signs)})"
+            f" AND {OVER} {{skip}})"
+            f" UPDATE signs SET holder = ?, leased = {CLOCK}, until = {CLOCK} + ?"
+            " WHERE id IN (SELECT id FROM free)"
+            " RETURNING id",
+            *signs,
+            worker,
+            seconds,
+        )
         return {whole(row[0]) for row in rows}
 
     def renew(self, signs: Sequence[int], worker: str, seconds: float) -> set[int]:
         """Which of these signs the worker still drives: for so many seconds from now on."""
         if not signs:
             return set()
-        rows = self.run(f"WITH held AS MATERIALIZED (SELECT id FROM signs WHERE holder = ? AND until >= {CLOCK}"
-                        f" AND id IN ({places(signs)}) ORDER BY id {{lock}})"
-                        f" UPDATE signs SET leased = {CLOCK}, until = {CLOCK} + ? WHERE id IN (SELECT id FROM held)"
-                        " RETURNING id",
-                        worker, *signs, seconds)
+        rows = self.run(
+            f"WITH held AS MATERIALIZED (SELECT id FROM signs WHERE holder = ? AND until >= {CLOCK}"
+            f" AND id IN ({places(signs)}) ORDER BY id {{lock}})"
+            f" UPDATE signs SET leased = {CLOCK}, until = {CLOCK} + ? WHERE id IN (SELECT id FROM held)"
+            " RETURNING id",
+            worker,
+            *signs,
+            seconds,
+        )
         return {whole(row[0]) for row in rows}
 
     def release(self, signs: Sequence[int], worker: str) -> None:
         """Lets those of the signs go that the worker has."""
         if signs:
-            self.run(f"WITH held AS MATERIALIZED (SELECT id FROM signs WHERE holder = ? AND id IN ({places(signs)})"
-                     " ORDER BY id {lock}) UPDATE signs SET holder = NULL WHERE id IN (SELECT id FROM held)",
-                     worker, *signs)
+            self.run(
+                f"WITH held AS MATERIALIZED (SELECT id FROM signs WHERE holder = ? AND id IN ({places(signs)})"
+                " ORDER BY id {lock}) UPDATE signs SET holder = NULL WHERE id IN (SELECT id FROM held)",
+                worker,
+                *signs,
+            )
 
     # ---- lines
 
@@ -135,23 +154,38 @@ class Store(AddressStore):
             changed = run_all("UPDATE commands SET number = ? WHERE id = ? AND number IS NULL AND how IS NULL", begun)
             if changed != len(begun):
                 raise Taken("a command waits no longer")
-            run_all(f"INSERT INTO lines (sign, number, line, worker, at) VALUES (?, ?, ?, ?, {CLOCK})",
-                    [(line.sign, line.number, line.text.decode(), worker) for line in lines])
-            run_all("UPDATE signs SET centre = ? WHERE id = ?",
-                    [(line.number, line.sign) for line in lines if line.is_first])
+            run_all(
+                f"INSERT INTO lines (sign, number, line, worker, at) VALUES (?, ?, ?, ?, {CLOCK})",
+                [(line.sign, line.number, line.text.decode(), worker) for line in lines],
+            )
+            run_all(
+                "UPDATE signs SET centre = ? WHERE id = ?",
+                [(line.number, line.sign) for line in lines if line.is_first],
+            )
 
     def replace(self, line: Line, worker: str, how: str) -> bool:
         """A centre begins in the place of one that is no more: what was under way with that one is over, so, and what
         waited in its ledger is unknown. False where the line's number is taken."""
         try:
             with self.database.transaction():
-                self.run(f"INSERT INTO lines (sign, number, line, worker, at) VALUES (?, ?, ?, ?, {CLOCK})",
-                         line.sign, line.number, line.text.decode(), worker)
+                self.run(
+                    f"INSERT INTO lines (sign, number, line, worker, at) VALUES (?, ?, ?, ?, {CLOCK})",
+                    line.sign,
+                    line.number,
+                    line.text.decode(),
+                    worker,
+                )
                 self.run("UPDATE signs SET centre = ? WHERE id = ?", line.number, line.sign)
-                self.run(f"UPDATE commands SET how = ?, ended = {CLOCK}"
-                         " WHERE sign = ? AND number IS NOT NULL AND how IS NULL", how, line.sign)
-                self.run(f"UPDATE ledger SET outcome = 'unknown', at = {CLOCK}"
-                         " WHERE sign = ? AND outcome = 'waiting'", line.sign)
+                self.run(
+                    f"UPDATE commands SET how = ?, ended = {CLOCK}"
+                    " WHERE sign = ? AND number IS NOT NULL AND how IS NULL",
+                    how,
+                    line.sign,
+                )
+                self.run(
+                    f"UPDATE ledger SET outcome = 'unknown', at = {CLOCK}" " WHERE sign = ? AND outcome = 'waiting'",
+                    line.sign,
+                )
             return True
         except Taken:
             return False
@@ -167,17 +201,23 @@ class Store(AddressStore):
                     f"INSERT INTO ledger (sign, number, code, outcome, at) VALUES (?, ?, ?, ?, {CLOCK})"
                     " ON CONFLICT (sign, number) DO UPDATE SET outcome = excluded.outcome, at = excluded.at"
                     " WHERE ledger.outcome = 'waiting' AND excluded.outcome <> 'waiting'",
-                    [(one.sign, *entry(line)) for line in one.ledger])
-            self.database.run_all(f"UPDATE commands SET how = ?, ended = {CLOCK} WHERE id = ? AND how IS NULL",
-                                  [(one.how, one.command) for one in ended])
-            self.database.run_all("UPDATE signs SET polled = 0, wanted = 1 WHERE id = ?",
-                                  [(one.sign,) for one in ended])
+                    [(one.sign, *entry(line)) for line in one.ledger],
+                )
+            self.database.run_all(
+                f"UPDATE commands SET how = ?, ended = {CLOCK} WHERE id = ? AND how IS NULL",
+                [(one.how, one.command) for one in ended],
+            )
+            self.database.run_all(
+                "UPDATE signs SET polled = 0, wanted = 1 WHERE id = ?", [(one.sign,) for one in ended]
+            )
 
 
 def others(addresses: dict[str, str]) -> dict[str, frozenset[str]]:
     """All spellings of the addresses of signs of no fleet, by their names."""
-    place = {name: (host, int(port)) for name, (host, _, port) in
-             ((name, address.rpartition(":")) for name, address in addresses.items())}
+    place = {
+        name: (host, int(port))
+        for name, (host, _, port) in ((name, address.rpartition(":")) for name, address in addresses.items())
+    }
     found = of_places(place.values())
     return {name: found[place[name]].every | {address} for name, address in addresses.items()}
 

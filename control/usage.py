@@ -64,8 +64,10 @@ class Group:
     def told(self, span: float) -> str:
         """In words."""
         took = self.time(children()) - self.begun
-        return (f"{self.name}: {took:.1f} s of processor in {span:.1f} s ({100 * took / span:.0f} of 100), at most"
-                f" {self.most_memory:.0f} MB and {self.most_children} children at a time")
+        return (
+            f"{self.name}: {took:.1f} s of processor in {span:.1f} s ({100 * took / span:.0f} of 100), at most"
+            f" {self.most_memory:.0f} MB and {self.most_children} children at a time"
+        )
 
 
 def pinned(processes: list[int]) -> None:

@@ -123,8 +123,11 @@ def asked_password() -> str:
 
 
 def arguments() -> argparse.ArgumentParser:
-    words = argparse.ArgumentParser(prog=called("control.users"), description=in_words_of_command(__doc__),
-                                    formatter_class=argparse.RawDescriptionHelpFormatter)
+    words = argparse.ArgumentParser(
+        prog=called("control.users"),
+        description=in_words_of_command(__doc__),
+        formatter_class=argparse.RawDescriptionHelpFormatter,
+    )
     words.add_argument("--database", required=True, metavar="WHERE", help=database.WHERE)
     words.add_argument("--create", action="store_true", help=database.CREATE)
     calls = words.add_subparsers(dest="call", required=True, metavar="CALL")

@@ -38,7 +38,9 @@ class Verdicts:
 
     def end(self, sign: Sign, command: Command, values: Values | str) -> None:
         """What came of it; where the sign said nothing, nothing is said."""
-        words = "" if isinstance(values, str) else verdict.words(self.mib, values, command.line, self.program, sign.text)
+        words = (
+            "" if isinstance(values, str) else verdict.words(self.mib, values, command.line, self.program, sign.text)
+        )
         if words:
             self.said.append((command.id, words))
 

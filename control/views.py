@@ -16,8 +16,10 @@ LEFT JOIN readings AS last ON last.sign = signs.id
 LEFT JOIN readings AS said ON said.sign = signs.id
      AND said.number = (SELECT MIN(number) FROM readings WHERE sign = signs.id AND shown IS NOT NULL)
 """
-COMMANDS = ("SELECT commands.id, commands.sign, signs.name, commands.who, commands.at, commands.line, commands.number,"
-            " commands.ended, commands.how, commands.step, commands.why, signs.address FROM commands JOIN signs ON signs.id = commands.sign")
+COMMANDS = (
+    "SELECT commands.id, commands.sign, signs.name, commands.who, commands.at, commands.line, commands.number,"
+    " commands.ended, commands.how, commands.step, commands.why, signs.address FROM commands JOIN signs ON signs.id = commands.sign"
+)
 
 
 def whole(value: Value) -> int:
@@ -70,9 +72,16 @@ class Shown:
     @functools.lru_cache(8192)
     def of(words: str) -> "Shown":
         held = json.loads(words)
-        return Shown(number_of(held, "mode"), octets_of(held, "source"), octets_of(held, "requester"),
-                     octets_of(held, "text"), octets_of(held, "owner"), number_of(held, "beacon"),
-                     number_of(held, "pixel"), number_of(held, "priority"))
+        return Shown(
+            number_of(held, "mode"),
+            octets_of(held, "source"),
+            octets_of(held, "requester"),
+            octets_of(held, "text"),
+            octets_of(held, "owner"),
+            number_of(held, "beacon"),
+            number_of(held, "pixel"),
+            number_of(held, "priority"),
+        )
 
 
 @dataclass(frozen=True)
@@ -101,10 +110,20 @@ class SignView:
 
 def sign_view(row: Row) -> SignView:
     fault = text_or_none(row[7])
-    return SignView(whole(row[0]), str(row[1]), str(row[2]), str(row[3]), time_of(row[4]), fault,
-                    time_or_none(row[5]) if fault is not None else None,
-                    None if row[8] is None else Shown.of(str(row[8])), None if row[9] is None else whole(row[9]),
-                    time_or_none(row[10]), time_or_none(row[11]), text_or_none(row[12]))
+    return SignView(
+        whole(row[0]),
+        str(row[1]),
+        str(row[2]),
+        str(row[3]),
+        time_of(row[4]),
+        fault,
+        time_or_none(row[5]) if fault is not None else None,
+        None if row[8] is None else Shown.of(str(row[8])),
+        None if row[9] is None else whole(row[9]),
+        time_or_none(row[10]),
+        time_or_none(row[11]),
+        text_or_none(row[12]),
+    )
 
 
 def signs(held: Database) -> list[SignView]:
@@ -137,9 +156,20 @@ class CommandView:
 
 
 def command_view(row: Row) -> CommandView:
-    return CommandView(whole(row[0]), whole(row[1]), str(row[2]), str(row[3]), time_of(row[4]), str(row[5]),
-                       None if row[6] is None else whole(row[6]), time_or_none(row[7]), text_or_none(row[8]),
-                       None if row[9] is None else whole(row[9]), text_or_none(row[10]), str(row[11]))
+    return CommandView(
+        whole(row[0]),
+        whole(row[1]),
+        str(row[2]),
+        str(row[3]),
+        time_of(row[4]),
+        str(row[5]),
+        None if row[6] is None else whole(row[6]),
+        time_or_none(row[7]),
+        text_or_none(row[8]),
+        None if row[9] is None else whole(row[9]),
+        text_or_none(row[10]),
+        str(row[11]),
+    )
 
 
 @dataclass(frozen=True)
@@ -155,21 +185,28 @@ class Wanted:
     def where(self) -> tuple[str, list[Value]]:
         parts: list[str] = []
         values: list[Value] = []
-        for part, value in (("commands.sign = ?", self.sign), ("commands.who = ?", self.who or None),
-                            ("commands.id < ?", self.before)):
+        for part, value in (
+            ("commands.sign = ?", self.sign),
+            ("commands.who = ?", self.who or None),
+            ("commands.id < ?", self.before),
+        ):
             if value is not None:
                 parts.append(part)
                 values.append(value)
-        outcome = {"accepted": "commands.how = 'accepted'", "open": "commands.how IS NULL",
-                   "failed": "commands.how <> 'accepted'"}.get(self.outcome)
+        outcome = {
+            "accepted": "commands.how = 'accepted'",
+            "open": "commands.how IS NULL",
+            "failed": "commands.how <> 'accepted'",
+        }.get(self.outcome)
         parts += [outcome] if outcome else []
         return (" WHERE " + " AND ".join(parts) if parts else ""), values
 
 
 def commands(held: Database, wanted: Wanted) -> list[CommandView]:
     where, values = wanted.where()
-    return list(map(command_view, held.run(f"{COMMANDS}{where} ORDER BY commands.id DESC LIMIT ?", *values,
-                                           wanted.most)))
+    return list(
+        map(command_view, held.run(f"{COMMANDS}{where} ORDER BY commands.id DESC LIMIT ?", *values, wanted.most))
+    )
 
 
 def command(held: Database, number: int) -> CommandView | None:
@@ -213,11 +250,22 @@ class TableView:
 def table(held: Database, number: int) -> TableView:
     rows = []
     for memory, at, status, kept, heard in held.run(
-            "SELECT memory, number, status, held, heard FROM messages WHERE sign = ? AND status <> 1"
-            " AND held IS NOT NULL ORDER BY memory, number", number):
+        "SELECT memory, number, status, held, heard FROM messages WHERE sign = ? AND status <> 1"
+        " AND held IS NOT NULL ORDER BY memory, number",
+        number,
+    ):
         cells = json.loads(str(kept))
-        rows.append(RowView(whole(memory), whole(at), whole(status), time_of(heard), octets_of(cells, "text"),
-                            octets_of(cells, "owner"), number_of(cells, "checksum") or 0,
-                            number_of(cells, "priority") or 0))
+        rows.append(
+            RowView(
+                whole(memory),
+                whole(at),
+                whole(status),
+                time_of(heard),
+                octets_of(cells, "text"),
+                octets_of(cells, "owner"),
+                number_of(cells, "checksum") or 0,
+                number_of(cells, "priority") or 0,
+            )
+        )
     asked, wanted = held.run("SELECT tabled, wanted FROM signs WHERE id = ?", number)[0]
     return TableView(rows, time_of(asked), bool(wanted))

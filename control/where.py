@@ -33,8 +33,9 @@ class Where:
             return set()
         self.next_look = now + self.again
         with self.store.database.transaction(is_alone=True):
-            still = self.store.placed({row: (found[row].every | {self.fleet[row].address}, found[row].fault)
-                                       for row in to_take})
+            still = self.store.placed(
+                {row: (found[row].every | {self.fleet[row].address}, found[row].fault) for row in to_take}
+            )
         return {row for row in to_take if self.is_moved(row, found[row], still.get(row, ""))}
 
     def is_moved(self, row: int, found: Found, why: str) -> bool:

@@ -29,15 +29,23 @@ def seconds(word: str) -> float:
 
 
 def arguments() -> argparse.ArgumentParser:
-    words = argparse.ArgumentParser(prog=called("control.worker"), description=in_words_of_command(__doc__),
-                                    formatter_class=argparse.RawDescriptionHelpFormatter)
+    words = argparse.ArgumentParser(
+        prog=called("control.worker"),
+        description=in_words_of_command(__doc__),
+        formatter_class=argparse.RawDescriptionHelpFormatter,
+    )
     words.add_argument("--fleet", required=True, metavar="FILE", help="the signs, as in signs/fleet.toml")
     words.add_argument("--database", required=True, metavar="WHERE", help=database.WHERE)
     words.add_argument("--create", action="store_true", help=database.CREATE)
     words.add_argument("--signtool", default=str(SIGNTOOL), metavar="PATH")
     words.add_argument("--tick", type=seconds, default=Pace.tick, metavar="SECONDS", help="from tick to tick")
-    words.add_argument("--lease", type=seconds, default=Pace.lease, metavar="SECONDS",
-                       help="after which another worker goes on where this one fell silent")
+    words.add_argument(
+        "--lease",
+        type=seconds,
+        default=Pace.lease,
+        metavar="SECONDS",
+        help="after which another worker goes on where this one fell silent",
+    )
     return words
 
 

@@ -75,7 +75,9 @@ def compared(page: str, measures: list[Counted]) -> tuple[int, list[str]]:
                 f"{100 * more / rows[place]:.1f} per cent more"
             )
     for first, name in rows:
-        of_topics = [topic for topic, (heading, before) in PLACES.items() if heading == first and name.startswith(before)]
+        of_topics = [
+            topic for topic, (heading, before) in PLACES.items() if heading == first and name.startswith(before)
+        ]
         whole = {measure.topic for measure in measures}
         if (first, name) not in met and whole.issuperset(of_topics):
             found.append(f"{first}: {name}: recorded and not measured")

@@ -92,7 +92,9 @@ def main() -> int:
     words = argparse.ArgumentParser(description=__doc__, formatter_class=argparse.RawDescriptionHelpFormatter)
     words.add_argument("--instructions", action="store_true", help="instructions alone")
     words.add_argument("--times", action="store_true", help="times alone")
-    words.add_argument("--compare", type=pathlib.Path, metavar="PAGE", help="which take more instructions than PAGE records")
+    words.add_argument(
+        "--compare", type=pathlib.Path, metavar="PAGE", help="which take more instructions than PAGE records"
+    )
     words.add_argument("topics", nargs="*", metavar="TOPIC", help="these topics; else all")
     asked = words.parse_args()
     if asked.compare and asked.times:

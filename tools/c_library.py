@@ -147,7 +147,9 @@ def main() -> int:
     words = argparse.ArgumentParser(description=__doc__, formatter_class=argparse.RawDescriptionHelpFormatter)
     words.add_argument("--short", action="store_true")
     words.add_argument("--library", type=pathlib.Path, help="that is there already")
-    words.add_argument("--aarch64", type=pathlib.Path, metavar="LIBRARY", help="of `tools/static_library.py --target`, for ARM64")
+    words.add_argument(
+        "--aarch64", type=pathlib.Path, metavar="LIBRARY", help="of `tools/static_library.py --target`, for ARM64"
+    )
     words.add_argument("--program", type=pathlib.Path, default=TOP / "crates/signtool/out/signtool")
     words.add_argument("--seconds", type=int, default=60, help="of mutated datagrams")
     words.add_argument("--seed", type=int, default=1)

@@ -7,27 +7,110 @@ import compare_model
 from door.places import TOP
 from model import text
 
-NUMBERS = "0 1 2 3 4 5 9 10 16 17 32 33 64 65 255 256 257 65535 65536 4294967295 4294967296 00001 000001 -1 +1 x 1.0".split()
+NUMBERS = (
+    "0 1 2 3 4 5 9 10 16 17 32 33 64 65 255 256 257 65535 65536 4294967295 4294967296 00001 000001 -1 +1 x 1.0".split()
+)
 OCTETS = ["-", "4", "41", "4142", "4A4b", "xy", "--", "5b5d", "5b666f395d", "5b", "00" * 12, "41" * 513, "6d" * 128]
 ADDRESSES = ["192.0.2.1", "0.0.0.0", "1.2.3", "1.2.3.4.5", "1.2.3.256", "1..2.3", "0001.2.3.4", "1.2.3.4."]
-OTHERS = ["", "end", "high", "swapped", "low", "size", "\t", "\r", "#", "abcd", "012", "FFFF", "gggg", "public", "admin", "a" * 33]
+OTHERS = [
+    "",
+    "end",
+    "high",
+    "swapped",
+    "low",
+    "size",
+    "\t",
+    "\r",
+    "#",
+    "abcd",
+    "012",
+    "FFFF",
+    "gggg",
+    "public",
+    "admin",
+    "a" * 33,
+]
 LINES = [
-    *("end", "end now", "stop", " end", "# nothing", "", "\r", "bench", "size 23 14", "permanent 42 - 0 0 100", "font", "glyph"),
-    *("permanent 4263 - 0 0 1", "permanent 41 - 1 1 1", "permanent - - 0 0 0", "permanent 5b6e70 6d65 0 0 9", "permanent 42"),
+    *(
+        "end",
+        "end now",
+        "stop",
+        " end",
+        "# nothing",
+        "",
+        "\r",
+        "bench",
+        "size 23 14",
+        "permanent 42 - 0 0 100",
+        "font",
+        "glyph",
+    ),
+    *(
+        "permanent 4263 - 0 0 1",
+        "permanent 41 - 1 1 1",
+        "permanent - - 0 0 0",
+        "permanent 5b6e70 6d65 0 0 9",
+        "permanent 42",
+    ),
     *("font 2 height 5 space 1 line 1 version 0002", "font 9 height 1 space 0 line 0 version ffff", "glyph 65 3 57da"),
-    *("glyph 65 1 80", "glyph 66 8 00", "sign-tick", "power-back 5", "to-sign 0", "forge-sign 30", "activate " + "00" * 12),
+    *(
+        "glyph 65 1 80",
+        "glyph 66 8 00",
+        "sign-tick",
+        "power-back 5",
+        "to-sign 0",
+        "forge-sign 30",
+        "activate " + "00" * 12,
+    ),
 ]
 SIGNS = [
-    *("size 0 14", "size 257 14", "size 23 0", "size 23 65", "size 65535 65535", "rows 65 1", "rows 2 17", "rows 255 255"),
+    *(
+        "size 0 14",
+        "size 257 14",
+        "size 23 0",
+        "size 23 65",
+        "size 65535 65535",
+        "rows 65 1",
+        "rows 2 17",
+        "rows 255 255",
+    ),
     *("communities public public", f"communities {'a' * 33} b", f"communities a {'b' * 33}", "has 0 0", "has 1 1"),
     *(f"defaults {numbers}" for numbers in ("10 9 5 5 1 3 2 30 0", "0 10 5 5 1 3 2 30 0", "0 9 5 5 9 3 2 30 0")),
-    *(f"defaults {numbers}" for numbers in ("0 9 5 5 1 1 2 30 0", "0 9 5 5 1 3 5 30 0", "255 255 255 255 255 255 255 255 255")),
-    *(f"permanent {'41' * 513} - 0 0 1", f"permanent 41 {'6d' * 128} 0 0 1", "permanent 41 - 2 0 1", "permanent 41 - 0 2 1"),
-    *("permanent 41 - 0 0 0", "permanent 41 - 1 0 1", "permanent 41 - 0 1 1", "permanent 41 - 1 1 1", "permanent 42 - 0 0 100"),
+    *(
+        f"defaults {numbers}"
+        for numbers in ("0 9 5 5 1 1 2 30 0", "0 9 5 5 1 3 5 30 0", "255 255 255 255 255 255 255 255 255")
+    ),
+    *(
+        f"permanent {'41' * 513} - 0 0 1",
+        f"permanent 41 {'6d' * 128} 0 0 1",
+        "permanent 41 - 2 0 1",
+        "permanent 41 - 0 2 1",
+    ),
+    *(
+        "permanent 41 - 0 0 0",
+        "permanent 41 - 1 0 1",
+        "permanent 41 - 0 1 1",
+        "permanent 41 - 1 1 1",
+        "permanent 42 - 0 0 100",
+    ),
 ]
 TEXTS = [
-    *("[x]", "]", "A[cb99]", "[jl4]A[jl2]B", "[jp4]A[jp2]B", "[np][np][np][np][np][np]", "[fo9]", "[fo1,0009]", "[fo2]1"),
-    *("AAAAAAAAAAAAAAAAAAAAAAAAAAAAAAAAAAAAAAAAAAAAAAAAAAAAAAAAAAAAAAA", "A[nl]A[nl]A[nl]A[nl]A[nl]A[nl]A[nl]A[nl]A", "B[hc1]"),
+    *(
+        "[x]",
+        "]",
+        "A[cb99]",
+        "[jl4]A[jl2]B",
+        "[jp4]A[jp2]B",
+        "[np][np][np][np][np][np]",
+        "[fo9]",
+        "[fo1,0009]",
+        "[fo2]1",
+    ),
+    *(
+        "AAAAAAAAAAAAAAAAAAAAAAAAAAAAAAAAAAAAAAAAAAAAAAAAAAAAAAAAAAAAAAA",
+        "A[nl]A[nl]A[nl]A[nl]A[nl]A[nl]A[nl]A[nl]A",
+        "B[hc1]",
+    ),
 ]
 EVENTS = [
     *("sign-tick", "centre-tick", "power-lost", "centre-restart", "to-sign 0", "to-centre 4294967295", "power-back 60"),
@@ -42,7 +125,10 @@ class Cases:
     def __init__(self, seed: int) -> None:
         self.chance = random.Random(seed)
         self.signs = compare_model.Cases(seed)
-        self.known = [text.BENCH.decode(), *(path.read_text(encoding="utf-8") for path in sorted(TOP.glob("signs/*.sign")))]
+        self.known = [
+            text.BENCH.decode(),
+            *(path.read_text(encoding="utf-8") for path in sorted(TOP.glob("signs/*.sign"))),
+        ]
 
     def description(self) -> str:
         """A description that a sign's reader takes."""
@@ -147,5 +233,7 @@ class Cases:
 
     def case(self) -> tuple[list[str], bytes]:
         """The words of a call and its standard input."""
-        words = self.chance.choice([["check", "--sign", "--", ""], ["sign", "--sign"], ["centre", "--sign"], ["replay"], ["replay"]])
+        words = self.chance.choice(
+            [["check", "--sign", "--", ""], ["sign", "--sign"], ["centre", "--sign"], ["replay"], ["replay"]]
+        )
         return words, self.changed(self.script() if words == ["replay"] else self.description())

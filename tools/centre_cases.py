@@ -155,23 +155,47 @@ status_cell = cell(STATUS, A.row)
 reported = (status_cell, integer(2))
 ENDINGS = [
     ("error-status 5 at the first request", 0, error(1, [(status_cell, integer(6))], 5), "Failed(1, Why::Status(5))"),
-    ("the row has status 5 where 2 is wanted", 1, message(RESPONSE, 2, [(status_cell, integer(5))]),
-     "Failed(2, Why::WrongStatus(5))"),
+    (
+        "the row has status 5 where 2 is wanted",
+        1,
+        message(RESPONSE, 2, [(status_cell, integer(5))]),
+        "Failed(2, Why::WrongStatus(5))",
+    ),
     ("there is no such row", 1, error(2, [(status_cell, NULL)], 2), "Failed(2, Why::Status(2))"),
     ("two bindings where one is wanted", 1, message(RESPONSE, 2, [reported, reported]), "Failed(2, Why::OddReply)"),
     ("no binding", 1, message(RESPONSE, 2, []), "Failed(2, Why::OddReply)"),
-    ("the status of another row", 1, message(RESPONSE, 2, [(cell(STATUS, (3, 2)), integer(2))]),
-     "Failed(2, Why::OddReply)"),
+    (
+        "the status of another row",
+        1,
+        message(RESPONSE, 2, [(cell(STATUS, (3, 2)), integer(2))]),
+        "Failed(2, Why::OddReply)",
+    ),
     ("a status that is no number", 1, message(RESPONSE, 2, [(status_cell, octets(b"\2"))]), "Failed(2, Why::OddReply)"),
     ("error-status 3 at the fields", 2, error(3, A.fields, 3), "Failed(3, Why::Status(3))"),
-    ("error-status 5 where the row is to be validated", 3, error(4, [(status_cell, integer(7))], 5),
-     "Failed(4, Why::Status(5))"),
-    ("the row has status 5 where 4 is wanted", 4, message(RESPONSE, 5, [(status_cell, integer(5))]),
-     "Failed(5, Why::WrongStatus(5))"),
-    ("the checksum of another text", 5, message(RESPONSE, 6, [(cell(CHECKSUM, A.row), integer(0x7502))]),
-     "Failed(6, Why::OtherChecksum)"),
-    ("the checksum with its octets in the other order", 5,
-     message(RESPONSE, 6, [(cell(CHECKSUM, A.row), integer(0x669A))]), "Failed(6, Why::OtherChecksum)"),
+    (
+        "error-status 5 where the row is to be validated",
+        3,
+        error(4, [(status_cell, integer(7))], 5),
+        "Failed(4, Why::Status(5))",
+    ),
+    (
+        "the row has status 5 where 4 is wanted",
+        4,
+        message(RESPONSE, 5, [(status_cell, integer(5))]),
+        "Failed(5, Why::WrongStatus(5))",
+    ),
+    (
+        "the checksum of another text",
+        5,
+        message(RESPONSE, 6, [(cell(CHECKSUM, A.row), integer(0x7502))]),
+        "Failed(6, Why::OtherChecksum)",
+    ),
+    (
+        "the checksum with its octets in the other order",
+        5,
+        message(RESPONSE, 6, [(cell(CHECKSUM, A.row), integer(0x669A))]),
+        "Failed(6, Why::OtherChecksum)",
+    ),
 ]
 
 first_reply = A.steps()[0][2]
@@ -189,33 +213,54 @@ activate = (scalar(3), octets(A.code))
 cause = scalar(17)
 LAST = 2147483647
 
-print('''//! Requests of the central system and replies to them, made by tools/centre_cases.py with nothing of this
+print(
+    """//! Requests of the central system and replies to them, made by tools/centre_cases.py with nothing of this
 //! repository's code.
-use dms_centre::{Ended, Why};''')
-print_steps("PUBLISHED",
-            "The requests that publish `A` in changeable row 1, the high octet of a checksum first, and good replies.",
-            A.steps())
-print_steps("PUBLISHED_SWAPPED",
-            "Those that publish a longer text in volatile row 300, the low octet of a checksum first.",
-            LONG.steps())
-print_steps("POLLS", "Ten polls, each answered by validating.",
-            [(f"poll {number - 4}: still being validated", *A.reads(number, STATUS, 3)) for number in range(5, 15)])
-print_rows("ENDINGS",
-           "How many good replies there were, the next reply, and how it ends the publication.", "(usize, &[u8], Ended)",
-           [(words, count, literal(reply), "Ended::" + ended) for words, count, reply, ended in ENDINGS])
+use dms_centre::{Ended, Why};"""
+)
+print_steps(
+    "PUBLISHED",
+    "The requests that publish `A` in changeable row 1, the high octet of a checksum first, and good replies.",
+    A.steps(),
+)
+print_steps(
+    "PUBLISHED_SWAPPED",
+    "Those that publish a longer text in volatile row 300, the low octet of a checksum first.",
+    LONG.steps(),
+)
+print_steps(
+    "POLLS",
+    "Ten polls, each answered by validating.",
+    [(f"poll {number - 4}: still being validated", *A.reads(number, STATUS, 3)) for number in range(5, 15)],
+)
+print_rows(
+    "ENDINGS",
+    "How many good replies there were, the next reply, and how it ends the publication.",
+    "(usize, &[u8], Ended)",
+    [(words, count, literal(reply), "Ended::" + ended) for words, count, reply, ended in ENDINGS],
+)
 print(f"\n/// What does not answer request 1.\npub static FOREIGN: [&[u8]; {len(FOREIGN)}] = [")
 for words, datagram in FOREIGN:
     print(f"    // {words}\n    {literal(datagram)},")
 print("];")
-print_octets("GET", "A Get of dmsMessageStatus.3.1 by another community.",
-             message(GET, 1, [(status_cell, NULL)], community=b"public"))
+print_octets(
+    "GET",
+    "A Get of dmsMessageStatus.3.1 by another community.",
+    message(GET, 1, [(status_cell, NULL)], community=b"public"),
+)
 print_octets("NOTHING_BOUND", "A Response to request 1 that has no binding.", message(RESPONSE, 1, []))
 print_octets("REFUSED", "The activation of `A` as request 7 is refused.", error(7, [activate], 5))
 print_octets("WHY", "Request 8, which asks for the cause.", message(GET, 8, [(cause, NULL)]))
 print_octets("PRIORITY", "The cause is the priority.", message(RESPONSE, 8, [(cause, integer(3))]))
-print_octets("BLANK", "Blank message 255 as request 1, without end.",
-             message(SET, 1, [(scalar(3), octets(bytes.fromhex("ffffff0700ff000000000000")))]))
-print_octets("BLANK_ACCEPTED", "It is accepted.",
-             message(RESPONSE, 1, [(scalar(3), octets(bytes.fromhex("ffffff0700ff000000000000")))]))
+print_octets(
+    "BLANK",
+    "Blank message 255 as request 1, without end.",
+    message(SET, 1, [(scalar(3), octets(bytes.fromhex("ffffff0700ff000000000000")))]),
+)
+print_octets(
+    "BLANK_ACCEPTED",
+    "It is accepted.",
+    message(RESPONSE, 1, [(scalar(3), octets(bytes.fromhex("ffffff0700ff000000000000")))]),
+)
 print_octets("LAST_ACTIVATION", "The activation of `A` under the last number.", message(SET, LAST, [activate]))
 print_octets("LAST_REFUSED", "It is refused.", error(LAST, [activate], 5))

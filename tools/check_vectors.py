@@ -156,8 +156,17 @@ def calls(kind: str, case: Case) -> Iterator[Call]:
         yield ["pages", "--", case["text"]], "", refused or "\n".join(case["pages"]) + "\n", 1 if fault else 0
     elif kind == "codes":
         flags = [f"--{word}" for word in ("beacon", "pixel", "swapped") if case[word]]
-        words = ["code", str(case["type"]), str(case["number"]), *flags, f"--duration={case['duration']}",
-                 f"--priority={case['priority']}", f"--address={case['address']}", "--", case["text"]]
+        words = [
+            "code",
+            str(case["type"]),
+            str(case["number"]),
+            *flags,
+            f"--duration={case['duration']}",
+            f"--priority={case['priority']}",
+            f"--address={case['address']}",
+            "--",
+            case["text"],
+        ]
         yield words, "", f"crc {case['checksum']}\ncode {case['code']}\n", 0
         terms = [word for word in words[3:-2] if word not in ("--beacon", "--pixel")]
         yield ["activation", *words[1:3], case["checksum"], *terms], "", f"code {case['code']}\n", 0
@@ -190,7 +199,7 @@ def main() -> int:
     asked = words.parse_args()
     passed = failed = 0
     for path in sorted((TOP / "vectors").glob("*.jsonl")):
-        for line in path.read_text(encoding="ascii").splitlines()[:asked.count]:
+        for line in path.read_text(encoding="ascii").splitlines()[: asked.count]:
             case = json.loads(line)
             for call, stdin, output, status in calls(path.stem, case):
                 for made in [call, *with_json(call)]:

@@ -18,8 +18,31 @@ from door import description
 from door.places import SIGNTOOL, TOP, program
 from door.process import CoProcess
 
-WORDS = ["tick", "ticks", "heard", "state", "show", "status", "last", "status last", "restart", "datagram", "power-lost", "power-back",
-         "publish", "-", "", "0", "4294967295", "4294967296", "zz", "3", "#", "end", "30"]
+WORDS = [
+    "tick",
+    "ticks",
+    "heard",
+    "state",
+    "show",
+    "status",
+    "last",
+    "status last",
+    "restart",
+    "datagram",
+    "power-lost",
+    "power-back",
+    "publish",
+    "-",
+    "",
+    "0",
+    "4294967295",
+    "4294967296",
+    "zz",
+    "3",
+    "#",
+    "end",
+    "30",
+]
 TEXTS = ["41", "-", "41415b6e705d42", "5b6e6c395d", "5b6e6c305d41", "5b66315d41", "30"]
 
 
@@ -41,7 +64,7 @@ class Lines:
         octets = self.sent[end] if self.sent[end] and self.chance.random() < 0.8 else self.chance.choice(self.octets)
         if self.chance.random() < 0.15:
             place = self.chance.randrange(len(octets) // 2) * 2
-            octets = octets[:place] + f"{self.chance.randrange(256):02x}" + octets[place + 2:]
+            octets = octets[:place] + f"{self.chance.randrange(256):02x}" + octets[place + 2 :]
         return f"datagram {octets}"
 
     def command(self) -> str:
@@ -49,8 +72,10 @@ class Lines:
         minutes, priority = self.chance.choice([0, 1, 65535]), self.chance.choice([0, 100, 255])
         if self.chance.random() < 0.7:
             memory, number = self.chance.choice([(3, 1), (3, 2), (4, 1), (4, 9), (2, 1)])
-            return (f"publish {memory} {number} {self.chance.choice(TEXTS)} {self.chance.choice(['-', '6d65'])} "
-                    f"{self.chance.choice('01')} {self.chance.choice('01')} {self.chance.choice([0, 50, 255])} {minutes} {priority} {address}")
+            return (
+                f"publish {memory} {number} {self.chance.choice(TEXTS)} {self.chance.choice(['-', '6d65'])} "
+                f"{self.chance.choice('01')} {self.chance.choice('01')} {self.chance.choice([0, 50, 255])} {minutes} {priority} {address}"
+            )
         return f"blank {self.chance.choice([1, 255, 65535])} {minutes} {priority} {address}"
 
     def other(self) -> str:
@@ -63,8 +88,17 @@ class Lines:
         if kind < 0.7:
             return "tick"
         if kind < 0.85:
-            others = ["state", "show", "power-lost", "power-back 5", "power-back 4294967295", "heard", "ticks 0",
-                      "ticks 3", "ticks 0000000060"]
+            others = [
+                "state",
+                "show",
+                "power-lost",
+                "power-back 5",
+                "power-back 4294967295",
+                "heard",
+                "ticks 0",
+                "ticks 3",
+                "ticks 0000000060",
+            ]
             return self.command() if end == "centre" else self.chance.choice(others)
         if kind < 0.95:
             return self.chance.choice(["status", "restart", "status last"] if end == "centre" else ["state", "show"])

@@ -21,7 +21,7 @@ from model.objects import DMS
 from model.sign import Sign
 from model.text import World
 
-NUMBERS = [0, 1, 2, 3, 4, 5, 6, 7, 8, 9, 10, 60, 255, 256, 65535, 65536, -1, 2 ** 31 - 1, 2 ** 32 - 1]
+NUMBERS = [0, 1, 2, 3, 4, 5, 6, 7, 8, 9, 10, 60, 255, 256, 65535, 65536, -1, 2**31 - 1, 2**32 - 1]
 
 
 class Cases:
@@ -33,8 +33,10 @@ class Cases:
 
     def font(self, number: int) -> list[str]:
         height = self.one([1, 3, 5, 7])
-        lines = [f"font {number} height {height} space {self.one([0, 1, 2, 3])} line {self.one([0, 1, 2, 5])} "
-                 f"version {self.one(['0001', 'abcd'])}"]
+        lines = [
+            f"font {number} height {height} space {self.one([0, 1, 2, 3])} line {self.one([0, 1, 2, 5])} "
+            f"version {self.one(['0001', 'abcd'])}"
+        ]
         for character in [65, 66] + [c for c in (49, 91, 93, 300) if self.random.random() < 0.5]:
             width = self.one([1, 2, 3, 5])
             lines.append(f"glyph {character} {width} {self.random.randbytes((width * height + 7) // 8).hex()}")
@@ -44,13 +46,17 @@ class Cases:
         """A description that the sign's reader takes."""
         while True:
             fonts = self.random.sample([1, 2, 3, 255], self.random.randrange(1, 5))
-            lines = [f"size {self.one([5, 23, 40, 256])} {self.one([5, 14, 27, 64])}", "communities public admin",
-                     f"rows {self.one([0, 1, 2, 64])} {self.one([0, 1, 16])}", f"order {self.one(['high', 'swapped'])}",
-                     f"has {self.one([0, 1])} {self.one([0, 1])}",
-                     f"defaults {self.one([0, 3, 9])} {self.one([1, 9])} {self.one([0, 5, 255])} {self.one([0, 5])} "
-                     f"{self.one(fonts)} {self.one([2, 3, 4])} {self.one([2, 3, 4])} {self.one([0, 30])} "
-                     f"{self.one([0, 5])}",
-                     f"first {self.one([0, 1, 127, 2 ** 31 - 3, 2 ** 31 - 1])}"]
+            lines = [
+                f"size {self.one([5, 23, 40, 256])} {self.one([5, 14, 27, 64])}",
+                "communities public admin",
+                f"rows {self.one([0, 1, 2, 64])} {self.one([0, 1, 16])}",
+                f"order {self.one(['high', 'swapped'])}",
+                f"has {self.one([0, 1])} {self.one([0, 1])}",
+                f"defaults {self.one([0, 3, 9])} {self.one([1, 9])} {self.one([0, 5, 255])} {self.one([0, 5])} "
+                f"{self.one(fonts)} {self.one([2, 3, 4])} {self.one([2, 3, 4])} {self.one([0, 30])} "
+                f"{self.one([0, 5])}",
+                f"first {self.one([0, 1, 127, 2 ** 31 - 3, 2 ** 31 - 1])}",
+            ]
             for _ in range(self.one([0, 0, 1, 2])):
                 lines.append(f"permanent {self.text(3).hex() or '-'} - 0 0 {self.one([1, 100, 255])}")
             for number in fonts:
@@ -69,10 +75,31 @@ class Cases:
         if draw == 9:
             return self.one([b"[", b"]", b"[xx]", b"[fo0]", b"[nl10]", b"[hc]", b"[pt256]", b"[jl1]"])
         number = str(self.one([0, 1, 2, 3, 4, 5, 9, 30, 255])).encode()
-        return self.one([b"[nl]", b"[np]", b"[/fl]", b"[fl]", b"[cb%s]" % number, b"[pb]", b"[cf%s]" % number, b"[CF]",
-                         b"[fo%s]" % number, b"[fo%s,0001]" % number, b"[fo]", b"[jl%s]" % number, b"[jl]",
-                         b"[jp%s]" % number, b"[jp]", b"[nl%s]" % number, b"[pt%s]" % number,
-                         b"[pt%so%s]" % (number, number), b"[pto5]", b"[flt%so]" % number, b"[flo%st2]" % number])
+        return self.one(
+            [
+                b"[nl]",
+                b"[np]",
+                b"[/fl]",
+                b"[fl]",
+                b"[cb%s]" % number,
+                b"[pb]",
+                b"[cf%s]" % number,
+                b"[CF]",
+                b"[fo%s]" % number,
+                b"[fo%s,0001]" % number,
+                b"[fo]",
+                b"[jl%s]" % number,
+                b"[jl]",
+                b"[jp%s]" % number,
+                b"[jp]",
+                b"[nl%s]" % number,
+                b"[pt%s]" % number,
+                b"[pt%so%s]" % (number, number),
+                b"[pto5]",
+                b"[flt%so]" % number,
+                b"[flo%st2]" % number,
+            ]
+        )
 
     def text(self, most: int = 12) -> bytes:
         made = b"".join(self.item() for _ in range(self.random.randrange(most + 1)))
@@ -83,8 +110,9 @@ class Cases:
     def name(self, sign: Sign) -> wire.Name:
         draw = self.random.randrange(8)
         if draw == 0:
-            return self.one([(1, 3), DMS, (1, 4), DMS + (5, 8, 1, 3), DMS + (6, 11, 0), DMS + (6, 3, 1),
-                             DMS + (5, 8, 1, 10, 3, 1)])
+            return self.one(
+                [(1, 3), DMS, (1, 4), DMS + (5, 8, 1, 3), DMS + (6, 11, 0), DMS + (6, 3, 1), DMS + (5, 8, 1, 10, 3, 1)]
+            )
         if draw < 5:
             memory = self.one([2, 3, 3, 3, 4, 5, 7])
             column, last = self.random.randrange(1, 10), len(sign.rows.get(memory, [])) or 255
@@ -95,8 +123,16 @@ class Cases:
         """A value for the object of this name, mostly of its type."""
         held = sign.value(name)
         if held is None or self.random.randrange(12) == 0:
-            return self.one([(wire.NULL, b""), (wire.OCTETS, b"A"), (wire.INTEGER, 1), (wire.GAUGE, 5),
-                             (wire.ADDRESS, bytes(4)), (wire.NAME, (1, 3))])
+            return self.one(
+                [
+                    (wire.NULL, b""),
+                    (wire.OCTETS, b"A"),
+                    (wire.INTEGER, 1),
+                    (wire.GAUGE, 5),
+                    (wire.ADDRESS, bytes(4)),
+                    (wire.NAME, (1, 3)),
+                ]
+            )
         if held[0] == wire.INTEGER:
             return wire.INTEGER, self.one([6, 7, 8] if name[-3:-2] == (9,) and self.random.randrange(5) else NUMBERS)
         if name == DMS + (6, 3, 0):
@@ -130,9 +166,11 @@ class Cases:
         address = ".".join(str(self.random.randrange(256)) for _ in range(4))
         terms = f"{self.one([0, 1, 2, 65535])} {self.one([1, 100, 255, 255])} {address}"
         if draw < 3:
-            return (f"publish {self.one([3, 3, 4, 2])} {self.one([1, 1, 2, 0])} {self.text(6).hex() or '-'} "
-                    f"{self.one(['-', '6d65'])} {self.one([0, 0, 1, 2])} {self.one([0, 0, 1])} "
-                    f"{self.one([1, 100, 255, 0])} {terms}")
+            return (
+                f"publish {self.one([3, 3, 4, 2])} {self.one([1, 1, 2, 0])} {self.text(6).hex() or '-'} "
+                f"{self.one(['-', '6d65'])} {self.one([0, 0, 1, 2])} {self.one([0, 0, 1])} "
+                f"{self.one([1, 100, 255, 0])} {terms}"
+            )
         if draw == 3:
             return f"blank {self.one([1, 2, 255, 256, 0])} {terms}"
         return f"activate {self.code(sign).octets(sign.swapped).hex()}"
@@ -157,15 +195,24 @@ class Cases:
             return self.command(world.sign)
         if draw < 96:
             return f"forge-sign {self.request(world.sign).hex()}"
-        return self.one(["power-lost", f"power-back {self.one([0, 1, 5, 60, 70000])}", "power-back 1", "centre-restart",
-                         f"forge-centre {self.reply(world).hex()}", "sign-tick", "sign-tick"])
+        return self.one(
+            [
+                "power-lost",
+                f"power-back {self.one([0, 1, 5, 60, 70000])}",
+                "power-back 1",
+                "centre-restart",
+                f"forge-centre {self.reply(world).hex()}",
+                "sign-tick",
+                "sign-tick",
+            ]
+        )
 
     def reply(self, world: World) -> bytes:
         number = self.one([world.centre.next - 1, world.centre.next, 1])
         community, status = self.one([world.sign.writer, b"x"]), self.one([0, 0, 5, -1])
         bindings: list[wire.Binding] = [(DMS + (6, 17, 0), (wire.INTEGER, 2))]
         bindings *= self.one([0, 1, 1, 2])
-        return wire.written(wire.Message(wire.RESPONSE, community, number % 2 ** 32, status, 0, bindings))
+        return wire.written(wire.Message(wire.RESPONSE, community, number % 2**32, status, 0, bindings))
 
     def script(self) -> str:
         described = self.one(["bench\n", self.sign()])

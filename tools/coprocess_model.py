@@ -13,7 +13,6 @@ import sys
 from model import layout, text
 from model.centre import Centre
 
-
 MOST_LINE = 65_536
 
 
@@ -41,10 +40,10 @@ def sign_answer(world: text.World, words: list[bytes]) -> list[str]:
             return ["dropped"]
         return [f"accepted {code.octets(world.sign.swapped).hex()} {reply.hex()}" if code else f"reply {reply.hex()}"]
     if keyword == b"power-back":
-        world.sign.power_back(text.number(text.wants(words, keyword, 1)[0], 0, 2 ** 32 - 1, 10))
+        world.sign.power_back(text.number(text.wants(words, keyword, 1)[0], 0, 2**32 - 1, 10))
         return ["ok"]
     if keyword == b"ticks":
-        world.sign.ticks(text.number(text.wants(words, keyword, 1)[0], 0, 2 ** 32 - 1, 10))
+        world.sign.ticks(text.number(text.wants(words, keyword, 1)[0], 0, 2**32 - 1, 10))
         return ["ok"]
     text.wants(words, keyword, 0)
     if keyword == b"tick":
@@ -87,7 +86,7 @@ def centre_answer(world: text.World, words: list[bytes]) -> list[str]:
         centre.restart()
         return ["ok"]
     if keyword == "status":
-        ledger = world.report()[3 + len(world.accepted):]
+        ledger = world.report()[3 + len(world.accepted) :]
         return [*stands, *ledger, "ok"]
     raise ValueError
 

@@ -31,7 +31,7 @@ def drawn(text: str) -> tuple[str, list[tuple[int, list[str]]]]:
     while at < len(kept):
         number, line = kept[at]
         words = line.split(" ", 2)
-        rows = [row for _, row in kept[at + 1:at + 1 + height]]
+        rows = [row for _, row in kept[at + 1 : at + 1 + height]]
         if words[0] != "character" or not words[1].isdigit():
             raise Wrong(f"line {number}: no line `character NUMBER`")
         if len(rows) != height or len({len(row) for row in rows}) != 1 or set("".join(rows)) - {".", "#"}:
@@ -66,7 +66,7 @@ def drawing_of(lines: list[str]) -> list[str]:
         bits = f"{int(digits, 16):0{4 * len(digits)}b}".replace("0", ".").replace("1", "#")
         shown = chr(int(number)) if 32 < int(number) < 127 else ""
         drawing.append(f"character {number} {shown}".rstrip())
-        drawing += [bits[row * int(width):(row + 1) * int(width)] for row in range(height)]
+        drawing += [bits[row * int(width) : (row + 1) * int(width)] for row in range(height)]
     return drawing
 
 

@@ -36,10 +36,25 @@ from trials.bench import Trial
 MOST_INPUT = 1_048_576
 
 # the events of a publication of the text "A" in row 1 of changeable memory, and what a report of them says
-PUBLICATION = ["publish 3 1 41 - 0 0 200 65535 255 192.0.2.1",
-               "to-sign 0", "to-centre 0", "to-sign 1", "to-centre 1", "to-sign 2", "to-centre 2",
-               "to-sign 3", "to-centre 3", "sign-tick", "to-sign 4", "to-centre 4", "to-sign 5", "to-centre 5",
-               "centre-tick", "to-sign 6", "to-centre 6"]
+PUBLICATION = [
+    "publish 3 1 41 - 0 0 200 65535 255 192.0.2.1",
+    "to-sign 0",
+    "to-centre 0",
+    "to-sign 1",
+    "to-centre 1",
+    "to-sign 2",
+    "to-centre 2",
+    "to-sign 3",
+    "to-centre 3",
+    "sign-tick",
+    "to-sign 4",
+    "to-centre 4",
+    "to-sign 5",
+    "to-centre 5",
+    "centre-tick",
+    "to-sign 6",
+    "to-centre 6",
+]
 SHOWN = "shown 3 1 9a66 mode 8 priority 200 remaining 65535 text 41"
 CODE = "ffffff0300019a66c0000201"
 ACCEPTED_BY = "to-sign 6"

@@ -18,6 +18,7 @@ Message = tuple[int, bytes, int, int, int, list[wire.Binding]]
 
 # --- what each end makes of a datagram --------------------------------------------------------------------------------
 
+
 def message_of(octets: bytes) -> Message | None:
     """Kind, community, request number, error-status, error-index and bindings, or None where no message is spelled."""
     message = wire.spelled(octets)
@@ -39,20 +40,35 @@ def is_waited_for(octets: bytes, number: int) -> bool:
 
 
 # what the writer may write: the octets' lengths or the numbers that are in range
-NUMBERS: dict[wire.Name, range] = {(4, n): range(10) for n in (1, 2)} | {(4, n): range(256) for n in (3, 4, 8, 9)} | {
-    (4, 5): range(1, 256), (4, 6): range(2, 5), (4, 7): range(2, 5),
-    (6, 4): range(65536), (6, 10): range(65536), (6, 13): range(65536)}
+NUMBERS: dict[wire.Name, range] = (
+    {(4, n): range(10) for n in (1, 2)}
+    | {(4, n): range(256) for n in (3, 4, 8, 9)}
+    | {
+        (4, 5): range(1, 256),
+        (4, 6): range(2, 5),
+        (4, 7): range(2, 5),
+        (6, 4): range(65536),
+        (6, 10): range(65536),
+        (6, 13): range(65536),
+    }
+)
 LENGTHS: dict[wire.Name, range] = {(6, 3): range(12, 13)} | {(6, n): range(5, 6) for n in (8, 9, 12, 14, 15)}
-CELLS = {3: (0x04, range(513)), 4: (0x04, range(128)), 6: (0x02, range(2)), 7: (0x02, range(2)),
-         8: (0x02, range(1, 256)), 9: (0x02, range(6, 9))}
+CELLS = {
+    3: (0x04, range(513)),
+    4: (0x04, range(128)),
+    6: (0x02, range(2)),
+    7: (0x02, range(2)),
+    8: (0x02, range(1, 256)),
+    9: (0x02, range(6, 9)),
+}
 ROWS = ((3, 1), (3, 2), (4, 1))
 
 
 def may_be_written(binding: wire.Binding) -> bool:
     name, (tag, value) = binding
-    if name[:len(DMS)] != DMS:
+    if name[: len(DMS)] != DMS:
         return False
-    rest = name[len(DMS):]
+    rest = name[len(DMS) :]
     if rest[:-1] in NUMBERS and rest[-1] == 0:
         return tag == 0x02 and value in NUMBERS[rest[:-1]]
     if rest[:-1] in LENGTHS and rest[-1] == 0:
@@ -73,13 +89,75 @@ def is_in_order(octets: bytes) -> bool:
 
 # --- making -----------------------------------------------------------------------------------------------------------
 
-BOUNDS = [0, 1, -1, 127, 128, -128, -129, 255, 256, 32767, 32768, 65535, 65536, 2 ** 31 - 1, 2 ** 31, -2 ** 31,
-          -2 ** 31 - 1, 2 ** 32 - 1, 2 ** 32, 2 ** 63, -2 ** 63]
-IN_RANGE = [number for number in BOUNDS if -2 ** 31 <= number < 2 ** 32]
-COMMUNITIES = [READER, WRITER, b"", b"p", b"Admin", b"admi", b"admin ", b"admin\0", b"\0", b"a" * 32, b"a" * 33,
-               b"a" * 127, b"a" * 128, b"a" * 255, b"a" * 600]
-TAGS = [0x02, 0x04, 0x05, 0x06, 0x30, 0x40, 0x41, 0x42, 0x43, 0x44, 0x45, 0x22, 0x24, 0x10, 0x00, 0x1F, 0x5F, 0xA0,
-        0xA1, 0xA2, 0xA3, 0xA4, 0xA5, 0xB0, 0xBF, 0xFF]
+BOUNDS = [
+    0,
+    1,
+    -1,
+    127,
+    128,
+    -128,
+    -129,
+    255,
+    256,
+    32767,
+    32768,
+    65535,
+    65536,
+    2**31 - 1,
+    2**31,
+    -(2**31),
+    -(2**31) - 1,
+    2**32 - 1,
+    2**32,
+    2**63,
+    -(2**63),
+]
+IN_RANGE = [number for number in BOUNDS if -(2**31) <= number < 2**32]
+COMMUNITIES = [
+    READER,
+    WRITER,
+    b"",
+    b"p",
+    b"Admin",
+    b"admi",
+    b"admin ",
+    b"admin\0",
+    b"\0",
+    b"a" * 32,
+    b"a" * 33,
+    b"a" * 127,
+    b"a" * 128,
+    b"a" * 255,
+    b"a" * 600,
+]
+TAGS = [
+    0x02,
+    0x04,
+    0x05,
+    0x06,
+    0x30,
+    0x40,
+    0x41,
+    0x42,
+    0x43,
+    0x44,
+    0x45,
+    0x22,
+    0x24,
+    0x10,
+    0x00,
+    0x1F,
+    0x5F,
+    0xA0,
+    0xA1,
+    0xA2,
+    0xA3,
+    0xA4,
+    0xA5,
+    0xB0,
+    0xBF,
+    0xFF,
+]
 
 
 class Maker:
@@ -102,10 +180,11 @@ class Maker:
         form = self.random.randrange(6)
         if form == 0:
             count = self.random.randrange(1, 5)
-            return bytes([128 + count]) + (size % 256 ** count).to_bytes(count, "big")
+            return bytes([128 + count]) + (size % 256**count).to_bytes(count, "big")
         if form == 1:
-            return self.one([b"\x80", b"\x85\x00\x00\x00\x00\x00", b"\xff", b"\x84\xff\xff\xff\xff", b"\x81",
-                             b"\x82\x00"])
+            return self.one(
+                [b"\x80", b"\x85\x00\x00\x00\x00\x00", b"\xff", b"\x84\xff\xff\xff\xff", b"\x81", b"\x82\x00"]
+            )
         if form == 2:
             return bytes([self.random.randrange(256)])
         return bytes([max(0, min(127, size + self.one([-2, -1, 1, 2, 64])))])
@@ -118,19 +197,41 @@ class Maker:
         number = self.one(BOUNDS) if self.happens() else number
         content = number.to_bytes((number if number >= 0 else ~number).bit_length() // 8 + 1, "big", signed=True)
         if self.happens():
-            content = self.one([b"", b"\0" + content, b"\xff" + content, content[1:], content + b"\0", b"\0" * 5,
-                                b"\x80" * 9])
+            content = self.one(
+                [b"", b"\0" + content, b"\xff" + content, content[1:], content + b"\0", b"\0" * 5, b"\x80" * 9]
+            )
         return self.element(tag, content)
 
     def name(self, numbers: wire.Name) -> bytes:
         if self.happens():
-            numbers = self.one([(1, 3), numbers[:-1] if len(numbers) > 2 else DMS[:-1], numbers + (0,),
-                                numbers + (2 ** 32 - 1,), (2, 2 ** 32 - 81), (1, 3) + (1,) * 126, (1, 3) + (1,) * 127,
-                                (0, 0), (2, 999), DMS, DMS + (5, 8, 1, 9, 7, 255), DMS + (99, 0)])
+            numbers = self.one(
+                [
+                    (1, 3),
+                    numbers[:-1] if len(numbers) > 2 else DMS[:-1],
+                    numbers + (0,),
+                    numbers + (2**32 - 1,),
+                    (2, 2**32 - 81),
+                    (1, 3) + (1,) * 126,
+                    (1, 3) + (1,) * 127,
+                    (0, 0),
+                    (2, 999),
+                    DMS,
+                    DMS + (5, 8, 1, 9, 7, 255),
+                    DMS + (99, 0),
+                ]
+            )
         content = wire.name_content(numbers)
         if self.happens():
-            content = self.one([b"", b"\x80" + content, content + b"\x80", content + b"\xff" * 5 + b"\x7f",
-                                content[:-1] + b"\xff", b"\x90\x80\x80\x80\x00"])
+            content = self.one(
+                [
+                    b"",
+                    b"\x80" + content,
+                    content + b"\x80",
+                    content + b"\xff" * 5 + b"\x7f",
+                    content[:-1] + b"\xff",
+                    b"\x90\x80\x80\x80\x00",
+                ]
+            )
         return self.element(0x06, content)
 
     def bound(self) -> int:
@@ -186,19 +287,19 @@ class Maker:
         at = self.random.randrange(len(octets))
         change = self.random.randrange(9)
         if change == 0:
-            return octets[:at] + bytes([self.random.randrange(256)]) + octets[at + 1:]
+            return octets[:at] + bytes([self.random.randrange(256)]) + octets[at + 1 :]
         if change == 1:
-            return octets[:at] + bytes([octets[at] ^ (1 << self.random.randrange(8))]) + octets[at + 1:]
+            return octets[:at] + bytes([octets[at] ^ (1 << self.random.randrange(8))]) + octets[at + 1 :]
         if change == 2:
             return octets[:at]
         if change == 3:
             return octets + self.random.randbytes(self.random.randrange(1, 5))
         if change == 4:
-            return octets[:at] + octets[at + 2:]
+            return octets[:at] + octets[at + 2 :]
         if change == 5:
-            return octets[:at + 2] + octets[at:]
+            return octets[: at + 2] + octets[at:]
         if change == 6:
-            return octets[:at] + octets[at:at + 2][::-1] + octets[at + 2:]
+            return octets[:at] + octets[at : at + 2][::-1] + octets[at + 2 :]
         if change == 7:
             return octets[at:]
         return octets + octets
@@ -247,14 +348,14 @@ def alike(octets: bytes) -> Iterator[bytes]:
         yield octets[:at]
         for other in range(256):
             if other != octet:
-                yield octets[:at] + bytes([other]) + octets[at + 1:]
+                yield octets[:at] + bytes([other]) + octets[at + 1 :]
     for more in range(1, 5):
         yield octets + bytes(more)
     for at in range(len(octets) - 1):
-        first, second = octets[at:at + 1], octets[at + 1:at + 2]
-        yield octets[:at] + octets[at + 2:]
-        yield octets[:at] + first + second + first + second + octets[at + 2:]
-        yield octets[:at] + second + first + octets[at + 2:]
+        first, second = octets[at : at + 1], octets[at + 1 : at + 2]
+        yield octets[:at] + octets[at + 2 :]
+        yield octets[:at] + first + second + first + second + octets[at + 2 :]
+        yield octets[:at] + second + first + octets[at + 2 :]
 
 
 def near() -> Iterator[Datagram]:

@@ -29,7 +29,9 @@ def main() -> int:
     which = words.add_mutually_exclusive_group()
     which.add_argument("--check", action="store_true", help="what has to hold now; so without an option too")
     which.add_argument("--all", action="store_true", help="what is left for later too")
-    which.add_argument("--draw", action="store_true", help="draws the houses, which wants Graphviz, and looks at nothing")
+    which.add_argument(
+        "--draw", action="store_true", help="draws the houses, which wants Graphviz, and looks at nothing"
+    )
     words.add_argument("--top", type=pathlib.Path, default=TOP, metavar="FOLDER", help="another repository")
     words.add_argument("bars", nargs="*", metavar="BAR", help=f"one of: {', '.join(bar.name for bar in known)}")
     asked = words.parse_args()

@@ -21,7 +21,9 @@ order high
 has 1 1
 defaults 0 9 5 5 1 3 2 30 0
 first 1
-""".format(reader="r" * 32, writer="w" * 32)
+""".format(
+    reader="r" * 32, writer="w" * 32
+)
 
 
 @dataclass(frozen=True)
@@ -77,8 +79,10 @@ def refused_descriptions() -> Iterator[tuple[str, bytes, int]]:
         for what, end in (("a word that is none, after {}", "x\n"), ("no end, after {}", "")):
             text = filled(begin, line, end)
             yield what.format(name), text, count_of(text) + (not end)
-    for name, text in (("rows", filled(HEAD, "permanent - - 0 0 0\n", SMALL_FONT + "end\n")),
-                       ("fonts", filled(HEAD, SMALL_FONT, "end\n"))):
+    for name, text in (
+        ("rows", filled(HEAD, "permanent - - 0 0 0\n", SMALL_FONT + "end\n")),
+        ("fonts", filled(HEAD, SMALL_FONT, "end\n")),
+    ):
         yield f"too many {name}", text, count_of(text)
     text = filled(HEAD + SMALL_FONT, "\n", "x\n")
     yield "a word that is none, after empty lines", text, count_of(text)
@@ -89,8 +93,13 @@ def refused_descriptions() -> Iterator[tuple[str, bytes, int]]:
 def descriptions() -> Iterator[Case]:
     get = memory_cases.get(memory_cases.STATUS)
     calls: tuple[tuple[str, ...], ...] = (
-        ("check", "A", "--sign"), ("check", "--json", "A", "--sign"), ("pages", "A", "--sign"),
-        ("pages", "--svg", "A", "--sign"), ("answer", get.hex(), "--sign"), ("sign", "--sign"), ("centre", "--sign"),
+        ("check", "A", "--sign"),
+        ("check", "--json", "A", "--sign"),
+        ("pages", "A", "--sign"),
+        ("pages", "--svg", "A", "--sign"),
+        ("answer", get.hex(), "--sign"),
+        ("sign", "--sign"),
+        ("centre", "--sign"),
         ("replay",),
     )
     for call in calls:
@@ -100,8 +109,13 @@ def descriptions() -> Iterator[Case]:
         for name, text, line in refused_descriptions():
             first = f'{{"refused":"line {line}"}}' if "--json" in call else f"line {line}"
             yield Case(f"{short}: {name}", call, text, 1, first, f"line {line}: ")
-        yield Case(f"{short}: one octet too many", call, LARGEST_SIGN + b"\n" if call[0] not in ("sign", "centre") else
-                   LARGEST_SIGN[:-4] + b"\nend\n", 1, '{"refused":"too long"}' if "--json" in call else "too long")
+        yield Case(
+            f"{short}: one octet too many",
+            call,
+            LARGEST_SIGN + b"\n" if call[0] not in ("sign", "centre") else LARGEST_SIGN[:-4] + b"\nend\n",
+            1,
+            '{"refused":"too long"}' if "--json" in call else "too long",
+        )
 
 
 def texts() -> Iterator[Case]:
@@ -125,12 +139,18 @@ def texts() -> Iterator[Case]:
         yield Case(f"check: {name}", ("check", text), b"", int(not is_good), first)
         yield Case(f"check --json: {name}", ("check", "--json", text), b"", int(not is_good), "{")
         yield Case(f"pages: {name}", ("pages", text), b"", int(not is_good), "page 1 on" if is_good else first)
-        yield Case(f"pages --svg: {name}", ("pages", "--svg", text), b"", int(not is_good), "<svg" if is_good else first)
-        yield Case(f"pages --page: {name}", ("pages", "--page", "1", text), b"", int(not is_good), "page 1" if is_good else "")
+        yield Case(
+            f"pages --svg: {name}", ("pages", "--svg", text), b"", int(not is_good), "<svg" if is_good else first
+        )
+        yield Case(
+            f"pages --page: {name}", ("pages", "--page", "1", text), b"", int(not is_good), "page 1" if is_good else ""
+        )
         yield Case(f"items: {name}", ("items", text), b"", -1)
         yield Case(f"items --json: {name}", ("items", "--json", text), b"", -1, "{")
         is_short = len(text.encode()) <= 512
-        yield Case(f"code: {name}", ("code", "3", "1", text), b"", int(not is_short), "crc" if is_short else "text too long")
+        yield Case(
+            f"code: {name}", ("code", "3", "1", text), b"", int(not is_short), "crc" if is_short else "text too long"
+        )
     sixths = "[np]".join(["[fo2]A[nl][fl]A[/fl]"] * 6)
     for call in (("pages",), ("pages", "--svg"), ("check",)):
         yield Case(f"{' '.join(call)}: six pages", (*call, sixths))
@@ -170,7 +190,9 @@ def scripts() -> Iterator[Case]:
         yield Case(f"replay: {line.strip()}, then no event", ("replay",), text, 1, f"line {number}", f"line {number}: ")
     text = b"bench\n" + b"sign-tick\n" * 104_800 + b"x\n"
     yield Case("replay: no event after 104,800", ("replay",), text, 1, "line 104802", "line 104802: ")
-    yield Case("replay: one long word", ("replay",), b"bench\n" + b"x" * (MOST_INPUT - 7) + b"\n", 1, "line 2", "line 2: ")
+    yield Case(
+        "replay: one long word", ("replay",), b"bench\n" + b"x" * (MOST_INPUT - 7) + b"\n", 1, "line 2", "line 2: "
+    )
     words = b"bench\nsign-tick" + b" x" * ((MOST_INPUT - 16) // 2) + b"\n"
     yield Case("replay: many words", ("replay",), words, 1, "line 2", "line 2: ")
     for name, octets in datagrams():
@@ -201,7 +223,9 @@ def conversations() -> Iterator[Case]:
     pairs = b"blank 5 60 255 192.0.2.1\nrestart\n" * (MANY_LINES // 2) + b"status\n"
     yield Case("centre: a long ledger", ("centre",), pairs, 0, "send ")
     for call in ("sign", "centre"):
-        yield Case(f"{call}: the largest sign, and lines", (call, "--sign"), LARGEST_SIGN + b"tick\n" * MANY_LINES, 0, "ok")
+        yield Case(
+            f"{call}: the largest sign, and lines", (call, "--sign"), LARGEST_SIGN + b"tick\n" * MANY_LINES, 0, "ok"
+        )
 
 
 def cases() -> Iterator[Case]:

@@ -24,8 +24,26 @@ from dataclasses import dataclass
 from typing import Callable
 
 from door.places import SIGNTOOL
-from trials import bits, centres, disks, downs, faults, files, gets, kills, logs
-from trials import operators, parts, speed, spelled, stops, strangers, streams, words, year
+from trials import (
+    bits,
+    centres,
+    disks,
+    downs,
+    faults,
+    files,
+    gets,
+    kills,
+    logs,
+    operators,
+    parts,
+    speed,
+    spelled,
+    stops,
+    strangers,
+    streams,
+    words,
+    year,
+)
 from trials.bench import Trial
 from trials.patience import PACE, Hangs, watched
 

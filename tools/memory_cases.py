@@ -43,7 +43,7 @@ def get(*names: tuple[int, ...]) -> bytes:
 def answers() -> dict[str, bytes]:
     """Datagrams to the bench sign."""
     one = get(STATUS)
-    many = request(wire.GET_NEXT, READER, *((name, NULL) for name in MANY_NAMES), number=2 ** 31 - 1)
+    many = request(wire.GET_NEXT, READER, *((name, NULL) for name in MANY_NAMES), number=2**31 - 1)
     assert len(many) == wire.MOST_DATAGRAM
     return {
         "get": one,

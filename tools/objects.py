@@ -161,7 +161,7 @@ def object_of(row: re.Match[str], said: str, nodes: dict[str, str], is_column: b
     if node not in nodes or access not in ACCESS:
         raise BadTable(f"{TABLE}: {name} has no such node or access")
     if not said or '"' in said or "|" in said:
-        raise BadTable(f"{TABLE}: {name} wants a comment above it, without the signs \" and |")
+        raise BadTable(f'{TABLE}: {name} wants a comment above it, without the signs " and |')
     said, _, rest = said.partition(" Words: ")
     words, values = WORD.findall(rest), Syntax.read(syntax)
     if words and values.bounds != f"({words[0][1]}..{words[-1][1]})":

@@ -46,11 +46,11 @@ def pixels(path: pathlib.Path) -> Iterator[list[bytes]]:
     octets = path.read_bytes()
     at, data = 8, b""
     while at < len(octets):
-        size, kind = struct.unpack(">I4s", octets[at:at + 8])
+        size, kind = struct.unpack(">I4s", octets[at : at + 8])
         if kind == b"IHDR":
-            width, height, depth, colours, _, _, interlaced = struct.unpack(">IIBBBBB", octets[at + 8:at + 21])
+            width, height, depth, colours, _, _, interlaced = struct.unpack(">IIBBBBB", octets[at + 8 : at + 21])
         elif kind == b"IDAT":
-            data += octets[at + 8:at + 8 + size]
+            data += octets[at + 8 : at + 8 + size]
         at += 12 + size
     if depth != 8 or colours not in (2, 6) or interlaced:
         raise ValueError("a PNG of another kind")
@@ -58,13 +58,13 @@ def pixels(path: pathlib.Path) -> Iterator[list[bytes]]:
     stride = width * channels
     raw, before = zlib.decompress(data), bytearray(stride)
     for y in range(height):
-        kind, row = raw[y * (stride + 1)], bytearray(raw[y * (stride + 1) + 1:(y + 1) * (stride + 1)])
+        kind, row = raw[y * (stride + 1)], bytearray(raw[y * (stride + 1) + 1 : (y + 1) * (stride + 1)])
         for x in range(stride):
             left = row[x - channels] if x >= channels else 0
             corner = before[x - channels] if x >= channels else 0
             row[x] = (row[x] + predicted(kind, left, before[x], corner)) & 255
         before = row
-        yield [bytes(row[x:x + 3]) for x in range(0, stride, channels)]
+        yield [bytes(row[x : x + 3]) for x in range(0, stride, channels)]
 
 
 def predicted(kind: int, left: int, above: int, corner: int) -> int:
@@ -146,14 +146,30 @@ def read(svg: xml.etree.ElementTree.Element, tenth: int, face: layout.Face) -> l
 def shot(svg: str, tenth: int, face: layout.Face, folder: pathlib.Path, name: str) -> pathlib.Path:
     """The picture at the middle of a tenth of a second."""
     page = folder / f"{name}.html"
-    page.write_text(f"<body style='margin:0'>{svg}<script>const svg = document.querySelector('svg'); "
-                    "svg.style.display = 'block'; svg.pauseAnimations(); "
-                    f"svg.setCurrentTime({tenth / 10 + 0.05});</script>", encoding="ascii")
+    page.write_text(
+        f"<body style='margin:0'>{svg}<script>const svg = document.querySelector('svg'); "
+        "svg.style.display = 'block'; svg.pauseAnimations(); "
+        f"svg.setCurrentTime({tenth / 10 + 0.05});</script>",
+        encoding="ascii",
+    )
     png = folder / f"{name}.png"
     size = f"{LAMP * (face.width + 1)},{LAMP * (face.height + 1)}"
-    subprocess.run(["chromium", "--headless", "--no-sandbox", "--disable-gpu", "--hide-scrollbars",
-                    "--force-device-scale-factor=1", f"--window-size={size}", f"--screenshot={png}", page.as_uri()],
-                   check=True, capture_output=True, timeout=120)
+    subprocess.run(
+        [
+            "chromium",
+            "--headless",
+            "--no-sandbox",
+            "--disable-gpu",
+            "--hide-scrollbars",
+            "--force-device-scale-factor=1",
+            f"--window-size={size}",
+            f"--screenshot={png}",
+            page.as_uri(),
+        ],
+        check=True,
+        capture_output=True,
+        timeout=120,
+    )
     page.unlink()
     return png
 
@@ -195,7 +211,9 @@ def main() -> int:
             for tenth in range(READ_TENTHS) if asked.read else moments:
                 shades = wanted(face, pages, alone, tenth)
                 if asked.read:
-                    wrong = sum(one != other for rows in zip(read(parts, tenth, face), shades) for one, other in zip(*rows))
+                    wrong = sum(
+                        one != other for rows in zip(read(parts, tenth, face), shades) for one, other in zip(*rows)
+                    )
                 else:
                     wrong = compare(list(pixels(shot(svg, tenth, face, folder, f"{name}-{tenth}"))), shades)
                 passed, failed = (passed, failed + 1) if wrong else (passed + 1, failed)

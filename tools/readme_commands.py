@@ -128,7 +128,11 @@ def main() -> int:
     text = (TOP / "README.md").read_text(encoding="utf-8")
     if asked.rattle:
         results = [with_kit(text)] if shutil.which("rt") else []
-        print(f"{sum(results)} passed, {len(results) - sum(results)} failed" if results else "skipped README's Rattle: no rt")
+        print(
+            f"{sum(results)} passed, {len(results) - sum(results)} failed"
+            if results
+            else "skipped README's Rattle: no rt"
+        )
         return 0 if all(results) else 1
     if not asked.program and not asked.signtool:
         words.error(f"no program at {SIGNTOOL}: tools/build.py builds it")

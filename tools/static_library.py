@@ -89,7 +89,9 @@ def main() -> int:
     words = argparse.ArgumentParser(description=__doc__, formatter_class=argparse.RawDescriptionHelpFormatter)
     words.add_argument("--target", help="another than this machine")
     words.add_argument("--standing", action="store_true", help="no other crate is proved")
-    words.add_argument("--processors", type=int, default=len(os.sched_getaffinity(0)), help="how many are taken; else all")
+    words.add_argument(
+        "--processors", type=int, default=len(os.sched_getaffinity(0)), help="how many are taken; else all"
+    )
     words.add_argument("crate", metavar="CRATE")
     asked, plan = words.parse_args(), whole_plan()
     if asked.crate not in plan.crates:

@@ -77,8 +77,13 @@ def checks() -> tuple[list[Step], str]:
         return [], "no crate changed since main"
     known = sorted((name for name in names if name in plan.uses), key=lambda name: (len(plan.below(name)), name))
     return [
-        Step(f"check of {name}", f"env -C crates/{name} rt check", LONGEST_CHECK, "rt",
-             plan.measured(name).work * SECONDS_A_LINE)
+        Step(
+            f"check of {name}",
+            f"env -C crates/{name} rt check",
+            LONGEST_CHECK,
+            "rt",
+            plan.measured(name).work * SECONDS_A_LINE,
+        )
         for name in known
     ], ""
 
@@ -144,8 +149,12 @@ def main() -> int:
         print(f"skipped {step.name}: there is no program at {asked.program}, which tools/build.py builds")
     if is_built and is_older(asked.program, alone):
         print("the program is older than the crates that changed: tools/build.py builds it again")
-    run = Run([step for step in steps if step not in lost], alone, os.path.abspath(asked.program),
-              len(os.sched_getaffinity(0)))
+    run = Run(
+        [step for step in steps if step not in lost],
+        alone,
+        os.path.abspath(asked.program),
+        len(os.sched_getaffinity(0)),
+    )
     try:
         found += run.outcomes()
     finally:

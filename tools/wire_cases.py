@@ -13,8 +13,18 @@ import sys
 from collections.abc import Iterator, Sequence
 from typing import Any
 
-KINDS = ["", "TRUNCATED", "BAD_TAG", "BAD_LENGTH", "LENGTH_PAST", "BAD_INTEGER", "BAD_NAME", "BAD_VERSION",
-         "TRAILING_BYTES", "TOO_LONG"]
+KINDS = [
+    "",
+    "TRUNCATED",
+    "BAD_TAG",
+    "BAD_LENGTH",
+    "LENGTH_PAST",
+    "BAD_INTEGER",
+    "BAD_NAME",
+    "BAD_VERSION",
+    "TRAILING_BYTES",
+    "TOO_LONG",
+]
 Case = dict[str, Any]  # a line of CASES.jsonl
 LONGEST = 160
 MOST_SPELLED = 80
@@ -36,7 +46,7 @@ def elements(octets: bytes, at: int, end: int) -> Iterator[tuple[int, int, int, 
     while at + 1 < end:
         size, content = octets[at + 1], at + 2
         if size > 128:
-            digits = octets[content:content + size - 128]
+            digits = octets[content : content + size - 128]
             size, content = int.from_bytes(digits, "big"), content + len(digits)
         after = min(content + size, end)
         yield octets[at], at, content, after
@@ -110,7 +120,7 @@ def print_row(words: str, *row: str) -> None:
 
 def tables(name: str, row_type: str, rows: Sequence[tuple[str, ...]]) -> None:
     for first in range(0, len(rows), CHUNK):
-        chunk = rows[first:first + CHUNK]
+        chunk = rows[first : first + CHUNK]
         print()
         print(f"pub static {name}_{first // CHUNK + 1}: [{row_type}; {len(chunk)}] = [")
         for row in chunk:
@@ -129,11 +139,20 @@ def main() -> None:
     shortest = [case for case in spelled if is_shortest(case)]
     print(HEAD)
     for fault, kind in enumerate(KINDS):
-        tables(kind, "(&[u8], usize)",
-               [(fault_words(case), literal(case["octets"]), str(case["place"]))
-                for case in faulty if int(case["fault"]) == fault])
-    tables("SPELLED", "(&[u8], &[u8])",
-           [(message_words(case), literal(case["octets"]), literal(case["canonical"])) for case in longer])
+        tables(
+            kind,
+            "(&[u8], usize)",
+            [
+                (fault_words(case), literal(case["octets"]), str(case["place"]))
+                for case in faulty
+                if int(case["fault"]) == fault
+            ],
+        )
+    tables(
+        "SPELLED",
+        "(&[u8], &[u8])",
+        [(message_words(case), literal(case["octets"]), literal(case["canonical"])) for case in longer],
+    )
     tables("SHORTEST", "&[u8]", [(message_words(case), literal(case["octets"])) for case in shortest])
 
 

@@ -7,19 +7,7 @@ from model import wire
 from model.names import SCALARS
 
 from ..context import ADDRESS, Context
-from ..objects import (
-    OWN_CODES,
-    SHOWN_CELLS,
-    STATE_SCALARS,
-    Binding,
-    Name,
-    Row,
-    Value,
-    cell,
-    integer,
-    octets,
-    scalar,
-)
+from ..objects import OWN_CODES, SHOWN_CELLS, STATE_SCALARS, Binding, Name, Row, Value, cell, integer, octets, scalar
 
 BOUNDS = [*range(13), 100, 127, 128, 254, 255, 256, 65534, 65535, 65536, -1, 2**31 - 1, 2**32 - 1]
 TAGS = [wire.INTEGER, wire.OCTETS, wire.NULL, wire.ADDRESS, wire.COUNTER, wire.OPAQUE, wire.NAME]

@@ -4,8 +4,8 @@ from typing import Iterator
 
 from ..context import Context
 from ..objects import Row, scalar
-from ..steps import Step
 from ..rooms import Sample
+from ..steps import Step
 from ..texts import samples
 from .block import Block, Chapter, fill, look, look_at, modify, settle
 

@@ -2,8 +2,6 @@
 
 import random
 
-from model import text, wire
-
 from conform import bench, kept
 from conform.chapters import ALL
 from conform.classify import rule_of
@@ -17,6 +15,7 @@ from conform.repeat import steps_of
 from conform.rules import CHAPTERS, RULES, is_in_profile
 from conform.steps import Wait, get, put
 from conform.ticks import Ticks
+from model import text, wire
 
 HEIGHT = scalar(2, 3)
 

@@ -3,21 +3,20 @@
 import json
 import xml.etree.ElementTree as ET
 
-from model import text, wire
-from model.changes import Change, Refused
-from model.sign import Sign
-
 from conform import bench
 from conform.chapters import ALL
 from conform.compare import Kind
+from conform.context import Context
 from conform.found import Difference
 from conform.mutants.load import sign_of
 from conform.mutants.table import MUTANTS
 from conform.objects import Name, Value, scalar
 from conform.report import files, page, terminal, words
 from conform.report.picture import pictures
-from conform.context import Context
 from conform.results import Results
+from model import text, wire
+from model.changes import Change, Refused
+from model.sign import Sign
 
 ABOUT = words.About("127.0.0.1:1", "bench.sign", "tools/model", None, 1, 0, False, "today")
 

@@ -3,9 +3,6 @@
 import random
 from typing import Callable
 
-from model import text, wire
-from model.sign import Sign
-
 from conform import bench
 from conform.chapters import ALL
 from conform.chapters.block import Block
@@ -18,6 +15,8 @@ from conform.session import Session
 from conform.settling import LONGEST
 from conform.simulated import SimulatedLink
 from conform.steps import Step, Wait, get, put
+from model import text, wire
+from model.sign import Sign
 
 ROW, TIME = Row(3, 1), scalar(4, 8)
 LOOK = get(ROW.cell(9))

@@ -1,11 +1,10 @@
 """Right signs show nothing; wrong ones are found, over a simulated clock."""
 
-from model import text
-
 from conform import SIGNTOOL, TOP, bench, soak
 from conform.mutants.__main__ import BENCH, tried
 from conform.mutants.table import MUTANTS
 from conform.oracle import made
+from model import text
 
 SIGNS = [TOP / "signs/roadside.sign", TOP / "signs/gantry.sign"]
 FEW = (

@@ -11,10 +11,9 @@ import tempfile
 import time
 from typing import Iterator
 
-from model import text
-
 from conform import TOP
 from conform.tests.test_signs import skip
+from model import text
 
 LONG = 300  # seconds that a busy machine may take
 BUSY = 25  # where a test that fails took longer, seconds of the machine are none to go by: it is skipped

@@ -7,14 +7,13 @@ import subprocess
 import sys
 import tempfile
 
-from model import text
-
 from conform import TOP
 from conform.context import ADDRESS, Context, activate
 from conform.objects import Row, integer, scalar
 from conform.oracle import ModelOracle
 from conform.steps import Ask, get, put
 from conform.watch import Habit, Watch
+from model import text
 
 ROW = Row(3, 1)
 CONTEXT = Context(text.bench(), (b"public", b"admin"))

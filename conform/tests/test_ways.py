@@ -2,9 +2,6 @@
 
 from dataclasses import dataclass, field
 
-from model import text, wire
-from model.sign import Sign
-
 from conform import bench
 from conform.clock import SimulatedClock
 from conform.objects import Row, integer, octets, scalar
@@ -12,6 +9,8 @@ from conform.port import Port
 from conform.session import Session
 from conform.simulated import SimulatedLink
 from conform.steps import Ask, get, put
+from model import text, wire
+from model.sign import Sign
 
 HEIGHT, TIME = scalar(2, 3), scalar(4, 8)
 ROW = Row(3, 1)

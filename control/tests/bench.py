@@ -32,8 +32,9 @@ class Bench:
         self.live = loopback.signs[0]
         (folder / "a.sign").write_bytes(text)
         self.fleet = folder / "fleet.toml"
-        self.fleet.write_text(f'[[sign]]\nname = "one"\naddress = "127.0.0.1:{self.live.port}"\n'
-                              'description = "a.sign"\npoll = 1\n')
+        self.fleet.write_text(
+            f'[[sign]]\nname = "one"\naddress = "127.0.0.1:{self.live.port}"\n' 'description = "a.sign"\npoll = 1\n'
+        )
         self.store = Store(database.opened(where))
         self.row = next(iter(self.signs(self.store)))
 

@@ -17,8 +17,17 @@ from control.tests.visits import PASSWORD
 from model import layout
 from model import text as described
 
-WORDS = ("--headless=new", "--no-sandbox", "--disable-gpu", "--disable-dev-shm-usage", "--no-proxy-server",
-         "--hide-scrollbars", "--disable-background-networking", "--disable-component-update", "--no-first-run")
+WORDS = (
+    "--headless=new",
+    "--no-sandbox",
+    "--disable-gpu",
+    "--disable-dev-shm-usage",
+    "--no-proxy-server",
+    "--hide-scrollbars",
+    "--disable-background-networking",
+    "--disable-component-update",
+    "--no-first-run",
+)
 BEGINNINGS = 3  # tries to begin a browser, which gives up by itself where the machine is busy
 LOADED = "return document.readyState === 'complete'"
 # the lamps of a picture: the colour in the middle of each, as drawn by the browser

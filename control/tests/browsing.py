@@ -94,10 +94,13 @@ def entered(folder: pathlib.Path, loopback: Loopback) -> dict[str, int]:
     """The fleet's file, and a database with a user of each role: the rows of the signs by their names."""
     for face in set(FACES):
         (folder / f"{face}.sign").write_bytes(description(face))
-    (folder / "fleet.toml").write_text("\n".join(
-        f'[[sign]]\nname = "{name}"\nplace = "{place}"\naddress = "127.0.0.1:{sign.port}"\n'
-        f'description = "{face}.sign"\npoll = 1\n'
-        for name, place, face, sign in zip(NAMES, PLACES, FACES, loopback.signs)))
+    (folder / "fleet.toml").write_text(
+        "\n".join(
+            f'[[sign]]\nname = "{name}"\nplace = "{place}"\naddress = "127.0.0.1:{sign.port}"\n'
+            f'description = "{face}.sign"\npoll = 1\n'
+            for name, place, face, sign in zip(NAMES, PLACES, FACES, loopback.signs)
+        )
+    )
     held, before = database.opened(str(folder / "database")), passwords.COST
     passwords.COST = 2**10
     for role in Role:
@@ -115,9 +118,22 @@ def place(folder: pathlib.Path, *words: str) -> Iterator[Place]:
     rows = entered(folder, loopback)
     loopback.start()
     port = free_port()
-    call = [sys.executable, "-m", "control", "--fleet", str(folder / "fleet.toml"), "--database",
-            str(folder / "database"), "--listen", f"127.0.0.1:{port}", "--zone", "Europe/Berlin", "--signtool", PROGRAM,
-            *words]
+    call = [
+        sys.executable,
+        "-m",
+        "control",
+        "--fleet",
+        str(folder / "fleet.toml"),
+        "--database",
+        str(folder / "database"),
+        "--listen",
+        f"127.0.0.1:{port}",
+        "--zone",
+        "Europe/Berlin",
+        "--signtool",
+        PROGRAM,
+        *words,
+    ]
     made = Place(folder, f"http://127.0.0.1:{port}", port, loopback, rows, call)
     try:
         made.start()

@@ -35,9 +35,12 @@ def fleet_of(folder: pathlib.Path, loopback: Loopback) -> None:
     from control.tests.visits import PASSWORD
 
     (folder / "a.sign").write_bytes((TOP / "signs/roadside.sign").read_bytes())
-    (folder / "fleet.toml").write_text("\n".join(
-        f'[[sign]]\nname = "{sign.name}"\naddress = "127.0.0.1:{sign.port}"\ndescription = "a.sign"\n'
-        for sign in loopback.signs))
+    (folder / "fleet.toml").write_text(
+        "\n".join(
+            f'[[sign]]\nname = "{sign.name}"\naddress = "127.0.0.1:{sign.port}"\ndescription = "a.sign"\n'
+            for sign in loopback.signs
+        )
+    )
     held = database.opened(str(folder / "database"))
     users.add(held, "operator", users.Role.OPERATOR, PASSWORD, "a measure")
     held.close()
@@ -60,8 +63,10 @@ async def measured(url: str, path: str, cookies: dict[str, str], seconds: float)
     async with aiohttp.ClientSession(cookies=cookies, cookie_jar=aiohttp.CookieJar(unsafe=True)) as session:
         await asyncio.gather(*(visit(session) for _ in range(VISITORS)))
     tenths = statistics.quantiles(took, n=20)
-    return (f"{path}: {len(took) / seconds:.0f} a second, half within {1000 * statistics.median(took):.0f} ms,"
-            f" 19 of 20 within {1000 * tenths[-1]:.0f} ms")
+    return (
+        f"{path}: {len(took) / seconds:.0f} a second, half within {1000 * statistics.median(took):.0f} ms,"
+        f" 19 of 20 within {1000 * tenths[-1]:.0f} ms"
+    )
 
 
 async def visited(url: str, signs: int, seconds: float, process: int) -> None:
@@ -80,7 +85,7 @@ async def visited(url: str, signs: int, seconds: float, process: int) -> None:
         while (page := await (await session.get(url + "/")).text()).count("heard <time") < signs:
             assert time.monotonic() < ends, "not all signs were heard in time"
             await asyncio.sleep(1)
-        picture = page[page.index("/pictures/"):].split('"')[0].split("?")[0]
+        picture = page[page.index("/pictures/") :].split('"')[0].split("?")[0]
         cookies = {cookie.key: cookie.value for cookie in session.cookie_jar}
         async with session.get(url + "/events?view=wall"):
             tell(f"memory before: {memory(process)[0]} MiB")
@@ -90,8 +95,11 @@ async def visited(url: str, signs: int, seconds: float, process: int) -> None:
 
 
 def main() -> int:
-    words = argparse.ArgumentParser(prog="python3 -m control.tests.page_measures", description=__doc__,
-                                    formatter_class=argparse.RawDescriptionHelpFormatter)
+    words = argparse.ArgumentParser(
+        prog="python3 -m control.tests.page_measures",
+        description=__doc__,
+        formatter_class=argparse.RawDescriptionHelpFormatter,
+    )
     words.add_argument("--signs", type=int, default=200)
     words.add_argument("--seconds", type=float, default=10.0, help="for each page")
     asked = words.parse_args()
@@ -106,12 +114,27 @@ def main() -> int:
         fleet_of(pathlib.Path(held), loopback)
         port = free_port()
         service = subprocess.Popen(
-            [sys.executable, "-m", "control", "--fleet", f"{held}/fleet.toml", "--database", f"{held}/database",
-             "--listen", f"127.0.0.1:{port}"], cwd=TOP, stdin=subprocess.DEVNULL, stdout=subprocess.DEVNULL)
+            [
+                sys.executable,
+                "-m",
+                "control",
+                "--fleet",
+                f"{held}/fleet.toml",
+                "--database",
+                f"{held}/database",
+                "--listen",
+                f"127.0.0.1:{port}",
+            ],
+            cwd=TOP,
+            stdin=subprocess.DEVNULL,
+            stdout=subprocess.DEVNULL,
+        )
         try:
             until_answers(port)
-            tell("%d signs; load of the machine %.1f, processors %d" % (
-                asked.signs, os.getloadavg()[0], os.cpu_count() or 0))
+            tell(
+                "%d signs; load of the machine %.1f, processors %d"
+                % (asked.signs, os.getloadavg()[0], os.cpu_count() or 0)
+            )
             asyncio.run(visited(f"http://127.0.0.1:{port}", asked.signs, asked.seconds, service.pid))
         finally:
             service.terminate()

@@ -54,8 +54,11 @@ def taken(folder: pathlib.Path) -> list[pathlib.Path]:
 
 
 def main() -> int:
-    words = argparse.ArgumentParser(prog="python3 -m control.tests.pictures", description=__doc__,
-                                    formatter_class=argparse.RawDescriptionHelpFormatter)
+    words = argparse.ArgumentParser(
+        prog="python3 -m control.tests.pictures",
+        description=__doc__,
+        formatter_class=argparse.RawDescriptionHelpFormatter,
+    )
     words.add_argument("--keep", default=str(TOP / "docs/pictures"), metavar="FOLDER")
     asked = words.parse_args()
     start.needed("control.tests.pictures", "aiohttp", "jinja2", "selenium", "pytest")

@@ -13,8 +13,12 @@ from control.tests.visits import Bench
 def in_trouble(bench: Bench) -> None:
     """Commands at each kind of step, a sign that is blank, and a user who is disabled."""
     line = f"publish 3 1 {b'FOG'.hex()} {b'me'.hex()} 0 0 100 65535 255 192.0.2.1"
-    states = ((3, 3, None), (9, None, "accepted"), (9, None, "failed at step 5: the row has status 5, error"),
-              (None, None, None))
+    states = (
+        (3, 3, None),
+        (9, None, "accepted"),
+        (9, None, "failed at step 5: the row has status 5, error"),
+        (None, None, None),
+    )
     for sign, (number, step, how) in zip((bench.gantry, bench.two, bench.two, bench.two), states):
         command = bench.store.ask(sign, "operator", line)
         bench.store.run("UPDATE commands SET number = ?, step = ?, how = ? WHERE id = ?", number, step, how, command)

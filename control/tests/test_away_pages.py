@@ -14,8 +14,9 @@ from control.database import Away
 from control.tests.visits import Bench, Visitors, run
 
 
-def test_what_may_have_been_done_is_not_said_to_be_undone(tmp_path: pathlib.Path,
-                                                          monkeypatch: pytest.MonkeyPatch) -> None:
+def test_what_may_have_been_done_is_not_said_to_be_undone(
+    tmp_path: pathlib.Path, monkeypatch: pytest.MonkeyPatch
+) -> None:
     def away(*_: Any) -> None:
         raise Away("the connection was lost as the answer to COMMIT was awaited")
 

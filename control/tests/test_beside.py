@@ -11,8 +11,8 @@ from control.tests import needs
 needs.modules("aiohttp", "jinja2")
 
 from control import beside, database
-from control.database import Failed, Row
 from control.beside import Browser, Service
+from control.database import Failed, Row
 from control.store import Store
 from control.tests.bench import PROGRAM, Bench, bench
 from model import wire
@@ -27,7 +27,12 @@ def service_of(at: Bench, folder: pathlib.Path) -> Service:
 def blank(at: Bench, browser: Browser, number: int) -> None:
     """Asks for a blank by the pages, and waits until the sign has accepted it."""
     before = len(at.live.accepted)
-    fields = [("kind", "blank"), ("sign", str(at.row)), ("number", str(number)), ("confirmation", f"confirmed {number:9}")]
+    fields = [
+        ("kind", "blank"),
+        ("sign", str(at.row)),
+        ("number", str(number)),
+        ("confirmation", f"confirmed {number:9}"),
+    ]
     browser.post("/send", "/account", fields)
     ends = time.monotonic() + PATIENCE
     while len(at.live.accepted) == before:
@@ -48,10 +53,12 @@ def contents(at: Bench) -> dict[int, set[bytes]]:
 def programs_end(at: Bench, folder: pathlib.Path, number: int) -> list[object]:
     """Each program that has a database, to its end: what is wrong with what they said."""
     line = f"blank {number} 65535 255 192.0.2.1"
-    said = [(beside.ended(at.where, "control.users", "list").stdout, f"{beside.NAME} operator\n"),
-            (beside.ended(at.where, "control.command", "--wait", "30", "one", line).stdout, "accepted\n"),
-            (beside.worker_ended(at.fleet, at.where, PROGRAM), 0),
-            (beside.ended(at.where, "control.backup", "copy", "--to", str(folder / "copy")).returncode, 0)]
+    said = [
+        (beside.ended(at.where, "control.users", "list").stdout, f"{beside.NAME} operator\n"),
+        (beside.ended(at.where, "control.command", "--wait", "30", "one", line).stdout, "accepted\n"),
+        (beside.worker_ended(at.fleet, at.where, PROGRAM), 0),
+        (beside.ended(at.where, "control.backup", "copy", "--to", str(folder / "copy")).returncode, 0),
+    ]
     return [found for found, wanted in said if found != wanted]
 
 
@@ -116,8 +123,9 @@ def test_a_file_that_is_taken_away_is_said(tmp_path: pathlib.Path) -> None:
         held.close()
 
 
-def test_what_was_committed_as_the_file_was_taken_away_is_not_known(tmp_path: pathlib.Path,
-                                                                    monkeypatch: pytest.MonkeyPatch) -> None:
+def test_what_was_committed_as_the_file_was_taken_away_is_not_known(
+    tmp_path: pathlib.Path, monkeypatch: pytest.MonkeyPatch
+) -> None:
     held = database.opened(str(tmp_path / "database"))
     before = held.rows
 

@@ -14,8 +14,22 @@ from control.tests.browser import Browser, lamps_of, until
 from control.tests.browsing import FACES, FOLLOWS, NAMES, Place, away_and_back, place
 
 SMALL = (320, 740)  # the narrowest screen that WCAG 2.2 names, in pixels of CSS (1.4.10, Reflow)
-PAGES = ("/", "/signs/1", "/signs/1/table", "/signs/1/ledger", "/signs/1/shown", "/signs/1/log", "/history",
-         "/compose?sign=1&sign=3", "/blank?sign=1&sign=3", "/batches/1", "/users", "/audit", "/account", "/login")
+PAGES = (
+    "/",
+    "/signs/1",
+    "/signs/1/table",
+    "/signs/1/ledger",
+    "/signs/1/shown",
+    "/signs/1/log",
+    "/history",
+    "/compose?sign=1&sign=3",
+    "/blank?sign=1&sign=3",
+    "/batches/1",
+    "/users",
+    "/audit",
+    "/account",
+    "/login",
+)
 BLANK = {"kind": "blank", "sign": "1", "number": "1", "confirmation": "x" * 24}
 
 
@@ -69,8 +83,10 @@ def test_a_refused_text_has_its_place(at: Place) -> None:
         one.says("At character 4: the sign has no such font.", "#looks .alert")
         assert one.text("#looks mark") == "[fo9]"
         one.find("#looks button").click()
-        place_ = one.script("const t = document.getElementById('text');"
-                            "return [t.selectionStart, t.selectionEnd, document.activeElement.id]")
+        place_ = one.script(
+            "const t = document.getElementById('text');"
+            "return [t.selectionStart, t.selectionEnd, document.activeElement.id]"
+        )
         assert place_ == [3, 8, "text"]
         one.click("#check")
         until(lambda: one.driver.current_url.endswith("/compose"), "the form comes again")
@@ -133,12 +149,16 @@ def test_a_request_without_a_token(at: Place) -> None:
 
 def test_no_script_of_a_page_runs_inline(at: Place) -> None:
     with at.browser("operator") as one:
-        one.script("const image = '<img src=x onerror=\"window.bad=1\">';"
-                   "document.body.insertAdjacentHTML('beforeend', image);"
-                   "const s = document.createElement('script'); s.textContent = 'window.bad = 2';"
-                   "document.body.append(s);")
-        until(lambda: any("Content Security Policy" in line["message"] for line in one.driver.get_log("browser")),
-              "the browser refuses it")
+        one.script(
+            "const image = '<img src=x onerror=\"window.bad=1\">';"
+            "document.body.insertAdjacentHTML('beforeend', image);"
+            "const s = document.createElement('script'); s.textContent = 'window.bad = 2';"
+            "document.body.append(s);"
+        )
+        until(
+            lambda: any("Content Security Policy" in line["message"] for line in one.driver.get_log("browser")),
+            "the browser refuses it",
+        )
         assert one.script("return window.bad === undefined") is True
 
 

@@ -17,10 +17,34 @@ from control.tests.test_style import TEXT, luminance
 SCRIPT = (pathlib.Path(__file__).parent / "contrast.js").read_text()
 LARGE, LARGE_TEXT, LARGE_BOLD = 3.0, 24.0, 18.66  # the ratio for large texts, and from how many pixels they are
 # what has colours of its own, each of which some page has to show
-MARKS = (".tag.good", ".tag.bad", ".tag.wait", ".tag.busy", ".tag.lit", ".steps li.done", ".steps li.now",
-         ".steps li.failed", ".steps li.left", ".steps li.none", "mark", ".alert", ".field-fault", ".bad-word",
-         ".facts", ".role", ".step-word", ".lamps .none", "button.main", "button.quiet", ".tabs a[aria-current]",
-         ".log li.to", ".log li.from", ".marked", "button[aria-pressed=true]", "#nothing:not([hidden])")
+MARKS = (
+    ".tag.good",
+    ".tag.bad",
+    ".tag.wait",
+    ".tag.busy",
+    ".tag.lit",
+    ".steps li.done",
+    ".steps li.now",
+    ".steps li.failed",
+    ".steps li.left",
+    ".steps li.none",
+    "mark",
+    ".alert",
+    ".field-fault",
+    ".bad-word",
+    ".facts",
+    ".role",
+    ".step-word",
+    ".lamps .none",
+    "button.main",
+    "button.quiet",
+    ".tabs a[aria-current]",
+    ".log li.to",
+    ".log li.from",
+    ".marked",
+    "button[aria-pressed=true]",
+    "#nothing:not([hidden])",
+)
 
 
 @dataclass

@@ -107,10 +107,16 @@ def test_what_has_the_focus_keeps_it_as_the_page_changes(tmp_path: pathlib.Path)
         made.table(made.one, -4, number=7)
         card, table = f"#sign-{made.two}", "#table"
         for path, part, focus, change, words in (
-                ("/", card, f"{card} a", lambda: made.read(made.two, -9, minutes=7), "7 min"),
-                (f"/signs/{made.one}/table", table, f"{table} [tabindex]", lambda: made.table(made.one, -9, 77), "77"),
-                (f"/signs/{made.one}/table", table, "a[href$='number=7']", lambda: made.table(made.one, -10, number=5),
-                 "changeable 5")):
+            ("/", card, f"{card} a", lambda: made.read(made.two, -9, minutes=7), "7 min"),
+            (f"/signs/{made.one}/table", table, f"{table} [tabindex]", lambda: made.table(made.one, -9, 77), "77"),
+            (
+                f"/signs/{made.one}/table",
+                table,
+                "a[href$='number=7']",
+                lambda: made.table(made.one, -10, number=5),
+                "changeable 5",
+            ),
+        ):
             one.get(path)
             one.says(FOLLOWS, "footer")
             one.script("arguments[0].focus()", one.find(focus))

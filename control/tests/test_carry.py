@@ -15,8 +15,9 @@ from model import wire
 BLANK = f"blank 1 65535 255 {ADDRESS}"
 
 
-def test_the_ledger_is_in_the_database_before_an_activation_goes_out(tmp_path: pathlib.Path, where: str,
-                                                                    monkeypatch: pytest.MonkeyPatch) -> None:
+def test_the_ledger_is_in_the_database_before_an_activation_goes_out(
+    tmp_path: pathlib.Path, where: str, monkeypatch: pytest.MonkeyPatch
+) -> None:
     with bench(tmp_path, where) as at:
         command, found = at.ask(BLANK), at.session("first")
         send, seen = found.send, list[tuple[int, list[str], int]]()
@@ -56,8 +57,9 @@ def test_what_is_not_kept_does_not_go_out(tmp_path: pathlib.Path, where: str, mo
         assert at.store.how(command) == "accepted", "the next one goes on from the lines"
 
 
-def test_a_line_that_lost_its_number_is_not_handed_over(tmp_path: pathlib.Path, where: str,
-                                                        monkeypatch: pytest.MonkeyPatch) -> None:
+def test_a_line_that_lost_its_number_is_not_handed_over(
+    tmp_path: pathlib.Path, where: str, monkeypatch: pytest.MonkeyPatch
+) -> None:
     with bench(tmp_path, where) as at:
         at.ask(BLANK)
         found = at.session("first")

@@ -64,8 +64,10 @@ BREAKS: dict[str, Callable[[Bench], object]] = {
     "the sign accepted": lambda at: at.live.accepted.clear(),
     "each acceptance of the sign stands in the ledger": lambda at: at.live.accepted.append((999, "ff")),
     "each activation that went out stands in the ledger": lambda at: at.store.run("DELETE FROM ledger"),
-    "each command that ended accepted has its activation": lambda at: at.ended(at.worker(), at.store.ask(
-        at.row, "me", "restart")) and at.store.run("UPDATE commands SET how = 'accepted'"),
+    "each command that ended accepted has its activation": lambda at: at.ended(
+        at.worker(), at.store.ask(at.row, "me", "restart")
+    )
+    and at.store.run("UPDATE commands SET how = 'accepted'"),
     "the ledger is the model's, handed the lines": lambda at: at.store.run("UPDATE ledger SET outcome = 'noreply'"),
     "each command stands in the audit": lambda at: at.store.run("DELETE FROM audit"),
     "no line is missing": lambda at: at.store.run("DELETE FROM lines WHERE number = 3"),
@@ -88,5 +90,6 @@ def test_what_does_not_hold_is_found(tmp_path: pathlib.Path, what: str) -> None:
 def test_commands_are_of_each_kind() -> None:
     chance = random.Random(1)
     lines = [chaos.command(chance).split(" ") for _ in range(500)]
-    assert {line[0] for line in lines} == {"blank", "publish"} and {line[1] for line in lines if line[0] == "publish"} \
-        == {"3", "4"}
+    assert {line[0] for line in lines} == {"blank", "publish"} and {
+        line[1] for line in lines if line[0] == "publish"
+    } == {"3", "4"}

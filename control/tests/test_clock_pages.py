@@ -76,4 +76,7 @@ def test_open_pages_are_told_of_a_jump(tmp_path: pathlib.Path, monkeypatch: pyte
 
 def test_an_age_below_nothing_is_none() -> None:
     assert [age_word(seconds) for seconds in (-0.5, -1.5, -AHEAD)] == [
-        "0 s ago", "by a clock that was ahead", "by a clock that was ahead"]
+        "0 s ago",
+        "by a clock that was ahead",
+        "by a clock that was ahead",
+    ]

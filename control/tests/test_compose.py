@@ -15,12 +15,19 @@ from control.web.compose import marked
 from control.web.draft import Draft, joined
 from control.web.faces import face_of
 from control.web.pictures import drawn
-from door.lack import spelled
 from control.web.words import asked
+from door.lack import spelled
 from model import layout, text
 
-GOOD = {"text": "[fo2]FOG", "memory": "3", "number": "2", "run": "90", "priority": "110", "lasts": "minutes",
-        "minutes": "30"}
+GOOD = {
+    "text": "[fo2]FOG",
+    "memory": "3",
+    "number": "2",
+    "run": "90",
+    "priority": "110",
+    "lasts": "minutes",
+    "minutes": "30",
+}
 FAULTS = [
     ("FOG[fo9]", 3, "FOG<mark>[fo9]</mark>", "no such font"),
     ("FOG\u00e9", 3, "FOG<mark>é</mark>", "no picture of this character"),
@@ -36,7 +43,7 @@ async def confirmation(one: Visitor, fields: list[tuple[str, str]]) -> list[tupl
     """The fields of the confirmation's form."""
     status, page, _ = await one.post("/compose", fields)
     assert status == 200, page
-    held = re.findall(r'<input type="hidden" name="(\w+)" value="([^"]*)">', page[page.index('action="/send"'):])
+    held = re.findall(r'<input type="hidden" name="(\w+)" value="([^"]*)">', page[page.index('action="/send"') :])
     return [field for field in held if field[0] != "token"]
 
 
@@ -66,15 +73,17 @@ def test_a_text_is_published(tmp_path: pathlib.Path, where: str) -> None:
 
 
 @pytest.mark.parametrize(("written", "offset", "shown", "why"), FAULTS)
-def test_a_text_is_refused_at_its_place(tmp_path: pathlib.Path, written: str, offset: int, shown: str,
-                                        why: str) -> None:
+def test_a_text_is_refused_at_its_place(
+    tmp_path: pathlib.Path, written: str, offset: int, shown: str, why: str
+) -> None:
     async def act(bench: Bench, visitor: Visitors) -> None:
         one = await bench.logged_in(visitor, "operator")
         status, page, _ = await one.post("/compose", {**GOOD, "sign": str(bench.one), "text": written})
         assert status == 422 and f"At character {offset + 1}: " in page and why in page
         assert shown in page.replace("&lt;", "<")
-        answer = await one.client.post("/look", json={"signs": [bench.one], "text": written},
-                                       headers={"X-Token": await one.token()})
+        answer = await one.client.post(
+            "/look", json={"signs": [bench.one], "text": written}, headers={"X-Token": await one.token()}
+        )
         said = (await answer.json())["looks"][0]
         assert said["offset"] == offset and why in said["why"] and said["src"] is None
         assert "".join(said["marked"]) == written
@@ -88,11 +97,17 @@ def test_a_text_is_refused_at_its_place(tmp_path: pathlib.Path, written: str, of
 def test_fields_that_are_not_in_order(tmp_path: pathlib.Path) -> None:
     async def act(bench: Bench, visitor: Visitors) -> None:
         one = await bench.logged_in(visitor, "operator")
-        for key, value, why in (("number", "33", "from 1 to 32"), ("number", "x", "from 1 to 32"),
-                                ("run", "0", "from 1 to 255"), ("priority", "256", "from 0 to 255"),
-                                ("minutes", "0", "from 1 to 65534"), ("memory", "5", "from 3 to 4"),
-                                ("text", "", "Write a text"), ("beacon", "1", "Not all of these signs have a beacon"),
-                                ("sign", "999", "Choose at least one sign")):
+        for key, value, why in (
+            ("number", "33", "from 1 to 32"),
+            ("number", "x", "from 1 to 32"),
+            ("run", "0", "from 1 to 255"),
+            ("priority", "256", "from 0 to 255"),
+            ("minutes", "0", "from 1 to 65534"),
+            ("memory", "5", "from 3 to 4"),
+            ("text", "", "Write a text"),
+            ("beacon", "1", "Not all of these signs have a beacon"),
+            ("sign", "999", "Choose at least one sign"),
+        ):
             fields = {**GOOD, "sign": str(bench.one), key: value}
             status, page, _ = await one.post("/compose", fields)
             assert status == 422 and why in page, key
@@ -128,11 +143,12 @@ def test_blanking_and_showing_a_row(tmp_path: pathlib.Path) -> None:
         bench.table(bench.one)
         bench.read(bench.one, priority=200)
         one = await bench.logged_in(visitor, "operator")
-        for path, kind, line in ((f"/blank?sign={bench.one}&sign={bench.two}", "blank", "blank 1 65535 255 127.0.0.1"),
-                                 (f"/show?sign={bench.one}&memory=3&number=1", "activate",
-                                  "activate ffffff0300019a667f000001")):
+        for path, kind, line in (
+            (f"/blank?sign={bench.one}&sign={bench.two}", "blank", "blank 1 65535 255 127.0.0.1"),
+            (f"/show?sign={bench.one}&memory=3&number=1", "activate", "activate ffffff0300019a667f000001"),
+        ):
             page = (await one.get(path))[1]
-            form = page[page.index('action="/send"'):]
+            form = page[page.index('action="/send"') :]
             held = re.findall(r'<input type="hidden" name="(\w+)" value="([^"]*)">', form)
             assert ("kind", kind) in held
             asked_for = [*[field for field in held if field[0] != "token"], ("priority", "255"), ("lasts", "forever")]
@@ -172,10 +188,23 @@ def test_pictures_and_the_model_agree(tmp_path: pathlib.Path) -> None:
     async def act(bench: Bench, visitor: Visitors) -> None:
         face = face_of(bench.room.signs[bench.one])
         held = text.described(face.text).face
-        for octets in (b"FOG", b"F\xe9G", b"FO[\xe9]G", b"[fo2]A\x00B", b"A" * 40, b"FOG[xx]\xe9", b"[fo9]\xe9", b"",
-                       b"A" * 513, b"[hcE9]", b"[[[]", b"]"):
+        for octets in (
+            b"FOG",
+            b"F\xe9G",
+            b"FO[\xe9]G",
+            b"[fo2]A\x00B",
+            b"A" * 40,
+            b"FOG[xx]\xe9",
+            b"[fo9]\xe9",
+            b"",
+            b"A" * 513,
+            b"[hcE9]",
+            b"[[[]",
+            b"]",
+        ):
             found, (_, fault) = drawn(bench.room.settings.program, face, octets, None), layout.laid_out(
-                held, held.defaults, octets)
+                held, held.defaults, octets
+            )
             assert (found.code, found.offset) == (fault or (None, None)) and found.is_good == (fault is None), octets
         assert spelled(b"A\xe9B")[0] == b"A[hcE9]B"
 
@@ -189,5 +218,7 @@ def test_words_of_a_draft() -> None:
     draft = Draft("publish", (1,), "A", 4, 2, 0, 1, 9, 8, 7)
     assert draft.line("me", "192.0.2.1") == "publish 4 2 41 6d65 0 1 9 7 8 192.0.2.1"
     assert asked(draft.line("me", "192.0.2.1")).owner == b"me"
-    assert Draft("activate", (1,), memory=3, number=258, priority=9, minutes=5, checksum=0x9A66).line(
-        "me", "192.0.2.1") == "activate 0005090301029a66c0000201"
+    assert (
+        Draft("activate", (1,), memory=3, number=258, priority=9, minutes=5, checksum=0x9A66).line("me", "192.0.2.1")
+        == "activate 0005090301029a66c0000201"
+    )

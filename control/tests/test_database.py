@@ -60,11 +60,17 @@ def test_a_migration_that_fails_leaves_nothing(where: str) -> None:
         made.run("SELECT a FROM more")
 
 
-def test_a_name_that_is_no_database_s_makes_none(where: str, tmp_path: pathlib.Path,
-                                                 monkeypatch: pytest.MonkeyPatch) -> None:
+def test_a_name_that_is_no_database_s_makes_none(
+    where: str, tmp_path: pathlib.Path, monkeypatch: pytest.MonkeyPatch
+) -> None:
     of = ["--database", where]
-    programs = {"worker": [*of, "--fleet", str(TOP / "signs/fleet.toml")], "users": [*of, "list"],
-                "signs": [*of, "list"], "command": [*of, "one", BLANK], "backup": ["advance", *of]}
+    programs = {
+        "worker": [*of, "--fleet", str(TOP / "signs/fleet.toml")],
+        "users": [*of, "list"],
+        "signs": [*of, "list"],
+        "command": [*of, "one", BLANK],
+        "backup": ["advance", *of],
+    }
     for name, words in programs.items():
         monkeypatch.setattr(sys, "argv", [name, *words])
         with pytest.raises(Refusal, match="--create makes"):
@@ -127,7 +133,7 @@ def test_values_are_what_they_were(where: str) -> None:
     made = database.opened(where)
     for text in ("100 % sure? {clock}", "it's", "", "Grüße 道"):
         assert made.run("SELECT CAST(? AS TEXT)", text) == [(text,)]
-    for number in (0, -2**31, 2**31, 2**62):
+    for number in (0, -(2**31), 2**31, 2**62):
         assert made.run("SELECT CAST(? AS BIGINT)", number) == [(number,)]
     assert made.run("SELECT CAST(? AS TEXT)", None) == [(None,)]
     now = made.run("SELECT {clock}")[0][0]
@@ -200,7 +206,9 @@ def test_commands_have_their_turns(where: str) -> None:
     following = first.next(sign)
     assert following is not None and following.id == numbers[1]
     assert first.run("SELECT who, what FROM audit ORDER BY id") == [
-        ("me", "one: blank 1 1 1 192.0.2.1"), ("me", "one: blank 2 1 1 192.0.2.1")]
+        ("me", "one: blank 1 1 1 192.0.2.1"),
+        ("me", "one: blank 2 1 1 192.0.2.1"),
+    ]
 
 
 def test_the_ledger_goes_on_from_what_waits_alone(where: str) -> None:
@@ -238,5 +246,5 @@ def test_a_table_has_the_newest_of_each_row(where: str) -> None:
 
 def test_numbers_of_readings_are_used_up_once(where: str) -> None:
     store, _, sign = two_stores(where)
-    store.run("UPDATE signs SET reading_number = ? WHERE id = ?", -2**31 + 1, sign)
-    assert store.numbers([sign]) == {sign: -2**31} and store.numbers([sign]) == {} and store.due([sign]) == []
+    store.run("UPDATE signs SET reading_number = ? WHERE id = ?", -(2**31) + 1, sign)
+    assert store.numbers([sign]) == {sign: -(2**31)} and store.numbers([sign]) == {} and store.due([sign]) == []

@@ -51,12 +51,16 @@ async def seen(url: str, password: str) -> None:
 
 def test_the_whole_with_one_command(tmp_path: pathlib.Path) -> None:
     ports, listen = [free_port(socket.SOCK_DGRAM) for _ in NAMES], free_port()
-    (tmp_path / "fleet.toml").write_text("\n".join(
-        f'[[sign]]\nname = "{name}"\naddress = "127.0.0.1:{port}"\ndescription = "{TOP}/signs/roadside.sign"\n'
-        for name, port in zip(NAMES, ports)))
+    (tmp_path / "fleet.toml").write_text(
+        "\n".join(
+            f'[[sign]]\nname = "{name}"\naddress = "127.0.0.1:{port}"\ndescription = "{TOP}/signs/roadside.sign"\n'
+            for name, port in zip(NAMES, ports)
+        )
+    )
     words = ["--fleet", str(tmp_path / "fleet.toml"), "--listen", f"127.0.0.1:{listen}", "--signtool", PROGRAM]
-    with subprocess.Popen([sys.executable, "-m", "control.demo", *words], cwd=TOP, stdin=subprocess.DEVNULL,
-                          stdout=subprocess.PIPE) as process:
+    with subprocess.Popen(
+        [sys.executable, "-m", "control.demo", *words], cwd=TOP, stdin=subprocess.DEVNULL, stdout=subprocess.PIPE
+    ) as process:
         try:
             said = until_said(process, "the control room of 2 signs is at")
             found = re.search(r"log in as reader with (\S+)", said)

@@ -63,8 +63,9 @@ def test_a_fleet_is_read(tmp_path: pathlib.Path) -> None:
 
 
 @pytest.mark.parametrize("name, old, new, line, words", FAULTS, ids=[row[0] for row in FAULTS])
-def test_a_fault_is_told_with_its_line(tmp_path: pathlib.Path, name: str, old: str, new: str, line: int,
-                                       words: str) -> None:
+def test_a_fault_is_told_with_its_line(
+    tmp_path: pathlib.Path, name: str, old: str, new: str, line: int, words: str
+) -> None:
     path = written(tmp_path, GOOD.replace(old, new))
     with pytest.raises(Refusal) as refused:
         fleet.read(path)
@@ -91,8 +92,11 @@ def test_descriptions_that_others_can_read_are_named(capfd: pytest.CaptureFixtur
             place.chmod(of_folder)
             fleet.tell_open(fleet.read(path))
             said = capfd.readouterr().err
-            assert said == (f"others on this machine can read {place}/a.sign, where communities stand: chmod o-r\n"
-                            if is_named else ""), (mode, of_folder)
+            assert said == (
+                f"others on this machine can read {place}/a.sign, where communities stand: chmod o-r\n"
+                if is_named
+                else ""
+            ), (mode, of_folder)
         for at in range(7):
             (place / f"{at}.sign").write_text(SIGN)
             (place / f"{at}.sign").chmod(0o604)

@@ -25,8 +25,7 @@ class Here(AbstractResolver):
     """Every name is this machine's."""
 
     async def resolve(self, host: str, port: int = 0, family: int = socket.AF_INET) -> list[dict[str, Any]]:
-        return [{"hostname": host, "host": "127.0.0.1", "port": port, "family": socket.AF_INET, "proto": 0,
-                 "flags": 0}]
+        return [{"hostname": host, "host": "127.0.0.1", "port": port, "family": socket.AF_INET, "proto": 0, "flags": 0}]
 
     async def close(self) -> None:
         pass
@@ -37,8 +36,9 @@ async def behind(bench: Bench, service: int, folder: pathlib.Path) -> AsyncItera
     """A visitor who comes through the proxy, knows its certificate, and says the page's origin as a browser does."""
     with nginx(folder, service) as port:
         url = f"https://{NAME}:{port}"
-        known = aiohttp.TCPConnector(ssl=ssl.create_default_context(cafile=str(folder / "certificate.pem")),
-                                     resolver=Here())
+        known = aiohttp.TCPConnector(
+            ssl=ssl.create_default_context(cafile=str(folder / "certificate.pem")), resolver=Here()
+        )
         headers = {"Origin": url, "X-Forwarded-For": BOAST}
         async with aiohttp.ClientSession(url, connector=known, headers=headers) as session:
             yield Visitor(session)
@@ -62,7 +62,9 @@ def test_all_through_the_proxy(tmp_path: pathlib.Path) -> None:
             await followed(bench, one)
             left = await one.answered("/logout", {"token": await one.token()})
             (cookie,) = [line for line in left.headers.getall("Set-Cookie") if line.startswith("__Host-login=")]
-            assert "Max-Age=0" in cookie and "Secure" in cookie, "else a browser does not take it for the one that it has"
+            assert (
+                "Max-Age=0" in cookie and "Secure" in cookie
+            ), "else a browser does not take it for the one that it has"
 
     run(tmp_path, str(tmp_path / "database"), act, is_behind_tls=True)
 

@@ -17,15 +17,31 @@ from control.web.words import Clock, age_word, audit_words, minutes_word
 from model import wire
 
 PAGES = {
-    "/": Role.READER, "/signs/{one}": Role.READER, "/signs/{one}/table": Role.READER,
-    "/signs/{one}/ledger": Role.READER, "/signs/{one}/shown": Role.READER, "/signs/{one}/log": Role.READER,
-    "/history": Role.READER, "/history?outcome=open&who=operator&sign={one}": Role.READER, "/account": Role.READER,
-    "/batches/1": Role.READER, "/compose": Role.OPERATOR, "/compose?sign={one}&sign={gantry}": Role.OPERATOR,
-    "/compose?again=1": Role.OPERATOR, "/blank?sign={one}&sign={two}": Role.OPERATOR,
-    "/show?sign={one}&memory=3&number=1": Role.OPERATOR, "/users": Role.ADMINISTRATOR, "/audit": Role.ADMINISTRATOR,
+    "/": Role.READER,
+    "/signs/{one}": Role.READER,
+    "/signs/{one}/table": Role.READER,
+    "/signs/{one}/ledger": Role.READER,
+    "/signs/{one}/shown": Role.READER,
+    "/signs/{one}/log": Role.READER,
+    "/history": Role.READER,
+    "/history?outcome=open&who=operator&sign={one}": Role.READER,
+    "/account": Role.READER,
+    "/batches/1": Role.READER,
+    "/compose": Role.OPERATOR,
+    "/compose?sign={one}&sign={gantry}": Role.OPERATOR,
+    "/compose?again=1": Role.OPERATOR,
+    "/blank?sign={one}&sign={two}": Role.OPERATOR,
+    "/show?sign={one}&memory=3&number=1": Role.OPERATOR,
+    "/users": Role.ADMINISTRATOR,
+    "/audit": Role.ADMINISTRATOR,
 }
-POSTS = {"/send": Role.OPERATOR, "/compose": Role.OPERATOR, "/look": Role.OPERATOR, "/users": Role.ADMINISTRATOR,
-         "/commands/1/withdraw": Role.OPERATOR}
+POSTS = {
+    "/send": Role.OPERATOR,
+    "/compose": Role.OPERATOR,
+    "/look": Role.OPERATOR,
+    "/users": Role.ADMINISTRATOR,
+    "/commands/1/withdraw": Role.OPERATOR,
+}
 MARKUP = "<script>alert('&')</script>"
 
 
@@ -46,12 +62,23 @@ def filled(bench: Bench) -> None:
     line = f"publish 3 1 {MARKUP.encode().hex()} {b'me'.hex()} 0 0 100 65535 255 192.0.2.1"
     command = bench.store.ask(bench.one, "operator", line)
     broken = "datagram 30" + WRITER.encode().hex()
-    lines = [head, line, datagram(WRITER, MARKUP.encode()), datagram(WRITER, WRITER.encode()), broken, "tick", "tick",
-             "tick"]
+    lines = [
+        head,
+        line,
+        datagram(WRITER, MARKUP.encode()),
+        datagram(WRITER, WRITER.encode()),
+        broken,
+        "tick",
+        "tick",
+        "tick",
+    ]
     for number, text in enumerate(lines, 1):
         bench.store.insert([Line(bench.one, number, text.encode(), command if number == 2 else None, number == 1)], "w")
-    bench.store.run("INSERT INTO ledger (sign, number, code, outcome, at) VALUES (?, 7, ?, 'refused 5', {clock})",
-                    bench.one, "ffffff0300019a66c0000201")
+    bench.store.run(
+        "INSERT INTO ledger (sign, number, code, outcome, at) VALUES (?, 7, ?, 'refused 5', {clock})",
+        bench.one,
+        "ffffff0300019a66c0000201",
+    )
     bench.store.run("INSERT INTO batches (confirmation, who, at, what) VALUES ('x', 'operator', {clock}, ?)", MARKUP)
     bench.store.run("INSERT INTO batch_commands (batch, command) VALUES (1, ?)", command)
 
@@ -199,9 +226,24 @@ def test_times_and_words() -> None:
     assert clock.full(1795557870) == "2026-11-24 23:04:30 CET" and clock.full(1783000000).endswith("CEST")
     assert clock.short(1795557870, 1795557900) == "23:04:30 CET"
     words = [age_word(seconds) for seconds in (-1, 0, 59, 60, 119, 7199, 7200, 172799, 172800)]
-    assert words == ["0 s ago", "0 s ago", "59 s ago", "1 min ago", "1 min ago", "119 min ago", "2 h ago", "47 h ago",
-                     "2 d ago"]
+    assert words == [
+        "0 s ago",
+        "0 s ago",
+        "59 s ago",
+        "1 min ago",
+        "1 min ago",
+        "119 min ago",
+        "2 h ago",
+        "47 h ago",
+        "2 d ago",
+    ]
     assert [minutes_word(one) for one in (65535, 0, 119, 120, 150, 2880)] == [
-        "without end", "0 min", "119 min", "2 h", "2 h 30 min", "2 d"]
+        "without end",
+        "0 min",
+        "119 min",
+        "2 h",
+        "2 h 30 min",
+        "2 d",
+    ]
     assert audit_words("one: blank 1 65535 255 192.0.2.1") == "one: blank 1, without end, activation priority 255"
     assert audit_words("one: publish 3") == "one: publish 3"

@@ -33,9 +33,11 @@ def test_gets_are_those_of_the_model() -> None:
         return chance.getrandbits(chance.randint(0, bits))
 
     for _ in range(2000):
-        names = [(chance.randint(0, 2), number(5), *(number(32) for _ in range(chance.choice(sizes))))
-                 for _ in range(chance.choice(sizes))]
-        community, least = chance.randbytes(chance.choice((0, 6, 127, 128, 300))), chance.choice((0, -1, -2**31))
+        names = [
+            (chance.randint(0, 2), number(5), *(number(32) for _ in range(chance.choice(sizes))))
+            for _ in range(chance.choice(sizes))
+        ]
+        community, least = chance.randbytes(chance.choice((0, 6, 127, 128, 300))), chance.choice((0, -1, -(2**31)))
         asked = least + number(31) if least != -1 else -1 - number(31)
         bindings = [(name, (wire.NULL, b"")) for name in names]
         octets = encoder.get(community, asked, names)
@@ -46,12 +48,12 @@ def test_gets_are_those_of_the_model() -> None:
 
 def test_a_get_asks_below_zero_and_is_answered_by_its_response_alone() -> None:
     asked = list(readings.names(Mib.read()).values())
-    octets = encoder.get(b"public", -2**31, asked)
+    octets = encoder.get(b"public", -(2**31), asked)
     message = wire.spelled(octets)
-    assert message is not None and message.number == -2**31 and [name for name, _ in message.bindings] == asked
+    assert message is not None and message.number == -(2**31) and [name for name, _ in message.bindings] == asked
     message.kind = wire.RESPONSE
     reply = wire.written(message)
-    assert asking.answer(reply, b"public", -2**31) == message
+    assert asking.answer(reply, b"public", -(2**31)) == message
     for others in (octets, reply[:-1], b""):
-        assert asking.answer(others, b"public", -2**31) is None
-    assert asking.answer(reply, b"public", 5) is None and asking.answer(reply, b"admin", -2**31) is None
+        assert asking.answer(others, b"public", -(2**31)) is None
+    assert asking.answer(reply, b"public", 5) is None and asking.answer(reply, b"admin", -(2**31)) is None

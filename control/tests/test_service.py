@@ -22,8 +22,9 @@ def test_the_pages_are_for_this_machine_unless_told() -> None:
     assert arguments().parse_args(["--fleet", "a", "--listen", "0.0.0.0:80"]).listen == "0.0.0.0:80"
 
 
-def test_the_pages_answer_where_they_are_told_to_be_alone(tmp_path: pathlib.Path,
-                                                          monkeypatch: pytest.MonkeyPatch) -> None:
+def test_the_pages_answer_where_they_are_told_to_be_alone(
+    tmp_path: pathlib.Path, monkeypatch: pytest.MonkeyPatch
+) -> None:
     monkeypatch.setattr(passwords, "COST", 2**4)
     bench = Bench(tmp_path, str(tmp_path / "database"))
     pages = Pages(bench.settings, list(bench.room.signs.values()), "127.0.0.1", 0)

@@ -114,9 +114,11 @@ def test_what_ends_a_log_in(tmp_path: pathlib.Path, where: str) -> None:
         cookie = one.client.session.cookie_jar.filter_cookies(one.client.make_url("/"))["login"].value
         assert (await one.post("/logout", {}))[0] == 303
         assert (await visitor().answered("/", headers={"Cookie": f"login={cookie}"})).status == 303, "a stolen cookie"
-        for end in (lambda: users.change_role(held, "operator", Role.READER, "a test"),
-                    lambda: users.change_password(held, "operator", PASSWORD, "a test"),
-                    lambda: users.disable(held, "operator", True, "a test")):
+        for end in (
+            lambda: users.change_role(held, "operator", Role.READER, "a test"),
+            lambda: users.change_password(held, "operator", PASSWORD, "a test"),
+            lambda: users.disable(held, "operator", True, "a test"),
+        ):
             two = await bench.logged_in(visitor, "operator")
             end()
             assert (await two.get("/"))[0] == 303
@@ -141,8 +143,9 @@ def test_passwords(monkeypatch: pytest.MonkeyPatch) -> None:
         assert passwords.fault_of(bad)
 
 
-def test_users_from_the_command_line(tmp_path: pathlib.Path, monkeypatch: pytest.MonkeyPatch,
-                                     capsys: pytest.CaptureFixture[str]) -> None:
+def test_users_from_the_command_line(
+    tmp_path: pathlib.Path, monkeypatch: pytest.MonkeyPatch, capsys: pytest.CaptureFixture[str]
+) -> None:
     monkeypatch.setattr(passwords, "COST", 2**4)
     monkeypatch.setattr(users, "asked_password", lambda: "a long password")
 
@@ -153,9 +156,13 @@ def test_users_from_the_command_line(tmp_path: pathlib.Path, monkeypatch: pytest
     assert call("--create", "add", "ann", "administrator") == 0 and call("add", "bob", "reader") == 0
     assert call("role", "bob", "operator") == 0 and call("disable", "bob") == 0 and call("list") == 0
     assert capsys.readouterr().out == "ann administrator\nbob operator disabled\n"
-    for words, why in ((("add", "ann", "reader"), "already"), (("add", "Ann", "reader"), "small letters"),
-                       (("add", "eve", "king"), "no role"), (("role", "eve", "reader"), "no user"),
-                       (("disable", "ann"), "no administrator would be left"),
-                       (("role", "ann", "reader"), "no administrator would be left")):
+    for words, why in (
+        (("add", "ann", "reader"), "already"),
+        (("add", "Ann", "reader"), "small letters"),
+        (("add", "eve", "king"), "no role"),
+        (("role", "eve", "reader"), "no user"),
+        (("disable", "ann"), "no administrator would be left"),
+        (("role", "ann", "reader"), "no administrator would be left"),
+    ):
         with pytest.raises(Refusal, match=why):
             call(*words)

@@ -46,25 +46,33 @@ def test_a_sign_that_is_renamed_in_the_fleet_is_refused_until_it_is_renamed(tmp_
         signs.rename(at.store.database, "one", "north", "me")
         lines, ledger = at.store.lines(at.row), at.store.ledger(at.row)
         worker = at.worker()
-        assert list(at.signs(at.store)) == [at.row] and (at.store.lines(at.row), at.store.ledger(at.row)) == (lines, ledger)
+        assert list(at.signs(at.store)) == [at.row] and (at.store.lines(at.row), at.store.ledger(at.row)) == (
+            lines,
+            ledger,
+        )
         assert at.ended(worker, at.ask(HELLO.replace("3 1", "3 2"))) == "accepted"
         after = numbers_sent(at)
         assert all(after[number] == before[number] for number in before) and len(after) > len(before)
         assert all(len(octets) == 1 for octets in after.values())
         assert at.store.run("SELECT who, what FROM audit WHERE what LIKE 'sign %'") == [
-            ("me", "sign one: its name is north")]
+            ("me", "sign one: its name is north")
+        ]
 
 
 def test_an_address_is_one_sign_s(where: str) -> None:
     store = Store(database.opened(where))
     rows = {sign.name: row for row, sign in store.enter([sign("one", 1161), sign("two", 1162)]).items()}
-    for fleet, words in (([sign("three", 1161)], "rename 'one' 'three'"),
-                         ([sign("one", 1162)], "Where it is that sign, its name is 'two'"),
-                         ([sign("one", 1162), sign("two", 1161)], "127.0.0.1:1162 is the address of 'two'")):
+    for fleet, words in (
+        ([sign("three", 1161)], "rename 'one' 'three'"),
+        ([sign("one", 1162)], "Where it is that sign, its name is 'two'"),
+        ([sign("one", 1162), sign("two", 1161)], "127.0.0.1:1162 is the address of 'two'"),
+    ):
         with pytest.raises(Refusal, match=words):
             store.enter(fleet)
     assert store.run("SELECT name, address FROM signs ORDER BY id") == [
-        ("one", "127.0.0.1:1161"), ("two", "127.0.0.1:1162")]
+        ("one", "127.0.0.1:1161"),
+        ("two", "127.0.0.1:1162"),
+    ]
     assert list(store.enter([sign("two", 1163), sign("one", 1161)])) == [rows["two"], rows["one"]]
 
 
@@ -111,8 +119,12 @@ def test_signs_that_were_entered_under_one_address_are_parted(where: str) -> Non
 def test_a_name_is_one_sign_s(where: str, monkeypatch: pytest.MonkeyPatch, capsys: pytest.CaptureFixture[str]) -> None:
     store = Store(database.opened(where))
     store.enter([sign("one", 1161), sign("two", 1162)])
-    for old, new, words in (("three", "four", "there is no sign 'three'"), ("one", "two", "a sign 'two' already"),
-                            ("one", "", "printable"), ("one", "a" * 65, "printable")):
+    for old, new, words in (
+        ("three", "four", "there is no sign 'three'"),
+        ("one", "two", "a sign 'two' already"),
+        ("one", "", "printable"),
+        ("one", "a" * 65, "printable"),
+    ):
         with pytest.raises(Refusal, match=words):
             signs.rename(store.database, old, new, "me")
     for call in (["rename", "one", "the first"], ["list"]):

@@ -11,12 +11,22 @@ WEB = TOP / "control/web"
 STYLE = (WEB / "static/room.css").read_text()
 TEXT, LARGE = 4.5, 3.0  # ratios of AA: of texts, and of parts of controls
 # what stands on what: a name or a colour of the style
-TEXTS = [(ink, ground) for ground in ("ground", "panel", "field") for ink in
-         ("text", "soft", "link", "good", "bad", "wait", "busy", "amber")] + [
-    ("on-amber", "amber"), ("on-amber", "#ffd07a"), ("text", "#2a323b"), ("soft", "#2a323b"), ("#2a0500", "bad"),
-    ("#06192c", "busy"), ("good", "#1c4a2d")]
-EDGES = [("edge", ground) for ground in ("ground", "panel", "field")] + [("amber", ground) for ground in
-                                                                        ("ground", "panel", "field")]
+TEXTS = [
+    (ink, ground)
+    for ground in ("ground", "panel", "field")
+    for ink in ("text", "soft", "link", "good", "bad", "wait", "busy", "amber")
+] + [
+    ("on-amber", "amber"),
+    ("on-amber", "#ffd07a"),
+    ("text", "#2a323b"),
+    ("soft", "#2a323b"),
+    ("#2a0500", "bad"),
+    ("#06192c", "busy"),
+    ("good", "#1c4a2d"),
+]
+EDGES = [("edge", ground) for ground in ("ground", "panel", "field")] + [
+    ("amber", ground) for ground in ("ground", "panel", "field")
+]
 
 
 def colour(name: str) -> str:
@@ -30,7 +40,7 @@ def colour(name: str) -> str:
 
 def luminance(digits: str) -> float:
     """The relative luminance of WCAG."""
-    parts = [int(digits[at:at + 2], 16) / 255 for at in (0, 2, 4)]
+    parts = [int(digits[at : at + 2], 16) / 255 for at in (0, 2, 4)]
     red, green, blue = (one / 12.92 if one <= 0.04045 else ((one + 0.055) / 1.055) ** 2.4 for one in parts)
     return 0.2126 * red + 0.7152 * green + 0.0722 * blue
 
@@ -56,7 +66,7 @@ def test_edges_of_controls_are_seen(edge: str, ground: str) -> None:
 
 def test_every_colour_is_one_that_is_looked_at() -> None:
     """Colours that stand in rules are names, or pairs of the lists above."""
-    rules = STYLE[STYLE.index("}"):]
+    rules = STYLE[STYLE.index("}") :]
     known = {name.lower() for pair in TEXTS + EDGES for name in pair if name.startswith("#")}
     plain = {"#000", "#fff"}  # behind pictures, and on paper
     assert {found.lower() for found in re.findall(r"#[0-9a-fA-F]{3,6}\b", rules)} <= known | plain
@@ -84,7 +94,7 @@ def test_scripts_write_no_markup_of_their_own() -> None:
 def test_every_field_has_a_label() -> None:
     for path in templates():
         for found in re.finditer(r"<(input|select|textarea)\b[^>]*>", path.read_text()):
-            tag, before = found[0], path.read_text()[:found.start()]
+            tag, before = found[0], path.read_text()[: found.start()]
             is_labelled = before.rfind("<label") > before.rfind("</label") or "aria-label=" in tag
             named = re.search(r'id="(\w+)"', tag)
             is_for = named is not None and f'for="{named[1]}"' in path.read_text()

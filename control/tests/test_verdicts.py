@@ -44,8 +44,9 @@ def test_a_sign_says_what_is_wrong_with_a_row(tmp_path: pathlib.Path, where: str
         assert replies and min(reply.number for reply in replies) >= 0, "the question is no line"
 
 
-def test_a_sign_is_asked_after_a_worker_died(tmp_path: pathlib.Path, where: str,
-                                             monkeypatch: pytest.MonkeyPatch) -> None:
+def test_a_sign_is_asked_after_a_worker_died(
+    tmp_path: pathlib.Path, where: str, monkeypatch: pytest.MonkeyPatch
+) -> None:
     with bench(tmp_path, where) as at:
         worker = at.worker()
         command = at.ask(WIDE)
@@ -98,6 +99,9 @@ def test_a_command_on_the_command_line_says_why(tmp_path: pathlib.Path, capfd: p
         explain(at.store, command, HOW)
         assert capfd.readouterr().err == f"step 5 (is the message valid): {FOUND}textTooBig\n"
         explain(at.store, command, "failed at step 7: no reply")
-        assert f"step 7 (activate): the request went out three times to 127.0.0.1:{at.live.port}, " in capfd.readouterr().err
+        assert (
+            f"step 7 (activate): the request went out three times to 127.0.0.1:{at.live.port}, "
+            in capfd.readouterr().err
+        )
         explain(at.store, command, "accepted")
         assert capfd.readouterr().err == ""

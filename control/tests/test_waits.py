@@ -39,17 +39,23 @@ def until_said(source: IO[bytes] | None, words: str) -> str:
 
 
 def begun(module: str, fleet: pathlib.Path, where: str, *words: str) -> subprocess.Popen[bytes]:
-    return subprocess.Popen([sys.executable, "-m", module, "--fleet", str(fleet), "--database", where, "--signtool",
-                             PROGRAM, *words], cwd=TOP, stdin=subprocess.DEVNULL, stdout=subprocess.PIPE,
-                            stderr=subprocess.STDOUT, bufsize=0)
+    return subprocess.Popen(
+        [sys.executable, "-m", module, "--fleet", str(fleet), "--database", where, "--signtool", PROGRAM, *words],
+        cwd=TOP,
+        stdin=subprocess.DEVNULL,
+        stdout=subprocess.PIPE,
+        stderr=subprocess.STDOUT,
+        bufsize=0,
+    )
 
 
 def programs(fleet: pathlib.Path, where: str) -> dict[str, subprocess.Popen[bytes]]:
     """A worker, and a service where this Python sees what it needs, and what each says once it stands."""
     made = {"a worker of 1 signs": begun("control.worker", fleet, where)}
     if not start.lacking(("aiohttp", "jinja2")):
-        made["the control room of 1 signs is at"] = begun("control", fleet, where, "--listen",
-                                                          f"127.0.0.1:{free_port()}")
+        made["the control room of 1 signs is at"] = begun(
+            "control", fleet, where, "--listen", f"127.0.0.1:{free_port()}"
+        )
     return made
 
 
@@ -87,8 +93,9 @@ def waits_and_goes_on(folder: pathlib.Path, server: Cluster) -> None:
         assert [program.wait(PATIENCE) for program in made.values()] == [0] * len(made)
 
 
-def test_a_file_that_another_one_keeps_is_waited_for(tmp_path: pathlib.Path, monkeypatch: pytest.MonkeyPatch,
-                                                     capfd: pytest.CaptureFixture[str]) -> None:
+def test_a_file_that_another_one_keeps_is_waited_for(
+    tmp_path: pathlib.Path, monkeypatch: pytest.MonkeyPatch, capfd: pytest.CaptureFixture[str]
+) -> None:
     monkeypatch.setattr(sqlite, "PATIENCE", 0.2)
     where = str(tmp_path / "database")
     other = database.opened(where)
@@ -132,7 +139,7 @@ def filled(where: str) -> bytes:
 
 DAMAGES = {
     "nothing but its head": lambda octets: octets[:4096],
-    "half of it": lambda octets: octets[:len(octets) // 2],
+    "half of it": lambda octets: octets[: len(octets) // 2],
     "zeros behind its head": lambda octets: octets[:4096] + bytes(len(octets) - 4096),
     "letters everywhere": lambda octets: octets[:100] + b"A" * (len(octets) - 100),
     "no text in its texts": lambda octets: octets.replace(b"CREATE TABLE", b"CREATE\xff\xffABLE"),
@@ -155,8 +162,9 @@ def test_a_file_that_is_damaged_is_a_word(tmp_path: pathlib.Path, name: str) -> 
         assert program.returncode and said and "Traceback" not in said, said
 
 
-def test_a_worker_says_once_that_its_database_is_gone(tmp_path: pathlib.Path,
-                                                      capfd: pytest.CaptureFixture[str]) -> None:
+def test_a_worker_says_once_that_its_database_is_gone(
+    tmp_path: pathlib.Path, capfd: pytest.CaptureFixture[str]
+) -> None:
     with bench(tmp_path, str(tmp_path / "database")) as at:
         worker = at.worker()
         at.ask(HELLO)

@@ -112,8 +112,9 @@ def test_a_sign_of_the_database_under_another_spelling_is_refused(where: str, ho
     assert store.run("SELECT name FROM signs") == [("one",)]
 
 
-def test_the_second_that_comes_to_one_address_stands_still(where: str, names: Names,
-                                                           capfd: pytest.CaptureFixture[str]) -> None:
+def test_the_second_that_comes_to_one_address_stands_still(
+    where: str, names: Names, capfd: pytest.CaptureFixture[str]
+) -> None:
     names.of.update({"a.example": ["127.0.0.1"], "b.example": ["127.0.0.2"]})
     store = Store(database.opened(where))
     rows = store.enter([named("a", "a.example"), named("b", "b.example")])
@@ -161,9 +162,9 @@ def until(worker: Worker, at: Bench, still: list[str | None]) -> None:
         worker.guarded_round()
 
 
-def test_a_sign_whose_name_does_not_resolve_waits(tmp_path: pathlib.Path, where: str, names: Names,
-                                                  monkeypatch: pytest.MonkeyPatch,
-                                                  capfd: pytest.CaptureFixture[str]) -> None:
+def test_a_sign_whose_name_does_not_resolve_waits(
+    tmp_path: pathlib.Path, where: str, names: Names, monkeypatch: pytest.MonkeyPatch, capfd: pytest.CaptureFixture[str]
+) -> None:
     with bench(tmp_path, where) as at:
         at.fleet.write_text(at.fleet.read_text().replace("127.0.0.1", "a.example"))
         worker, command = worker_of(at), at.ask(HELLO)
@@ -183,8 +184,9 @@ def test_of_two_names_for_one_sign_one_is_driven(tmp_path: pathlib.Path, where: 
     names.of.update({"a.example": ["127.0.0.1"], "b.example": ["127.0.0.9"]})
     with bench(tmp_path, where) as at:
         entry = at.fleet.read_text()
-        at.fleet.write_text(entry.replace("127.0.0.1", "a.example")
-                            + entry.replace("127.0.0.1", "b.example").replace('"one"', '"two"'))
+        at.fleet.write_text(
+            entry.replace("127.0.0.1", "a.example") + entry.replace("127.0.0.1", "b.example").replace('"one"', '"two"')
+        )
         worker = worker_of(at)
         until(worker, at, [None, None])
         names.of["b.example"] = ["127.0.0.1"]

@@ -19,14 +19,20 @@ from model import wire
 ROWS = [
     ("a publication", HELLO, "accepted"),
     ("a blank", f"blank 1 65535 255 {ADDRESS}", "accepted"),
-    ("an activation of a row that there is not", "activate ffffff0300ff0001c0000201",
-     "failed at step 7: the sign refused the activation for cause 6, messageNumber"),
+    (
+        "an activation of a row that there is not",
+        "activate ffffff0300ff0001c0000201",
+        "failed at step 7: the sign refused the activation for cause 6, messageNumber",
+    ),
     ("a value out of its range", f"blank 0 65535 255 {ADDRESS}", "refused a value is out of its range: NUMBER"),
     ("a command that is none", "blank 1", "bad line"),
     ("a line that is no command", "restart", "bad line"),
     ("two lines", f"blank 1 1 1 {ADDRESS}\ntick", "bad line"),
-    ("a text that does not fit", f"publish 3 2 {b'[fo9]A'.hex()} - 0 0 1 1 1 {ADDRESS}",
-     "failed at step 5: the row has status 5, error"),
+    (
+        "a text that does not fit",
+        f"publish 3 2 {b'[fo9]A'.hex()} - 0 0 1 1 1 {ADDRESS}",
+        "failed at step 5: the row has status 5, error",
+    ),
 ]
 
 
@@ -57,7 +63,8 @@ def test_commands_end_in_words(tmp_path: pathlib.Path, where: str) -> None:
 
 
 def test_a_co_process_is_asked_for_its_ledger_where_the_news_of_it_are_wanted(
-        tmp_path: pathlib.Path, monkeypatch: pytest.MonkeyPatch) -> None:
+    tmp_path: pathlib.Path, monkeypatch: pytest.MonkeyPatch
+) -> None:
     asked: list[bytes] = []
     plain = CoProcess.write
 
@@ -178,8 +185,9 @@ def test_of_two_that_think_they_drive_a_sign_one_goes_on(tmp_path: pathlib.Path,
         assert at.store.how(command) == "accepted" and len(set(at.live.accepted)) == 1
 
 
-def test_a_new_centre_where_lines_grew_long(tmp_path: pathlib.Path, where: str,
-                                            monkeypatch: pytest.MonkeyPatch) -> None:
+def test_a_new_centre_where_lines_grew_long(
+    tmp_path: pathlib.Path, where: str, monkeypatch: pytest.MonkeyPatch
+) -> None:
     monkeypatch.setattr(session, "MOST_LINES", 3)
     with bench(tmp_path, where) as at:
         worker = at.worker()
@@ -216,8 +224,9 @@ def test_what_cannot_be_begun_waits_for_its_lease(tmp_path: pathlib.Path, where:
         assert at.store.run("SELECT holder FROM signs") == [(worker.name,)]
 
 
-def test_no_community_is_said_or_kept_beside_the_lines(tmp_path: pathlib.Path, where: str,
-                                                       capfd: pytest.CaptureFixture[str]) -> None:
+def test_no_community_is_said_or_kept_beside_the_lines(
+    tmp_path: pathlib.Path, where: str, capfd: pytest.CaptureFixture[str]
+) -> None:
     words = "r3ad-c0mmun1ty", "wr1te-c0mmun1ty"
     text = re.sub(rb"(?m)^communities .*$", " ".join(("communities", *words)).encode(), TEXT)
     with bench(tmp_path, where, text=text) as at:

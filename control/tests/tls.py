@@ -26,9 +26,25 @@ def openssl(*words: str, told: bytes = b"") -> bytes:
 def certificate(folder: pathlib.Path) -> pathlib.Path:
     """A certificate of the example's name that nobody else has signed, and its key beside it."""
     made = folder / "certificate.pem"
-    openssl("req", "-x509", "-newkey", "ec", "-pkeyopt", "ec_paramgen_curve:prime256v1", "-nodes", "-days", "1",
-            "-subj", f"/CN={NAME}", "-addext", f"subjectAltName=DNS:{NAME}", "-keyout", str(folder / "key.pem"),
-            "-out", str(made))
+    openssl(
+        "req",
+        "-x509",
+        "-newkey",
+        "ec",
+        "-pkeyopt",
+        "ec_paramgen_curve:prime256v1",
+        "-nodes",
+        "-days",
+        "1",
+        "-subj",
+        f"/CN={NAME}",
+        "-addext",
+        f"subjectAltName=DNS:{NAME}",
+        "-keyout",
+        str(folder / "key.pem"),
+        "-out",
+        str(made),
+    )
     return made
 
 
@@ -44,9 +60,12 @@ def example(folder: pathlib.Path, port: int, service: int) -> str:
     found = EXAMPLE.search(PAGE.read_text(encoding="utf-8"))
     assert found is not None
     text = found[1]
-    for old, new in (("listen 443 ", f"listen 127.0.0.1:{port} "), (f"/etc/ssl/{NAME}.pem", f"{folder}/certificate.pem"),
-                     (f"/etc/ssl/private/{NAME}.key", f"{folder}/key.pem"),
-                     ("http://127.0.0.1:8080", f"http://127.0.0.1:{service}")):
+    for old, new in (
+        ("listen 443 ", f"listen 127.0.0.1:{port} "),
+        (f"/etc/ssl/{NAME}.pem", f"{folder}/certificate.pem"),
+        (f"/etc/ssl/private/{NAME}.key", f"{folder}/key.pem"),
+        ("http://127.0.0.1:8080", f"http://127.0.0.1:{service}"),
+    ):
         assert text.count(old) == 1, old
         text = text.replace(old, new)
     return text
@@ -56,8 +75,10 @@ def settings(folder: pathlib.Path, port: int, service: int) -> str:
     """A whole file of nginx around the example."""
     places = "\n".join(f"    {one}_temp_path {folder}/{one};" for one in TEMPORARY)
     who = "user root;\n" if os.geteuid() == 0 else ""
-    return (f"{who}daemon off;\npid {folder}/pid;\nevents {{}}\nhttp {{\n    access_log {folder}/access;\n{places}\n"
-            f"{example(folder, port, service)}}}\n")
+    return (
+        f"{who}daemon off;\npid {folder}/pid;\nevents {{}}\nhttp {{\n    access_log {folder}/access;\n{places}\n"
+        f"{example(folder, port, service)}}}\n"
+    )
 
 
 @contextlib.contextmanager
@@ -66,8 +87,10 @@ def nginx(folder: pathlib.Path, service: int) -> Iterator[int]:
     certificate(folder)
     port, log = free_port(), folder / "nginx.log"
     (folder / "nginx.conf").write_text(settings(folder, port, service))
-    running = subprocess.Popen(["setpriv", "--pdeathsig=TERM", "nginx", "-e", str(log), "-p", str(folder), "-c",
-                                str(folder / "nginx.conf")], stdin=subprocess.DEVNULL)
+    running = subprocess.Popen(
+        ["setpriv", "--pdeathsig=TERM", "nginx", "-e", str(log), "-p", str(folder), "-c", str(folder / "nginx.conf")],
+        stdin=subprocess.DEVNULL,
+    )
     try:
         until_answers(port)
         yield port

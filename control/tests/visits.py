@@ -23,8 +23,16 @@ from control.web.settings import Settings, zone_of
 PROGRAM = os.environ.get("SIGNTOOL", str(SIGNTOOL))
 READER, WRITER = "r3ad-c0mmun1ty", "wr1te-c0mmun1ty"
 PASSWORD = "a password of tests"
-SHOWN = {"source": "0300019a66", "mode": 8, "requester": "c0000201", "text": b"FOG".hex(), "owner": b"me".hex(),
-         "beacon": 0, "pixel": 0, "priority": 100}
+SHOWN = {
+    "source": "0300019a66",
+    "mode": 8,
+    "requester": "c0000201",
+    "text": b"FOG".hex(),
+    "owner": b"me".hex(),
+    "beacon": 0,
+    "pixel": 0,
+    "priority": 100,
+}
 NAMES = ("one", "<b>two</b>", "gantry")
 TOKEN = re.compile(r'name="token" value="([0-9a-f]{64})"')
 
@@ -34,9 +42,11 @@ def entered(folder: pathlib.Path) -> pathlib.Path:
     for name in ("roadside", "gantry"):
         text = (TOP / f"signs/{name}.sign").read_text()
         (folder / f"{name}.sign").write_text(re.sub(r"(?m)^communities .*$", f"communities {READER} {WRITER}", text))
-    signs = [f'[[sign]]\nname = "{name}"\nplace = "at <i>{port}</i>"\naddress = "127.0.0.1:{port}"\n'
-             f'description = "{"gantry" if name == "gantry" else "roadside"}.sign"\n'
-             for port, name in enumerate(NAMES, 19161)]
+    signs = [
+        f'[[sign]]\nname = "{name}"\nplace = "at <i>{port}</i>"\naddress = "127.0.0.1:{port}"\n'
+        f'description = "{"gantry" if name == "gantry" else "roadside"}.sign"\n'
+        for port, name in enumerate(NAMES, 19161)
+    ]
     (folder / "fleet.toml").write_text("\n".join(signs))
     return folder / "fleet.toml"
 
@@ -102,8 +112,14 @@ class Bench:
 
     def table(self, row: int, reading: int = -3, priority: int = 9, number: int = 1) -> None:
         """A sign says a row of its table."""
-        held = {"text": b"FOG".hex(), "owner": b"me".hex(), "checksum": 0x9A66, "beacon": 0, "pixel": 0,
-                "priority": priority}
+        held = {
+            "text": b"FOG".hex(),
+            "owner": b"me".hex(),
+            "checksum": 0x9A66,
+            "beacon": 0,
+            "pixel": 0,
+            "priority": priority,
+        }
         self.store.read_rows([RowSaid(row, 3, number, reading, 4, json.dumps(held))])
 
     @contextlib.asynccontextmanager

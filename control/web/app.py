@@ -11,7 +11,7 @@ from aiohttp import web
 
 from ..database import Failed, Taken
 from ..users import Role
-from . import compose, log_pages, logins, people, picture_pages, record_pages, send, sign_pages, sign_in, wall
+from . import compose, log_pages, logins, people, picture_pages, record_pages, send, sign_in, sign_pages, wall
 from .events import Hub, events
 from .room import HERE, ROOM, Room, room_of
 from .security import prepare
@@ -135,4 +135,3 @@ def application(room: Room) -> web.Application:
     app.on_shutdown.append(end_streams)
     app.cleanup_ctx.append(hub_running)
     return app
-

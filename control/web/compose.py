@@ -37,8 +37,8 @@ class Look:
 
 def marked(text: str, offset: int) -> tuple[str, str, str]:
     """The text before, at and after a place: a whole tag, or one character."""
-    end = text.find("]", offset) + 1 if text[offset:offset + 1] == "[" else offset + 1
-    if text[offset:offset + 2] == "[[" or not end:
+    end = text.find("]", offset) + 1 if text[offset : offset + 1] == "[" else offset + 1
+    if text[offset : offset + 2] == "[[" or not end:
         end = offset + 1
     return text[:offset], text[offset:end], text[end:]
 
@@ -58,8 +58,9 @@ async def looks(room: Room, signs: tuple[int, ...], text: str) -> list[Look]:
             made.append(Look(face, names, f"/pictures/{key}/{octets.hex() or '-'}.svg"))
         else:
             offset = found.offset
-            made.append(Look(face, names, None, found.why, offset,
-                             marked(text, offset) if offset is not None else ("", "", "")))
+            made.append(
+                Look(face, names, None, found.why, offset, marked(text, offset) if offset is not None else ("", "", ""))
+            )
     return made
 
 
@@ -73,10 +74,25 @@ async def look(request: web.Request) -> web.Response:
     except (ValueError, KeyError, TypeError):
         raise web.HTTPBadRequest(text="This is no text and list of signs.") from None
     found = await looks(room, signs, text)
-    return web.json_response({"octets": len(text), "looks": [
-        {"face": one.face.key, "names": list(one.names), "src": one.src, "why": one.why, "offset": one.offset,
-         "marked": one.marked, "alt": plain_of(text.encode("latin-1", "replace")),
-         "width": one.face.width, "height": one.face.height} for one in found]})
+    return web.json_response(
+        {
+            "octets": len(text),
+            "looks": [
+                {
+                    "face": one.face.key,
+                    "names": list(one.names),
+                    "src": one.src,
+                    "why": one.why,
+                    "offset": one.offset,
+                    "marked": one.marked,
+                    "alt": plain_of(text.encode("latin-1", "replace")),
+                    "width": one.face.width,
+                    "height": one.face.height,
+                }
+                for one in found
+            ],
+        }
+    )
 
 
 def choice(room: Room) -> list[tuple[str, int]]:
@@ -89,12 +105,20 @@ async def answer(request: web.Request, draft: Draft, status: int = 200) -> web.R
     found = await looks(room, draft.signs, draft.text) if draft.text and draft.signs else []
     now = await room.connections.run(views.now)
     faces = [room.faces[row] for row in draft.signs] or list(room.faces.values())
-    return room.page(request, "compose.html", status=status, draft=draft, looks=found, signs=choice(room), now=now,
-                     most={memory: min(face.most(memory) for face in faces) for memory in (3, 4)},
-                     has_beacon=all(face.has_beacon for face in faces),
-                     has_pixel=all(face.has_pixel for face in faces),
-                     fonts=sorted(set.intersection(*(set(face.fonts) for face in faces))),
-                     permanent=faces[0].permanent if len({face.key for face in faces}) == 1 else ())
+    return room.page(
+        request,
+        "compose.html",
+        status=status,
+        draft=draft,
+        looks=found,
+        signs=choice(room),
+        now=now,
+        most={memory: min(face.most(memory) for face in faces) for memory in (3, 4)},
+        has_beacon=all(face.has_beacon for face in faces),
+        has_pixel=all(face.has_pixel for face in faces),
+        fonts=sorted(set.intersection(*(set(face.fonts) for face in faces))),
+        permanent=faces[0].permanent if len({face.key for face in faces}) == 1 else (),
+    )
 
 
 async def form(request: web.Request) -> web.Response:
@@ -104,9 +128,18 @@ async def form(request: web.Request) -> web.Response:
     again = number_of(request, "again")
     command = await room.connections.run(partial(views.command, number=again)) if again is not None else None
     if command is not None and (old := asked(command.line)).kind == "publish":
-        draft = dataclasses.replace(draft, signs=draft.signs or tuple({command.sign} & set(room.signs)),
-                                    text=text_of(old.text), memory=old.memory, number=old.number, beacon=old.beacon,
-                                    pixel=old.pixel, run=old.run, priority=old.priority, minutes=old.minutes)
+        draft = dataclasses.replace(
+            draft,
+            signs=draft.signs or tuple({command.sign} & set(room.signs)),
+            text=text_of(old.text),
+            memory=old.memory,
+            number=old.number,
+            beacon=old.beacon,
+            pixel=old.pixel,
+            run=old.run,
+            priority=old.priority,
+            minutes=old.minutes,
+        )
     return await answer(request, dataclasses.replace(draft, faults={}))
 
 
@@ -135,16 +168,31 @@ def warning(sign: SignView, draft: Draft, now: float) -> str:
 def lines(room: Room, held: Database, draft: Draft, text: bytes) -> tuple[list[Line], float]:
     found = [views.sign(held, row) for row in draft.signs]
     now = views.now(held)
-    return [Line(sign, room.picture(sign.id, text), room.picture(sign.id, sign.shown.text) if sign.shown else None,
-                 warning(sign, draft, now)) for sign in found if sign is not None], now
+    return [
+        Line(
+            sign,
+            room.picture(sign.id, text),
+            room.picture(sign.id, sign.shown.text) if sign.shown else None,
+            warning(sign, draft, now),
+        )
+        for sign in found
+        if sign is not None
+    ], now
 
 
 async def confirmation(request: web.Request, draft: Draft, text: bytes) -> web.Response:
     """The last page before it is asked for."""
     room = room_of(request)
     found, now = await room.connections.run(lambda held: lines(room, held, draft, text))
-    return room.page(request, "confirm.html", draft=draft, lines=found, now=now, shown_text=text_of(text),
-                     confirmation=secrets.token_urlsafe(18))
+    return room.page(
+        request,
+        "confirm.html",
+        draft=draft,
+        lines=found,
+        now=now,
+        shown_text=text_of(text),
+        confirmation=secrets.token_urlsafe(18),
+    )
 
 
 async def confirm(request: web.Request) -> web.Response:

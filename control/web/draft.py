@@ -38,12 +38,18 @@ class Draft:
         if self.kind == "blank":
             return f"blank {self.number} {self.minutes} {self.priority} {address}"
         if self.kind == "activate":
-            code = (self.minutes.to_bytes(2, "big") + bytes([self.priority, self.memory])
-                    + self.number.to_bytes(2, "big") + self.checksum.to_bytes(2, "big")
-                    + bytes(map(int, address.split("."))))
+            code = (
+                self.minutes.to_bytes(2, "big")
+                + bytes([self.priority, self.memory])
+                + self.number.to_bytes(2, "big")
+                + self.checksum.to_bytes(2, "big")
+                + bytes(map(int, address.split(".")))
+            )
             return f"activate {code.hex()}"
-        return (f"publish {self.memory} {self.number} {self.octets.hex() or '-'} {owner.encode('ascii').hex()}"
-                f" {self.beacon} {self.pixel} {self.run} {self.minutes} {self.priority} {address}")
+        return (
+            f"publish {self.memory} {self.number} {self.octets.hex() or '-'} {owner.encode('ascii').hex()}"
+            f" {self.beacon} {self.pixel} {self.run} {self.minutes} {self.priority} {address}"
+        )
 
 
 class Form:
@@ -103,12 +109,19 @@ def read(fields: Any, faces: Mapping[int, Face], kind: str = "publish") -> Draft
     of = [faces[row] for row in signs]
     memory = form.number("memory", 2 if kind == "activate" else CHANGEABLE, VOLATILE, CHANGEABLE, "A memory")
     least = min([255 if kind == "blank" else face.most(memory) or 16 for face in of], default=1)
-    draft = Draft(kind, signs, joined(form.word("text")), memory,
-                  form.number("number", 1, max(1, least), 1, "A blank message" if kind == "blank" else "A row"),
-                  int(form.word("beacon") == "1"), int(form.word("pixel") == "1"),
-                  form.number("run", 1, 255, 100, "A priority"),
-                  form.number("priority", 0, 255, 100 if kind == "publish" else 255, "An activation priority"),
-                  form.minutes(), form.number("checksum", 0, 65535, 0, "A checksum"))
+    draft = Draft(
+        kind,
+        signs,
+        joined(form.word("text")),
+        memory,
+        form.number("number", 1, max(1, least), 1, "A blank message" if kind == "blank" else "A row"),
+        int(form.word("beacon") == "1"),
+        int(form.word("pixel") == "1"),
+        form.number("run", 1, 255, 100, "A priority"),
+        form.number("priority", 0, 255, 100 if kind == "publish" else 255, "An activation priority"),
+        form.minutes(),
+        form.number("checksum", 0, 65535, 0, "A checksum"),
+    )
     if kind == "publish":
         check(draft, of, form.faults)
     return replace(draft, faults=form.faults)

@@ -49,10 +49,22 @@ class Face:
 def face_of_text(text: bytes) -> Face:
     held = described.described(text)
     fonts = tuple(sorted((font.number, font.height) for font in held.face.fonts))
-    permanent = tuple(Permanent(number, row.text, row.owner, row.priority)
-                      for number, row in enumerate(held.permanent, 1))
-    return Face(hashlib.sha256(OWN.sub(b"", text)).hexdigest()[:16], text, held.face.width, held.face.height, fonts,
-                held.beacons, held.pixels, (held.changeable, held.volatile), permanent, held.writer, held.swapped)
+    permanent = tuple(
+        Permanent(number, row.text, row.owner, row.priority) for number, row in enumerate(held.permanent, 1)
+    )
+    return Face(
+        hashlib.sha256(OWN.sub(b"", text)).hexdigest()[:16],
+        text,
+        held.face.width,
+        held.face.height,
+        fonts,
+        held.beacons,
+        held.pixels,
+        (held.changeable, held.volatile),
+        permanent,
+        held.writer,
+        held.swapped,
+    )
 
 
 def face_of(sign: Sign) -> Face:

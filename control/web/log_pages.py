@@ -60,19 +60,25 @@ def entries(mib: Mib, sign: Sign, face: Face, handed: Handed) -> list[Entry]:
     else:
         made.append(Entry(handed.number, handed.at, "command", asked=asked(handed.line)))
     if handed.sent is not None:
-        made.append(Entry(handed.number, handed.at, "to", fields=told(mib, handed.sent, communities),
-                          size=len(handed.sent)))
+        made.append(
+            Entry(handed.number, handed.at, "to", fields=told(mib, handed.sent, communities), size=len(handed.sent))
+        )
     return made
 
 
 def centre_of(held: Database, row: int, before: int | None) -> list[tuple[int, str, float]]:
     """The lines of the centre that had the line before a number, up to it; of the last centre for none."""
     below = before if before is not None else 2**62
-    begun = held.run("SELECT MAX(number) FROM lines WHERE sign = ? AND number < ? AND substr(line, 1, 8) = 'journal '",
-                     row, below)
+    begun = held.run(
+        "SELECT MAX(number) FROM lines WHERE sign = ? AND number < ? AND substr(line, 1, 8) = 'journal '", row, below
+    )
     first = begun[0][0] if begun and begun[0][0] is not None else 1
-    rows = held.run("SELECT number, line, at FROM lines WHERE sign = ? AND number >= ? AND number < ? ORDER BY number",
-                    row, first, below)
+    rows = held.run(
+        "SELECT number, line, at FROM lines WHERE sign = ? AND number >= ? AND number < ? ORDER BY number",
+        row,
+        first,
+        below,
+    )
     return [(views.whole(one[0]), str(one[1]), views.time_of(one[2])) for one in rows]
 
 
@@ -87,5 +93,12 @@ async def log(request: web.Request) -> web.Response:
 
     sign, said, now = await room.connections.run(found)
     first = said[0].number if said else 1
-    return room.page(request, "log.html", sign=sign, entries=list(reversed(said)), now=now, tab="log",
-                     before=first if first > 1 else None)
+    return room.page(
+        request,
+        "log.html",
+        sign=sign,
+        entries=list(reversed(said)),
+        now=now,
+        tab="log",
+        before=first if first > 1 else None,
+    )

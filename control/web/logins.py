@@ -40,16 +40,22 @@ def attempt(held: Database, name: str, address: str) -> int | None:
     """The number of an attempt, which counts as failed until it is taken back; None where there were too many. Each is
     counted before its password is looked at, so that many at once are no way around."""
     since = "at > {clock} - ?"
-    counts = (("name = ? AND address = ?", (hidden(name), address), MOST_OF_BOTH),
-              ("address = ?", (address,), MOST_OF_ADDRESS), ("name = ?", (hidden(name),), MOST_OF_NAME))
+    counts = (
+        ("name = ? AND address = ?", (hidden(name), address), MOST_OF_BOTH),
+        ("address = ?", (address,), MOST_OF_ADDRESS),
+        ("name = ?", (hidden(name),), MOST_OF_NAME),
+    )
     with held.transaction(is_alone=True):
-        held.run("DELETE FROM failed_logins WHERE at < {clock} - ? OR at > {clock} + ?", KEPT, SLACK)  # the clock jumped
+        held.run(
+            "DELETE FROM failed_logins WHERE at < {clock} - ? OR at > {clock} + ?", KEPT, SLACK
+        )  # the clock jumped
         for where, values, most in counts:
             found = held.run(f"SELECT count(*) FROM failed_logins WHERE {where} AND {since}", *values, WINDOW)
             if int(found[0][0] or 0) >= most:
                 return None
-        rows = held.run("INSERT INTO failed_logins (at, name, address) VALUES ({clock}, ?, ?) RETURNING id",
-                        hidden(name), address)
+        rows = held.run(
+            "INSERT INTO failed_logins (at, name, address) VALUES ({clock}, ?, ?) RETURNING id", hidden(name), address
+        )
         return int(rows[0][0] or 0)
 
 
@@ -71,9 +77,14 @@ def begin(held: Database, name: str, address: str) -> str:
 
 def find(held: Database, cookie: str) -> Visitor | None:
     """Who a cookie is of, where its log-in has not ended. One that begins at a time to come has: the clock jumped."""
-    rows = held.run("SELECT users.name, users.role FROM logins JOIN users ON users.name = logins.name"
-                    " WHERE logins.id = ? AND logins.ended IS NULL AND logins.begun > {clock} - ?"
-                    " AND logins.begun <= {clock} + ? AND users.disabled = 0", hidden(cookie), LASTS, SLACK)
+    rows = held.run(
+        "SELECT users.name, users.role FROM logins JOIN users ON users.name = logins.name"
+        " WHERE logins.id = ? AND logins.ended IS NULL AND logins.begun > {clock} - ?"
+        " AND logins.begun <= {clock} + ? AND users.disabled = 0",
+        hidden(cookie),
+        LASTS,
+        SLACK,
+    )
     return Visitor(str(rows[0][0]), Role.of(str(rows[0][1])), cookie) if rows else None
 
 

@@ -5,9 +5,11 @@ from aiohttp import web
 from .room import room_of
 
 PAGES = ("1", "2", "3", "4", "5", "6")
-NONE = ('<svg xmlns="http://www.w3.org/2000/svg" viewBox="0 0 320 90" width="320" height="90">'
-        '<rect width="320" height="90" fill="#202020"/><text x="160" y="50" fill="#e0e0e0" text-anchor="middle"'
-        ' font-family="sans-serif" font-size="15">no picture of this text</text></svg>')
+NONE = (
+    '<svg xmlns="http://www.w3.org/2000/svg" viewBox="0 0 320 90" width="320" height="90">'
+    '<rect width="320" height="90" fill="#202020"/><text x="160" y="50" fill="#e0e0e0" text-anchor="middle"'
+    ' font-family="sans-serif" font-size="15">no picture of this text</text></svg>'
+)
 
 
 async def picture(request: web.Request) -> web.Response:
@@ -22,6 +24,7 @@ async def picture(request: web.Request) -> web.Response:
     if not found.is_good:
         return web.Response(text=NONE, content_type="image/svg+xml")
     if "gzip" in request.headers.get("Accept-Encoding", ""):
-        return web.Response(body=found.svg, content_type="image/svg+xml",
-                            headers={**headers, "Content-Encoding": "gzip"})
+        return web.Response(
+            body=found.svg, content_type="image/svg+xml", headers={**headers, "Content-Encoding": "gzip"}
+        )
     return web.Response(body=found.plain(), content_type="image/svg+xml", headers=headers)

@@ -23,23 +23,33 @@ def number_of(request: web.Request, key: str) -> int | None:
 async def history(request: web.Request) -> web.Response:
     room = room_of(request)
     outcome, who = request.query.get("outcome", ""), request.query.get("who", "")
-    wanted = Wanted(number_of(request, "sign"), who if who.isprintable() else "",
-                    outcome if outcome in OUTCOMES else "", number_of(request, "before"), MOST)
+    wanted = Wanted(
+        number_of(request, "sign"),
+        who if who.isprintable() else "",
+        outcome if outcome in OUTCOMES else "",
+        number_of(request, "before"),
+        MOST,
+    )
 
     def found(held: Database) -> tuple[list[views.CommandView], list[str], float]:
         return views.commands(held, wanted), past.people(held), views.now(held)
 
     rows, people, now = await room.connections.run(found)
     signs = sorted((sign.name, row) for row, sign in room.signs.items())
-    return room.page(request, "history.html", rows=rows, people=people, now=now, wanted=wanted, signs=signs,
-                     is_last=len(rows) < MOST)
+    return room.page(
+        request, "history.html", rows=rows, people=people, now=now, wanted=wanted, signs=signs, is_last=len(rows) < MOST
+    )
 
 
 def code_words(code: str) -> dict[str, str]:
     """What an activation code says."""
     octets = bytes.fromhex(code)
-    return {"row": words.source_word(octets[3:8]), "minutes": words.minutes_word(int.from_bytes(octets[:2], "big")),
-            "priority": str(octets[2]), "by": words.address_word(octets[8:])}
+    return {
+        "row": words.source_word(octets[3:8]),
+        "minutes": words.minutes_word(int.from_bytes(octets[:2], "big")),
+        "priority": str(octets[2]),
+        "by": words.address_word(octets[8:]),
+    }
 
 
 def outcome_word(room: Room, outcome: str) -> str:

@@ -56,10 +56,24 @@ class Room:
 
     def environment(self) -> jinja2.Environment:
         """Templates, which escape all that is put into them."""
-        made = jinja2.Environment(loader=jinja2.FileSystemLoader(HERE / "templates"), autoescape=True,
-                                  undefined=jinja2.StrictUndefined, trim_blocks=True, lstrip_blocks=True)
-        made.globals.update(room=self, clock=self.clock, words=words, plain_of=plain_of, text_of=words.text_of,
-                            asked=words.asked, states=states, because=because, with_step=with_step)
+        made = jinja2.Environment(
+            loader=jinja2.FileSystemLoader(HERE / "templates"),
+            autoescape=True,
+            undefined=jinja2.StrictUndefined,
+            trim_blocks=True,
+            lstrip_blocks=True,
+        )
+        made.globals.update(
+            room=self,
+            clock=self.clock,
+            words=words,
+            plain_of=plain_of,
+            text_of=words.text_of,
+            asked=words.asked,
+            states=states,
+            because=because,
+            with_step=with_step,
+        )
         return made
 
     # ---- pages
@@ -80,8 +94,9 @@ class Room:
         """A whole page for who asks."""
         visitor: Visitor | None = request.get("visitor")
         token = self.seal.token(visitor.login) if visitor else ""
-        text = self.html(template, visitor=visitor, token=token, path=request.path,
-                         **{"now": None, "view": "", **values})
+        text = self.html(
+            template, visitor=visitor, token=token, path=request.path, **{"now": None, "view": "", **values}
+        )
         return web.Response(text=text, content_type="text/html", charset="utf-8", status=status)
 
     # ---- what pages ask for

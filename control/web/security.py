@@ -9,8 +9,10 @@ from aiohttp import web
 
 from ..database import Database, Taken
 
-POLICY = ("default-src 'none'; script-src 'self'; style-src 'self'; img-src 'self'; connect-src 'self';"
-          " form-action 'self'; frame-ancestors 'none'; base-uri 'none'")
+POLICY = (
+    "default-src 'none'; script-src 'self'; style-src 'self'; img-src 'self'; connect-src 'self';"
+    " form-action 'self'; frame-ancestors 'none'; base-uri 'none'"
+)
 HEADERS = {
     "Content-Security-Policy": POLICY,
     "X-Content-Type-Options": "nosniff",
@@ -54,8 +56,15 @@ class Seal:
 
     def set(self, response: web.StreamResponse, name: str, value: str, seconds: int) -> None:
         """A cookie with its signature: no script reads it, and no other site sends it."""
-        response.set_cookie(self.prefix + name, f"{value}.{self.sum(name, value)}", max_age=seconds, path="/",
-                            httponly=True, samesite="Strict", secure=self.is_secure)
+        response.set_cookie(
+            self.prefix + name,
+            f"{value}.{self.sum(name, value)}",
+            max_age=seconds,
+            path="/",
+            httponly=True,
+            samesite="Strict",
+            secure=self.is_secure,
+        )
 
     def get(self, request: web.Request, name: str) -> str | None:
         """What a cookie says, if it was signed here."""
@@ -65,8 +74,9 @@ class Seal:
 
     def drop(self, response: web.StreamResponse, name: str) -> None:
         """Has the browser forget a cookie, in the words that it was set with: else it is not taken for that one."""
-        response.set_cookie(self.prefix + name, "", max_age=0, path="/", httponly=True, samesite="Strict",
-                            secure=self.is_secure)
+        response.set_cookie(
+            self.prefix + name, "", max_age=0, path="/", httponly=True, samesite="Strict", secure=self.is_secure
+        )
 
     def token(self, of: str) -> str:
         """The token of the forms of a cookie."""

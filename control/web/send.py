@@ -39,12 +39,20 @@ def ask(held: Database, visitor: Visitor, lines: list[tuple[int, str, str]], con
     try:
         with held.transaction():
             what = asked(lines[0][2]).what
-            rows = held.run("INSERT INTO batches (confirmation, who, at, what) VALUES (?, ?, {clock}, ?) RETURNING id",
-                            confirmation, visitor.name, what)
+            rows = held.run(
+                "INSERT INTO batches (confirmation, who, at, what) VALUES (?, ?, {clock}, ?) RETURNING id",
+                confirmation,
+                visitor.name,
+                what,
+            )
             batch = int(rows[0][0] or 0)
             for sign, name, line in lines:
-                found = held.run("INSERT INTO commands (sign, who, at, line) VALUES (?, ?, {clock}, ?) RETURNING id",
-                                 sign, visitor.name, line)
+                found = held.run(
+                    "INSERT INTO commands (sign, who, at, line) VALUES (?, ?, {clock}, ?) RETURNING id",
+                    sign,
+                    visitor.name,
+                    line,
+                )
                 held.run("INSERT INTO batch_commands (batch, command) VALUES (?, ?)", batch, found[0][0])
                 held.run("INSERT INTO audit (at, who, what) VALUES ({clock}, ?, ?)", visitor.name, f"{name}: {line}")
             return batch
@@ -112,7 +120,8 @@ def parts(room: Room, held: Database, number: int) -> dict[str, str]:
     """What an event may replace."""
     _, made, _ = parts_of(room, held, number)
     return {f"command-{one.command.id}": room.part("parts.html", "part", one) for one in made} | {
-        "summary": room.part("parts.html", "summary", made)}
+        "summary": room.part("parts.html", "summary", made)
+    }
 
 
 async def withdraw(request: web.Request) -> web.StreamResponse:

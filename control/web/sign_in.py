@@ -30,8 +30,9 @@ def shown(request: web.Request, then: str, fault: str = "", status: int = 200, n
     """The form, with a cookie of its own."""
     room = room_of(request)
     before = room.seal.get(request, BEFORE) or secrets.token_urlsafe(18)
-    answer = room.page(request, "login.html", status=status, then=then, fault=fault, name=name,
-                       form_token=room.seal.token(before))
+    answer = room.page(
+        request, "login.html", status=status, then=then, fault=fault, name=name, form_token=room.seal.token(before)
+    )
     room.seal.set(answer, BEFORE, before, logins.LASTS)
     return answer
 

@@ -36,8 +36,16 @@ def overviewed(room: Room, held: Database, row: int) -> Overview:
 async def overview(request: web.Request) -> web.Response:
     room, row = room_of(request), sign_of(request)
     found = await room.connections.run(lambda held: overviewed(room, held, row))
-    return room.page(request, "sign.html", it=found, sign=found.sign, now=found.now, face=room.faces[row],
-                     tab="overview", view=f"sign/{row}")
+    return room.page(
+        request,
+        "sign.html",
+        it=found,
+        sign=found.sign,
+        now=found.now,
+        face=room.faces[row],
+        tab="overview",
+        view=f"sign/{row}",
+    )
 
 
 def parts(room: Room, held: Database, row: int) -> dict[str, str]:

@@ -10,7 +10,6 @@ from ..views import CommandView, SignView
 from .progress import Step, states
 from .room import Room, room_of
 
-
 WIDE = 160  # columns of a matrix that takes two places
 
 
@@ -43,8 +42,7 @@ def card(room: Room, sign: SignView, now: float, open_: list[CommandView]) -> Ca
     picture = room.picture(sign.id, sign.shown.text) if sign.shown else None
     command = next((one for one in open_ if one.number is not None), open_[0] if open_ else None)
     step = next((one for one in states(command) if one.state == "now"), None) if command else None
-    return Card(sign, picture, sign.is_stale(now), command, step, len(open_),
-                room.faces[sign.id].width > WIDE)
+    return Card(sign, picture, sign.is_stale(now), command, step, len(open_), room.faces[sign.id].width > WIDE)
 
 
 def cards(room: Room, held: Database) -> tuple[list[Card], float]:
@@ -69,4 +67,5 @@ def parts(room: Room, held: Database) -> dict[str, str]:
     """What an event may replace: each card."""
     found, _ = cards(room, held)
     return {f"sign-{one.sign.id}": room.card(one) for one in found} | {
-        "counts": room.part("parts.html", "counts", found)}
+        "counts": room.part("parts.html", "counts", found)
+    }

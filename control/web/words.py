@@ -109,14 +109,21 @@ def asked(line: str) -> Asked:
     try:
         if words[0] == "publish" and len(words) == 11:
             memory, number, beacon, pixel, run, minutes, priority = map(int, [*words[1:3], *words[5:10]])
-            return Asked("publish", memory, number, octets(words[3]), octets(words[4]), beacon, pixel, run, minutes,
-                         priority)
+            return Asked(
+                "publish", memory, number, octets(words[3]), octets(words[4]), beacon, pixel, run, minutes, priority
+            )
         if words[0] == "blank" and len(words) == 5:
             return Asked("blank", 7, int(words[1]), minutes=int(words[2]), priority=int(words[3]))
         if words[0] == "activate" and len(words) == 2 and len(octets(words[1])) == 12:
             code = octets(words[1])
-            return Asked("activate", code[3], int.from_bytes(code[4:6], "big"),
-                         minutes=int.from_bytes(code[:2], "big"), priority=code[2], code=words[1])
+            return Asked(
+                "activate",
+                code[3],
+                int.from_bytes(code[4:6], "big"),
+                minutes=int.from_bytes(code[:2], "big"),
+                priority=code[2],
+                code=words[1],
+            )
     except ValueError:
         pass
     return Asked("other")

@@ -25,7 +25,8 @@ def free_memory() -> float:
 class Way(Protocol):
     """A way to prove a crate, once those below it are proved."""
 
-    def begin(self, crate: Crate, jobs: int, is_first: bool) -> Running: ...
+    def begin(self, crate: Crate, jobs: int, is_first: bool) -> Running:
+        ...
 
 
 class Schedule:

@@ -96,7 +96,9 @@ def compare(trial: Trial, name: str, end: str, description: str, lines: list[str
     late.start()
     found, wanted = (lines_of(processes[which].stdout) for which in ("ours", "theirs"))
     pairs = enumerate(itertools.zip_longest(found, wanted), 1)
-    other = next(((at, one, two) for at, (one, two) in pairs if one is None or two is None or one != as_told(two)), None)
+    other = next(
+        ((at, one, two) for at, (one, two) in pairs if one is None or two is None or one != as_told(two)), None
+    )
     if other:
         kill(processes.values())
     statuses = [process.wait() for process in processes.values()]

@@ -8,12 +8,12 @@ from typing import Iterable
 from model import wire
 
 from . import endings
-from .questions import Questions
 from .files import NotKept
 from .journal import Journal
 from .log import Log
 from .mib import Mib
 from .process import CoProcess
+from .questions import Questions
 from .refusal import Refusal, reason, say, tell
 from .sockets import Address, Waiting, named, received, sent
 from .texts import ended, published

@@ -7,8 +7,21 @@ from typing import Iterator
 
 from . import older, reading
 from .clock import Moment
-from .files import NEW, NotKept, cut, kept_aside, opened, opened_to_read, own, put_aside, stands, synced_folder
-from .files import WRITTEN, refusal, written_anew
+from .files import (
+    NEW,
+    WRITTEN,
+    NotKept,
+    cut,
+    kept_aside,
+    opened,
+    opened_to_read,
+    own,
+    put_aside,
+    refusal,
+    stands,
+    synced_folder,
+    written_anew,
+)
 from .owed import MOST_EXACT as MOST_OWED
 from .owed import Owed
 from .reading import Found

@@ -9,8 +9,12 @@ from .objects import DMS
 
 BUSY, NO_NUMBER, BAD_COMMAND = "a job is not done yet", "no request number is left", "a value is out of its range: "
 ODD, OTHER_CHECKSUM, STILL_VALIDATING, NO_REPLY, RESTARTED = (
-    "the reply does not answer what was asked", "the row has another checksum", "the row is still being validated",
-    "no reply", "the central system was restarted")
+    "the reply does not answer what was asked",
+    "the row has another checksum",
+    "the row is still being validated",
+    "no reply",
+    "the central system was restarted",
+)
 LAST_NUMBER = 2_147_483_647
 POLLS, SENDS, PATIENCE = 10, 3, 3
 Publication = tuple[int, int, bytes, bytes, int, int, int]  # memory, number, text, owner, beacon, pixel, priority
@@ -177,8 +181,15 @@ def bad_value(kind: str, held: Any) -> str | None:
     """The first value of a command that is out of its range, by its word in the form of the line."""
     if kind == "publish":
         memory, number, text, owner, beacon, pixel, run, *_ = held
-        good = {"MEMORY": memory in (CHANGEABLE, VOLATILE), "NUMBER": number > 0, "TEXT": len(text) <= 512,
-                "OWNER": len(owner) <= 127, "BEACON": beacon <= 1, "PIXEL": pixel <= 1, "RUN": run > 0}
+        good = {
+            "MEMORY": memory in (CHANGEABLE, VOLATILE),
+            "NUMBER": number > 0,
+            "TEXT": len(text) <= 512,
+            "OWNER": len(owner) <= 127,
+            "BEACON": beacon <= 1,
+            "PIXEL": pixel <= 1,
+            "RUN": run > 0,
+        }
         return next((name for name, is_good in good.items() if not is_good), None)
     return "NUMBER" if kind == "blank" and not 1 <= held[0] <= 255 else None
 
@@ -210,7 +221,11 @@ def request(job: Job, swapped: bool) -> tuple[int, list[wire.Binding]]:
     if job.step in (1, 4):
         return wire.SET, [(cell(9), (wire.INTEGER, 6 if job.step == 1 else 7))]
     if job.step == 3:
-        return wire.SET, [(cell(3), (wire.OCTETS, text)), (cell(4), (wire.OCTETS, owner)),
-                          (cell(6), (wire.INTEGER, beacon)), (cell(7), (wire.INTEGER, pixel)),
-                          (cell(8), (wire.INTEGER, run))]
+        return wire.SET, [
+            (cell(3), (wire.OCTETS, text)),
+            (cell(4), (wire.OCTETS, owner)),
+            (cell(6), (wire.INTEGER, beacon)),
+            (cell(7), (wire.INTEGER, pixel)),
+            (cell(8), (wire.INTEGER, run)),
+        ]
     return wire.GET, [(cell(5 if job.step == 6 else 9), (wire.NULL, b""))]

@@ -28,7 +28,7 @@ class Changes(Objects):
     def change(self, name: wire.Name, value: wire.Tagged, is_writer: bool) -> Change:
         """What a binding writes: (kind, ..) with its range looked at; raises what it is refused with."""
         tag, held = value
-        rest = name[len(DMS):] if name[:len(DMS)] == DMS else ()
+        rest = name[len(DMS) :] if name[: len(DMS)] == DMS else ()
         if not is_writer or self.value(name) is None:
             raise Refused(wire.NO_SUCH_NAME)
 
@@ -41,15 +41,25 @@ class Changes(Objects):
             if tag != wire.OCTETS or not least <= len(held) <= most:
                 raise Refused(wire.BAD_VALUE)
             return held
+
         if len(rest) == 6:
             column, memory, row = rest[3], rest[4], rest[5]
             if memory not in (CHANGEABLE, VOLATILE) or column in (1, 2, 5):
                 raise Refused(wire.NO_SUCH_NAME)
             if column == 9:
                 return "command", "status", (memory, row, number(6, 8))
-            read = {3: lambda: octets(0, 512), 4: lambda: octets(0, 127), 6: lambda: number(0, 1), 7: lambda: number(0, 1),
-                    8: lambda: number(1, 255)}[column]
-            return "field", {3: "text", 4: "owner", 6: "beacon", 7: "pixel", 8: "priority"}[column], (memory, row, read())
+            read = {
+                3: lambda: octets(0, 512),
+                4: lambda: octets(0, 127),
+                6: lambda: number(0, 1),
+                7: lambda: number(0, 1),
+                8: lambda: number(1, 255),
+            }[column]
+            return (
+                "field",
+                {3: "text", 4: "owner", 6: "beacon", 7: "pixel", 8: "priority"}[column],
+                (memory, row, read()),
+            )
         place = rest[:2]
         if place[0] == 4 and place[1] <= 9:
             least, most = {1: (0, 9), 2: (0, 9), 5: (1, 255), 6: (2, 4), 7: (2, 4)}.get(place[1], (0, 255))
@@ -74,7 +84,7 @@ class Changes(Objects):
         for at, (name, value) in enumerate(message.bindings, 1):
             try:
                 change = self.change(name, value, message.community == self.writer)
-                if name in (earlier for earlier, _ in message.bindings[:at - 1]):
+                if name in (earlier for earlier, _ in message.bindings[: at - 1]):
                     raise Refused(wire.GENERAL)
                 if change[0] == "command":
                     if command is not None:

@@ -32,7 +32,9 @@ class MessageId:
 
     @staticmethod
     def of(octets: bytes, swapped: bool) -> "MessageId":
-        return MessageId(octets[0], int.from_bytes(octets[1:3], "big"), int.from_bytes(octets[3:5], "little" if swapped else "big"))
+        return MessageId(
+            octets[0], int.from_bytes(octets[1:3], "big"), int.from_bytes(octets[3:5], "little" if swapped else "big")
+        )
 
 
 @dataclass(frozen=True)
@@ -47,7 +49,9 @@ class Activation:
 
     @staticmethod
     def of(octets: bytes, swapped: bool) -> "Activation":
-        return Activation(int.from_bytes(octets[:2], "big"), octets[2], MessageId.of(octets[3:8], swapped), bytes(octets[8:12]))
+        return Activation(
+            int.from_bytes(octets[:2], "big"), octets[2], MessageId.of(octets[3:8], swapped), bytes(octets[8:12])
+        )
 
 
 BLANK_1 = MessageId(BLANK, 1, 0)

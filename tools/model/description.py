@@ -40,7 +40,9 @@ def is_refused(described: Description) -> bool:
     face = described.face
     back, colour, _, _, font, line, page, _, _ = face.defaults
     names = [font.number for font in face.fonts]
-    if not (1 <= face.width <= 256 and 1 <= face.height <= 64 and 1 <= len(names) <= 4 and len(set(names)) == len(names)):
+    if not (
+        1 <= face.width <= 256 and 1 <= face.height <= 64 and 1 <= len(names) <= 4 and len(set(names)) == len(names)
+    ):
         return True
     if not (back <= 9 and colour <= 9 and 2 <= line <= 4 and 2 <= page <= 4 and font in names):
         return True
@@ -50,7 +52,13 @@ def is_refused(described: Description) -> bool:
     if len(described.permanent) > 16 or described.changeable > 64 or described.volatile > 16:
         return True
     for row in described.permanent:
-        if len(row.text) > 512 or len(row.owner) > 127 or row.beacon > described.beacons or row.pixel > described.pixels or not row.priority:
+        if (
+            len(row.text) > 512
+            or len(row.owner) > 127
+            or row.beacon > described.beacons
+            or row.pixel > described.pixels
+            or not row.priority
+        ):
             return True
         if layout.laid_out(face, face.defaults, row.text)[1]:
             return True

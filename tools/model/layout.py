@@ -106,7 +106,7 @@ def spans_fit(sizes: dict[int, int], room: int) -> bool:
     if any(size > room for size in sizes.values()):
         return False
     spans = [(begin(part, room, size), begin(part, room, size) + size) for part, size in sizes.items() if size]
-    return all(a[1] <= b[0] or b[1] <= a[0] for at, a in enumerate(spans) for b in spans[at + 1:])
+    return all(a[1] <= b[0] or b[1] <= a[0] for at, a in enumerate(spans) for b in spans[at + 1 :])
 
 
 class Page:
@@ -130,7 +130,9 @@ class Page:
         if not spans_fit(heights, face.height):
             return False
         lines = [line for lines in self.parts.values() for line in lines]
-        return all(spans_fit({part: line_width(found) for part, found in line.parts().items()}, face.width) for line in lines)
+        return all(
+            spans_fit({part: line_width(found) for part, found in line.parts().items()}, face.width) for line in lines
+        )
 
 
 class Layout:
@@ -261,7 +263,10 @@ def cells(face: Face, page: Page) -> list[list[Cell | None]]:
                     for y, row in enumerate(rows):
                         for x in range(width):
                             if row[x]:
-                                lit[top + line.height() - character.font.height + y][left + x] = (character.colour, character.flash)
+                                lit[top + line.height() - character.font.height + y][left + x] = (
+                                    character.colour,
+                                    character.flash,
+                                )
                     left += width
             top += line.height()
     return lit

@@ -95,7 +95,7 @@ def items(text: bytes) -> tuple[list[tuple[Item, int]], Fault | None]:
         if octet not in b"[]":
             spots.append((("character", octet), at))
             at += 1
-        elif text[at:at + 2] in (b"[[", b"]]"):
+        elif text[at : at + 2] in (b"[[", b"]]"):
             spots.append((("character", octet), at))
             at += 2
         elif octet == ord("]"):
@@ -104,10 +104,10 @@ def items(text: bytes) -> tuple[list[tuple[Item, int]], Fault | None]:
             end = text.find(b"]", at)
             if end < 0:
                 return spots, (UNSUPPORTED_TAG, at)
-            body = text[at + 1:end]
+            body = text[at + 1 : end]
             item = tag(body)
             if item is None:
-                begins = any(body[:len(known)].lower() == known.encode() for known in NAMES)
+                begins = any(body[: len(known)].lower() == known.encode() for known in NAMES)
                 return spots, (UNSUPPORTED_VALUE if begins else UNSUPPORTED_TAG, at)
             spots.append((item, at))
             at = end + 1

@@ -17,7 +17,11 @@ class Objects(Showing):
 
     def instances(self) -> list[wire.Name]:
         """All names, in order."""
-        scalars = [(2, 3), (2, 4)] + [(4, n) for n in (1, 2, 3, 4, 5, 6, 7, 8, 9, 11)] + [(5, n) for n in (1, 2, 3, 4, 5, 6, 7)]
+        scalars = (
+            [(2, 3), (2, 4)]
+            + [(4, n) for n in (1, 2, 3, 4, 5, 6, 7, 8, 9, 11)]
+            + [(5, n) for n in (1, 2, 3, 4, 5, 6, 7)]
+        )
         after = [(5, 9)] + [(6, n) for n in (3, 4, 5, 6, 7, 8, 9, 10, 12, 13, 14, 15, 17, 18, 19, 24)]
         rows = [(memory, n + 1) for memory in (PERMANENT, CHANGEABLE, VOLATILE) for n in range(len(self.rows[memory]))]
         rows += [(CURRENT, 1)] + [(BLANK, n) for n in range(1, 256)]
@@ -31,9 +35,9 @@ class Objects(Showing):
 
     def value(self, name: wire.Name) -> wire.Tagged | None:
         """The value of an instance, with its tag; None where there is no such instance."""
-        if name[:len(DMS)] != DMS:
+        if name[: len(DMS)] != DMS:
             return None
-        rest = name[len(DMS):]
+        rest = name[len(DMS) :]
         if len(rest) == 6 and rest[:3] == (5, 8, 1):
             return self.cell(*rest[3:])
         if len(rest) != 3 or rest[2] != 0:
@@ -46,16 +50,34 @@ class Objects(Showing):
     def scalars(self) -> dict[tuple[int, int], int | bytes]:
         def count(memory: int, status: int) -> int:
             return sum(row.status == status for row in self.rows[memory])
+
         shown = self.shown
         remaining = NO_END if shown.remaining is None else (shown.remaining + 59) // 60
         held: dict[tuple[int, int], int | bytes]
-        held = {(2, 3): self.face.height, (2, 4): self.face.width, (4, 11): 3,
-                (5, 1): len(self.rows[PERMANENT]), (5, 2): count(CHANGEABLE, VALID), (5, 3): len(self.rows[CHANGEABLE]),
-                (5, 4): 512 * count(CHANGEABLE, NOT_USED), (5, 5): count(VOLATILE, VALID), (5, 6): len(self.rows[VOLATILE]),
-                (5, 7): 512 * count(VOLATILE, NOT_USED), (5, 9): self.verdict,
-                (6, 3): self.last_code, (6, 4): remaining, (6, 5): shown.source.octets(self.swapped), (6, 6): shown.address,
-                (6, 7): shown.mode, (6, 10): self.short_loss, (6, 13): self.silence_limit, (6, 17): self.activate_error,
-                (6, 18): self.syntax, (6, 19): self.syntax_at, (6, 24): self.refused_code}
+        held = {
+            (2, 3): self.face.height,
+            (2, 4): self.face.width,
+            (4, 11): 3,
+            (5, 1): len(self.rows[PERMANENT]),
+            (5, 2): count(CHANGEABLE, VALID),
+            (5, 3): len(self.rows[CHANGEABLE]),
+            (5, 4): 512 * count(CHANGEABLE, NOT_USED),
+            (5, 5): count(VOLATILE, VALID),
+            (5, 6): len(self.rows[VOLATILE]),
+            (5, 7): 512 * count(VOLATILE, NOT_USED),
+            (5, 9): self.verdict,
+            (6, 3): self.last_code,
+            (6, 4): remaining,
+            (6, 5): shown.source.octets(self.swapped),
+            (6, 6): shown.address,
+            (6, 7): shown.mode,
+            (6, 10): self.short_loss,
+            (6, 13): self.silence_limit,
+            (6, 17): self.activate_error,
+            (6, 18): self.syntax,
+            (6, 19): self.syntax_at,
+            (6, 24): self.refused_code,
+        }
         held |= {(4, n): self.defaults[n - 1] for n in range(1, 10)}
         return held | {(6, place): code for place, code in self.own.items()}
 

@@ -3,8 +3,7 @@
 from dataclasses import replace
 
 from . import layout
-from .codes import BLANK, BLANK_1, CHANGEABLE, CURRENT, NO_END, NOBODY, PERMANENT, VOLATILE
-from .codes import Activation, MessageId
+from .codes import BLANK, BLANK_1, CHANGEABLE, CURRENT, NO_END, NOBODY, PERMANENT, VOLATILE, Activation, MessageId
 from .description import MODIFYING, VALID, VALIDATING, Row
 from .multi import Fault
 from .state import COMMUNICATIONS_LOSS, END_DURATION, POWER_LOSS, POWER_RECOVERY, Shown, State
@@ -39,7 +38,18 @@ class Showing(State):
         if code.id.memory == CURRENT:
             return replace(self.shown, mode=mode, address=code.address, remaining=remaining)
         row = self.known_row(code.id.memory, code.id.number)
-        return Shown(row.text, row.owner, row.beacon, row.pixel, row.priority, mode, code.address, remaining, code.id, tuple(self.defaults))
+        return Shown(
+            row.text,
+            row.owner,
+            row.beacon,
+            row.pixel,
+            row.priority,
+            mode,
+            code.address,
+            remaining,
+            code.id,
+            tuple(self.defaults),
+        )
 
     def refuse(self, code: Activation, cause: int, fault: Fault | None) -> None:
         self.activate_error, self.refused_code = cause, code.octets(self.swapped)

@@ -9,7 +9,12 @@ class Sign(Changes):
     def receive(self, datagram: bytes) -> tuple[bytes | None, Activation | None]:
         """The reply and the activation that was accepted, each None where there is none."""
         message = wire.spelled(datagram)
-        if not self.power or message is None or message.kind == wire.RESPONSE or message.community not in (self.reader, self.writer):
+        if (
+            not self.power
+            or message is None
+            or message.kind == wire.RESPONSE
+            or message.community not in (self.reader, self.writer)
+        ):
             return None, None
         self.silence = 0
         accepted = None
@@ -29,5 +34,7 @@ class Sign(Changes):
                 bindings = found
         reply = wire.written(wire.Message(wire.RESPONSE, message.community, message.number, status, index, bindings))
         if len(reply) > wire.MOST_DATAGRAM:
-            reply = wire.written(wire.Message(wire.RESPONSE, message.community, message.number, wire.TOO_BIG, 0, message.bindings))
+            reply = wire.written(
+                wire.Message(wire.RESPONSE, message.community, message.number, wire.TOO_BIG, 0, message.bindings)
+            )
         return reply, accepted

@@ -3,8 +3,7 @@
 from dataclasses import dataclass, replace
 
 from . import layout
-from .codes import BLANK, BLANK_1, CHANGEABLE, CURRENT, NOBODY, PERMANENT, VOLATILE
-from .codes import MessageId, checksum
+from .codes import BLANK, BLANK_1, CHANGEABLE, CURRENT, NOBODY, PERMANENT, VOLATILE, MessageId, checksum
 from .description import ERROR, MODIFYING, VALID, VALIDATING, Description, Row
 
 MODIFY, VALIDATE, NOT_USE = 6, 7, 8
@@ -34,9 +33,11 @@ class State:
         self.described, self.face = described, described.face
         self.reader, self.writer, self.swapped = described.reader, described.writer, described.swapped
         self.defaults = list(self.face.defaults)
-        self.rows = {PERMANENT: [replace(row, status=VALID) for row in described.permanent],
-                     CHANGEABLE: [Row() for _ in range(described.changeable)],
-                     VOLATILE: [Row() for _ in range(described.volatile)]}
+        self.rows = {
+            PERMANENT: [replace(row, status=VALID) for row in described.permanent],
+            CHANGEABLE: [Row() for _ in range(described.changeable)],
+            VOLATILE: [Row() for _ in range(described.volatile)],
+        }
         blank = BLANK_1.octets(self.swapped)
         self.own = {place: blank for place in (8, 9, 12, 14, 15)}
         self.short_loss = self.silence_limit = self.silence = 0

@@ -91,7 +91,7 @@ def glyph(words: list[bytes], height: int) -> tuple[int, layout.Glyph]:
     bits = [octet >> place & 1 == 1 for octet in held for place in range(7, -1, -1)]
     if len(held) != (width * height + 7) // 8:
         raise ValueError
-    return character, (width, [bits[row * width:(row + 1) * width] for row in range(height)])
+    return character, (width, [bits[row * width : (row + 1) * width] for row in range(height)])
 
 
 def new_glyph(words: list[bytes], font: layout.Font) -> tuple[int, layout.Glyph]:
@@ -170,7 +170,7 @@ def description(lines: Lines) -> Description:
     swapped = lines.next(is_swapped)
     beacons, pixels = lines.next(lambda w: [number(x, 0, 1) == 1 for x in wants(w, b"has", 2)])
     defaults = tuple(lines.next(lambda w: [number(x, 0, 255) for x in wants(w, b"defaults", 9)]))
-    first = lines.next(lambda w: number(wants(w, b"first", 1)[0], 0, 2 ** 32 - 1, 10))
+    first = lines.next(lambda w: number(wants(w, b"first", 1)[0], 0, 2**32 - 1, 10))
     permanent = []
     while lines.word() == b"permanent":
         permanent.append(lines.next(permanent_row))
@@ -189,9 +189,18 @@ def event(words: list[bytes], swapped: bool) -> Event:
     kind = words[0].decode("latin-1")
     if kind == "publish":
         memory, row, text, owner, beacon, pixel, run, minutes, priority, by = wants(words, b"publish", 10)
-        return kind, (number(memory, 0, 255), number(row), octets(text), octets(owner), number(beacon, 0, 255),
-                      number(pixel, 0, 255), number(run, 0, 255), number(minutes), number(priority, 0, 255),
-                      address(by))
+        return kind, (
+            number(memory, 0, 255),
+            number(row),
+            octets(text),
+            octets(owner),
+            number(beacon, 0, 255),
+            number(pixel, 0, 255),
+            number(run, 0, 255),
+            number(minutes),
+            number(priority, 0, 255),
+            address(by),
+        )
     if kind == "blank":
         row, minutes, priority, by = wants(words, b"blank", 4)
         return kind, (number(row), number(minutes), number(priority, 0, 255), address(by))
@@ -201,7 +210,7 @@ def event(words: list[bytes], swapped: bool) -> Event:
             raise ValueError
         return kind, Activation.of(code, swapped)
     if kind in ("to-sign", "to-centre", "power-back"):
-        return kind, number(wants(words, words[0], 1)[0], 0, 2 ** 32 - 1, 10)
+        return kind, number(wants(words, words[0], 1)[0], 0, 2**32 - 1, 10)
     if kind in ("forge-sign", "forge-centre"):
         return kind, octets(wants(words, words[0], 1)[0])
     if kind in ("sign-tick", "centre-tick", "power-lost", "centre-restart"):
@@ -251,9 +260,12 @@ class World:
         remaining = self.sign.scalars()[(6, 4)]
         assert isinstance(remaining, int)
         source = shown.source
-        lines = [f"events {self.events}", f"sent {len(self.to_sign)} {len(self.to_centre)}",
-                 f"shown {source.memory} {source.number} {source.crc:04x} mode {shown.mode} priority {shown.priority} "
-                 f"remaining {remaining} text {shown.text.hex() or '-'}"]
+        lines = [
+            f"events {self.events}",
+            f"sent {len(self.to_sign)} {len(self.to_centre)}",
+            f"shown {source.memory} {source.number} {source.crc:04x} mode {shown.mode} priority {shown.priority} "
+            f"remaining {remaining} text {shown.text.hex() or '-'}",
+        ]
         lines += [f"accepted {at} {code.octets(swapped).hex()}" for at, code in self.accepted]
         lines += [f"ledger {at} {code.octets(swapped).hex()} {outcome}" for at, code, outcome in self.centre.ledger]
         return lines

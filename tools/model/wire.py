@@ -7,7 +7,17 @@ from typing import Any
 MOST_DATAGRAM = 1472
 GET, GET_NEXT, RESPONSE, SET = 0xA0, 0xA1, 0xA2, 0xA3
 INTEGER, OCTETS, NULL, NAME, SEQUENCE, ADDRESS, COUNTER, GAUGE, TICKS, OPAQUE = (
-    0x02, 0x04, 0x05, 0x06, 0x30, 0x40, 0x41, 0x42, 0x43, 0x44)
+    0x02,
+    0x04,
+    0x05,
+    0x06,
+    0x30,
+    0x40,
+    0x41,
+    0x42,
+    0x43,
+    0x44,
+)
 VALUES = (INTEGER, OCTETS, NULL, NAME, ADDRESS, COUNTER, GAUGE, TICKS, OPAQUE)
 NO_ERROR, TOO_BIG, NO_SUCH_NAME, BAD_VALUE, GENERAL = 0, 1, 2, 3, 5
 Name = tuple[int, ...]
@@ -56,7 +66,7 @@ class Reader:
                 raise Fault("BadLength", length_at)
             if after + digits > self.end:
                 raise Fault("Truncated", self.end)
-            size = int.from_bytes(self.octets[after:after + digits], "big")
+            size = int.from_bytes(self.octets[after : after + digits], "big")
             after += digits
         if after + size > self.end:
             raise Fault("Truncated", self.end) if outermost else Fault("LengthPast", length_at)
@@ -66,14 +76,14 @@ class Reader:
         return tag, Reader(self.octets, after, after + size)
 
     def content(self) -> bytes:
-        return self.octets[self.at:self.end]
+        return self.octets[self.at : self.end]
 
-    def integer(self, least: int = -2 ** 31) -> int:
+    def integer(self, least: int = -(2**31)) -> int:
         content = self.content()
         if not content or len(content) > 1 and (content[0], content[1] >> 7) in ((0, 0), (255, 1)):
             raise Fault("BadInteger", self.at)
         number = int.from_bytes(content, "big", signed=True)
-        if not least <= number < 2 ** 32:
+        if not least <= number < 2**32:
             raise Fault("BadInteger", self.at)
         return number
 
@@ -83,7 +93,7 @@ class Reader:
             if not begun and octet == 128:
                 raise Fault("BadName", self.at)
             number, begun = number * 128 + octet % 128, octet >= 128
-            if number >= 2 ** 32:
+            if number >= 2**32:
                 raise Fault("BadName", self.at)
             if not begun:
                 numbers.append(number)

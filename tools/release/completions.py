@@ -60,9 +60,7 @@ def completion(name: str, program: list[str], parts: list[str]) -> str:
     cases = [f'        {part}) words="{" ".join(options(text))}" ;;' for part, text in texts.items()]
     cases.append(f'        *) words="{" ".join([*parts, *options(whole)])}" ;;')
     files = sorted(set().union(*(file_options(text) for text in [whole, *texts.values()]))) or ["--no-files"]
-    return TEMPLATE.format(
-        name=name, function=name.replace("-", "_"), files=" | ".join(files), cases="\n".join(cases)
-    )
+    return TEMPLATE.format(name=name, function=name.replace("-", "_"), files=" | ".join(files), cases="\n".join(cases))
 
 
 def main() -> int:

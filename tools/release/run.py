@@ -46,6 +46,8 @@ def run(package: str) -> None:
     else:
         is_help = word in ("-h", "--help")
         name = pathlib.PurePath(sys.argv[0]).name
-        print(f"usage: {name} PART ..; --help after one of {', '.join(parts(package))}",
-              file=sys.stdout if is_help else sys.stderr)
+        print(
+            f"usage: {name} PART ..; --help after one of {', '.join(parts(package))}",
+            file=sys.stdout if is_help else sys.stderr,
+        )
         sys.exit(0 if is_help else 2)

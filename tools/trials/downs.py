@@ -89,7 +89,13 @@ def run(trial: Trial) -> None:
         ("the process died for a week", True, 7 * 86_400, [b"ticks 86400"], []),
         ("the power was lost for 10 seconds", False, 10, [b"power-lost", b"power-back 10"], []),
         ("the power was lost for an hour", False, 3600, [b"power-lost", b"power-back 3600"], []),
-        ("the power was lost, and the clock went back", False, -(10**6), [b"power-lost", b"power-back 4294967295"], []),
+        (
+            "the power was lost, and the clock went back",
+            False,
+            -(10**6),
+            [b"power-lost", b"power-back 4294967295"],
+            [],
+        ),
         ("--down process", False, 40, [b"ticks 40"], ["--down", "process"]),
         ("--down power", True, 40, [b"power-lost", b"power-back 40"], ["--down", "power"]),
     ]

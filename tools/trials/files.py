@@ -6,9 +6,9 @@ import re
 
 from door import records
 from door.journal import Journal
+from door.places import TOP
 from door.records import Head
 from door.refusal import Refusal
-from door.places import TOP
 
 from .anew import Anew, answers
 from .bench import Trial

@@ -7,7 +7,6 @@ from model.codes import Activation, MessageId, checksum
 
 from .manager import DMS, Manager, Name
 
-
 Bindings = list[tuple[Name, tuple[int, object]]]
 ROWS = ((3, 1), (3, 2), (4, 1))
 TEXTS = (b"A", b"B", b"AB", b"1", b"A[nl]B", b"")

@@ -13,7 +13,9 @@ FEWEST = 10
 MOST_FUNCTIONS, MOST_LINES = 130, 2000
 FUNCTION = re.compile(r"(?m)^\s*(?:pub(?:\(\w+\))? )?(?:const )?(?:extern \"C\" )?fn \w+")
 MODULE = re.compile(r"(?m)^pub mod (\w+);")
-PUBLIC = re.compile(r"(?m)(?P<above>(?:^[ \t]*(?:///|#\[)[^\n]*\n)*)^[ \t]*pub (?:const )?(?:extern \"C\" )?fn (?P<name>\w+)")
+PUBLIC = re.compile(
+    r"(?m)(?P<above>(?:^[ \t]*(?:///|#\[)[^\n]*\n)*)^[ \t]*pub (?:const )?(?:extern \"C\" )?fn (?P<name>\w+)"
+)
 
 
 def names(tree: Tree) -> list[str]:

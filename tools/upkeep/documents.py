@@ -51,7 +51,9 @@ def wide_rows(tree: Tree) -> list[str]:
 def long_pages(tree: Tree) -> list[str]:
     """Pages that have more lines than they may."""
     counts = {name: tree.text(name).count("\n") for name in LONGEST if tree.has(name)}
-    return [f"{name}: {count} lines, {LONGEST[name]} at most" for name, count in counts.items() if count > LONGEST[name]]
+    return [
+        f"{name}: {count} lines, {LONGEST[name]} at most" for name, count in counts.items() if count > LONGEST[name]
+    ]
 
 
 def anchors(text: str) -> set[str]:

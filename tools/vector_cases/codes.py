@@ -37,6 +37,6 @@ def cases() -> Iterator[Case]:
     at = 0
     for memory in (2, 3, 4):
         for number in (1, 255, 256, 65535):
-            for words in made[at % 2::2]:
+            for words in made[at % 2 :: 2]:
                 at += 1
                 yield case(at, memory, number, words)

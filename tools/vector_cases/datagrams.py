@@ -75,11 +75,11 @@ def tags() -> Iterator[Named]:
 def numbers() -> Iterator[Named]:
     for version in (1, 2, 3, 127, -1):
         yield f"version {version}", get_with(version=wire.integer(version))
-    bounds = [0, 1, -1, 127, 128, 255, 256, 32767, 32768, 65535, 2 ** 31 - 1, 2 ** 31, -2 ** 31, 2 ** 32 - 1]
+    bounds = [0, 1, -1, 127, 128, 255, 256, 32767, 32768, 65535, 2**31 - 1, 2**31, -(2**31), 2**32 - 1]
     for number in bounds:
         yield f"request-id {number}", get_with(number=wire.integer(number))
         yield f"an INTEGER of {number}", get_with(value=wire.integer(number))
-    for number in (2 ** 32, -2 ** 31 - 1, 2 ** 63, -2 ** 63):
+    for number in (2**32, -(2**31) - 1, 2**63, -(2**63)):
         yield f"request-id {number}, out of range", get_with(number=wire.integer(number))
         yield f"an INTEGER of {number}, out of range", get_with(value=wire.integer(number))
     for content, words in (
@@ -94,7 +94,7 @@ def numbers() -> Iterator[Named]:
         yield f"a value of {words}", get_with(value=wire.element(2, content))
         yield f"a Gauge of {words}", get_with(value=wire.element(0x42, content))
     for tag in (0x41, 0x42, 0x43):
-        for number in (0, 1, 2 ** 32 - 1, -1, 2 ** 32):
+        for number in (0, 1, 2**32 - 1, -1, 2**32):
             yield f"a {TYPES[tag]} of {number}", get_with(value=wire.integer(number, tag))
 
 
@@ -123,8 +123,8 @@ def names() -> Iterator[Named]:
         ((2, 0), "2.0"),
         ((2, 47), "2.47"),
         ((2, 48), "2.48"),
-        ((2, 2 ** 32 - 81), "the greatest first pair"),
-        ((1, 3, 2 ** 32 - 1), "the greatest number"),
+        ((2, 2**32 - 81), "the greatest first pair"),
+        ((1, 3, 2**32 - 1), "the greatest number"),
         ((1, 3, 127), "1.3.127"),
         ((1, 3, 128), "1.3.128"),
         ((1, 3, 16383), "1.3.16383"),
@@ -174,9 +174,7 @@ def cases() -> Iterator[Case]:
         case: Case = {"name": name, "octets": octets.hex()}
         try:
             message = wire.read(octets)
-            listed = [
-                {"name": ".".join(map(str, bound)), **value_words(value)} for bound, value in message.bindings
-            ]
+            listed = [{"name": ".".join(map(str, bound)), **value_words(value)} for bound, value in message.bindings]
             case["message"] = {
                 "kind": KINDS[message.kind],
                 "community": message.community.hex(),

@@ -59,8 +59,8 @@ def publications() -> Iterator[Named]:
         yield f"the first {size} events of a publication", PUBLISHED[:size]
     for at, event in enumerate(PUBLISHED):
         if event.startswith("to-"):
-            yield f"a publication with event {at + 1} lost", PUBLISHED[:at] + PUBLISHED[at + 1:]
-            yield f"a publication with event {at + 1} repeated", PUBLISHED[:at + 1] + PUBLISHED[at:]
+            yield f"a publication with event {at + 1} lost", PUBLISHED[:at] + PUBLISHED[at + 1 :]
+            yield f"a publication with event {at + 1} repeated", PUBLISHED[: at + 1] + PUBLISHED[at:]
 
 
 def activations() -> Iterator[Named]:

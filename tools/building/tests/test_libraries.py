@@ -8,6 +8,7 @@ import pathlib
 import types
 
 import pytest
+
 from building import libraries
 from building import plan as planning
 from building.kit import Kit

@@ -5,6 +5,7 @@ from __future__ import annotations
 import pathlib
 
 import pytest
+
 from building import plan as planning
 from building.kit import Kit
 from building.plan import Plan

@@ -8,6 +8,7 @@ import sys
 from dataclasses import dataclass, field
 
 import pytest
+
 from building import plan as planning
 from building.plan import Crate, Plan
 from building.running import Running

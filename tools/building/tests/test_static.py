@@ -7,6 +7,7 @@ import pathlib
 
 import pytest
 import static_library
+
 from building import plan as planning
 from building.kit import Kit
 from building.plan import Plan

@@ -48,7 +48,11 @@ def test_a_cycle_is_found_whole_and_once() -> None:
 
 
 def test_a_call_in_a_cycle_takes_stack_and_a_jump_to_the_own_start_none() -> None:
-    assert machine.read(CODE, "").deepening() == [(machine.ANY, "low::handed"), ("low::back", "low::there"), ("low::down",)]
+    assert machine.read(CODE, "").deepening() == [
+        (machine.ANY, "low::handed"),
+        ("low::back", "low::there"),
+        ("low::down",),
+    ]
 
 
 def test_a_function_whose_address_is_kept_may_be_called_by_any_call_by_address() -> None:

@@ -137,10 +137,14 @@ def test_a_sign_is_asked_why_a_row_is_in_error(capfd: pytest.CaptureFixture[str]
         said = capfd.readouterr()
         assert said.out == "idle\nlast failed at step 5: the row has status 5, error\n"
         assert said.err == f"{STEP}: the sign found fault 5 at octet 4: textTooBig\n"
-        (octets, peer), = sign.below
+        ((octets, peer),) = sign.below
         message = wire.read(octets)
         assert peer not in sign.peers and message.kind == wire.GET and message.community == b"public"
-        assert message.number < -4 and [name[-3:] for name, _ in message.bindings] == [(5, 9, 0), (6, 18, 0), (6, 19, 0)]
+        assert message.number < -4 and [name[-3:] for name, _ in message.bindings] == [
+            (5, 9, 0),
+            (6, 18, 0),
+            (6, 19, 0),
+        ]
 
 
 @pytest.mark.parametrize("answers", [lambda _: [], lambda reply: [other_number(reply)], lambda _: [b"\x30\x00", b"x"]])

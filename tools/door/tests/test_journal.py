@@ -144,7 +144,13 @@ def test_a_damaged_journal_of_a_centre_is_refused_since_its_numbers_are_not_know
 def test_a_line_that_no_end_knows_is_refused_by_name() -> None:
     with tempfile.TemporaryDirectory() as folder:
         path, head = pathlib.Path(folder, "journal"), replace(HEAD, form=2).line()
-        unknown = (b"hello world", b"ticks 12x", b"ticks 4294967296", b"power-back 4294967296", b"blank 1 2 3 127.0.0.1")
+        unknown = (
+            b"hello world",
+            b"ticks 12x",
+            b"ticks 4294967296",
+            b"power-back 4294967296",
+            b"blank 1 2 3 127.0.0.1",
+        )
         for line in unknown:
             for text in (records.records([head, b"ticks 5", line]), older([HEAD.line(), b"ticks 5", line])):
                 path.write_bytes(text)

@@ -101,9 +101,35 @@ def test_lines_that_no_end_knows() -> None:
     of_sign = [b"ticks 0", b"ticks 4294967295", b"ticks 0000000007", b"heard", b"power-lost", b"power-back 0"]
     of_sign += [b"power-back 4294967295", b"start - 0 5", b"start 174002b2-8f8c 1795543676 1242", b"clock 1795543676 5"]
     of_centre = [b"publish 3 1 41 - 0 0 9 65535 255 127.0.0.1", b"blank x", b"activate", b"restart"]
-    of_none = [b"hello world", b"ticks 12x", b"ticks 4294967296", b"ticks 00000000001", b"ticks", b"ticks ", b"", b"end"]
-    of_none += [b"power-back 4294967296", b"power-back", b"tick ", b" tick", b"Tick", b"heard 1", b"power-lost 3", b"show"]
-    of_none += [b"datagram", b"datagram ", b"datagram 3", b"datagram 3g", b"datagram --", b"datagram 30 30", b"ticks -1"]
+    of_none = [
+        b"hello world",
+        b"ticks 12x",
+        b"ticks 4294967296",
+        b"ticks 00000000001",
+        b"ticks",
+        b"ticks ",
+        b"",
+        b"end",
+    ]
+    of_none += [
+        b"power-back 4294967296",
+        b"power-back",
+        b"tick ",
+        b" tick",
+        b"Tick",
+        b"heard 1",
+        b"power-lost 3",
+        b"show",
+    ]
+    of_none += [
+        b"datagram",
+        b"datagram ",
+        b"datagram 3",
+        b"datagram 3g",
+        b"datagram --",
+        b"datagram 30 30",
+        b"ticks -1",
+    ]
     of_none += [b"state 1 sign", b"start 1 2", b"start a b c", b"clock 1", b"clock 1 2 3", b"clock x 2", b"publishx"]
     of_none += [b"journal 2 sign rules 1 description bench", b"datagram " + b"30" * 32_764]
     for line in of_both:

@@ -1,8 +1,8 @@
 """What the model says of descriptions and scripts that are at fault: rows worked by hand."""
 
-import cause_rows
 import pytest
 
+import cause_rows
 from model import causes, text
 
 BENCH = text.BENCH

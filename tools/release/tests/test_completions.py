@@ -42,7 +42,7 @@ def completed(tmp_path: pathlib.Path, *words: str) -> list[str]:
     program.chmod(0o755)
     (tmp_path / "made").write_text(completions.completion("some-name", [str(program)], []), encoding="utf-8")
     listed = " ".join(f"'{word}'" for word in words)
-    script = f". made; COMP_WORDS=(some-name {listed}); COMP_CWORD={len(words)}; _some_name; echo \"${{COMPREPLY[@]}}\""
+    script = f'. made; COMP_WORDS=(some-name {listed}); COMP_CWORD={len(words)}; _some_name; echo "${{COMPREPLY[@]}}"'
     ended = subprocess.run(["bash", "-c", script], cwd=tmp_path, capture_output=True, text=True, check=True)
     return ended.stdout.split()
 

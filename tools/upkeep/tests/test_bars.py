@@ -45,8 +45,10 @@ def test_lengths(made: MakesTree) -> None:
 
 
 def test_links(made: MakesTree) -> None:
-    tree = made(docs__one_md="# First part, `x`\n[a](two.md) [b](three.md) [c](#first-part-x) [d](#second) <x>\n",
-                docs__two_md="[e](one.md#first-part-x) [f](one.md#no) ![g](picture.png) [h](https://nobody)\n")
+    tree = made(
+        docs__one_md="# First part, `x`\n[a](two.md) [b](three.md) [c](#first-part-x) [d](#second) <x>\n",
+        docs__two_md="[e](one.md#first-part-x) [f](one.md#no) ![g](picture.png) [h](https://nobody)\n",
+    )
     assert documents.links(tree) == [
         "docs/one.md:2: no three.md",
         "docs/one.md:2: no heading #second in one.md",
@@ -77,10 +79,17 @@ def test_houses(made: MakesTree) -> None:
 
 
 def test_what_crates_owe(made: MakesTree) -> None:
-    pages = {"crates__one__src__lib_rt": "//! A crate.\n//!\n//! ```\n//! call();\n//! ```\n", "docs__DECISIONS_md": "one is small"}
+    pages = {
+        "crates__one__src__lib_rt": "//! A crate.\n//!\n//! ```\n//! call();\n//! ```\n",
+        "docs__DECISIONS_md": "one is small",
+    }
     code = "//! Another.\n\n/// Said.\npub fn said() {}\n\n    #[inline]\n    pub fn unsaid() {}\n\npub fn used() {}\n"
-    tree = made(crates_txt="one: two\ntwo:\ntwo_tests: two\n", crates__two_tests__src__lib_rt="used();\n",
-                crates__two__src__lib_rt=code, **pages)
+    tree = made(
+        crates_txt="one: two\ntwo:\ntwo_tests: two\n",
+        crates__two_tests__src__lib_rt="used();\n",
+        crates__two__src__lib_rt=code,
+        **pages,
+    )
     assert crates.few(tree) == ["two: 3 functions, and docs/DECISIONS.md has no reason for it"]
     assert crates.examples(tree) == ["crates/two/src/lib.rt: no example on the crate's first page"]
     assert crates.unsaid(tree) == ["crates/two/src/lib.rt: nothing uses, names or documents unsaid"]
@@ -88,7 +97,9 @@ def test_what_crates_owe(made: MakesTree) -> None:
 
 def test_doors(made: MakesTree) -> None:
     page = "pub mod meant;\npub mod kept;\npub mod open;\nmod shut;\n\npub use kept::A;\npub use open::{B, C};\npub use shut::D;\n"
-    tree = made(crates_txt="one:\n", crates__one__src__lib_rt=page, docs__DECISIONS_md="Two paths lead to `one::kept`.\n")
+    tree = made(
+        crates_txt="one:\n", crates__one__src__lib_rt=page, docs__DECISIONS_md="Two paths lead to `one::kept`.\n"
+    )
     assert crates.doors(tree) == [
         "crates/one/src/lib.rt: two paths lead to the names of open, and docs/DECISIONS.md does not say why"
     ]
@@ -118,7 +129,9 @@ def test_nearest(made: MakesTree) -> None:
 
 
 def test_drawing(made: MakesTree) -> None:
-    titles = "<title>first</title><title>second</title><title>second&#45;&gt;first</title><title>third-&gt;first</title>"
+    titles = (
+        "<title>first</title><title>second</title><title>second&#45;&gt;first</title><title>third-&gt;first</title>"
+    )
     tree = made(crates_txt=LISTED, docs__pictures__houses_svg=titles)
     assert [line.split(" (")[0].removeprefix("docs/pictures/houses.svg: ") for line in drawing.drawn(tree)] == [
         "no crate third",
@@ -150,8 +163,12 @@ def test_crossed(made: MakesTree) -> None:
 def test_tools(made: MakesTree, tmp_path: pathlib.Path) -> None:
     script = "#!/usr/bin/env python3\n"
     texts = {"tools__first_py": f"{script}argparse.ArgumentParser()\n", "tools__second_py": script}
-    tree = made(**texts, tools__part_py="x = 1\n", tools__folder__third_py=script,
-                CONTRIBUTING_md="`tools/first.py` and other_tools/second.py")
+    tree = made(
+        **texts,
+        tools__part_py="x = 1\n",
+        tools__folder__third_py=script,
+        CONTRIBUTING_md="`tools/first.py` and other_tools/second.py",
+    )
     (tmp_path / "tools/first.py").chmod(0o755)
     assert tools.scripts(tree) == ["tools/first.py", "tools/second.py"]
     assert tools.in_list(tree) == ["CONTRIBUTING.md: tools/second.py is not in the list of tools"]
@@ -161,8 +178,10 @@ def test_tools(made: MakesTree, tmp_path: pathlib.Path) -> None:
 
 def test_words(made: MakesTree) -> None:
     later = "TO" "DO"
-    tree = made(tools__a_py=f"# {later}: more\n# {later}S is another word\n",
-                page_md="`tools/a.py`, tools/b.py, `crates/x/out/y`, tools/*.sh, a/tools/c.py, docs/NNN.md, tools/.\n")
+    tree = made(
+        tools__a_py=f"# {later}: more\n# {later}S is another word\n",
+        page_md="`tools/a.py`, tools/b.py, `crates/x/out/y`, tools/*.sh, a/tools/c.py, docs/NNN.md, tools/.\n",
+    )
     assert words.put_off(tree) == [f"tools/a.py:1: {later}"]
     assert words.gone(tree) == ["page.md:1: there is no tools/b.py"]
 
@@ -220,7 +239,11 @@ pub const SCRIPT: &str = "\
 tick 1
 > HEX
 < HEX";
-""".replace("HEX", "302e02010004067075626c6963").replace("ESCAPES", r"\x30" * 8)
+""".replace(
+    "HEX", "302e02010004067075626c6963"
+).replace(
+    "ESCAPES", r"\x30" * 8
+)
 
 
 def test_rows_of_hexadecimal(made: MakesTree) -> None:
@@ -231,7 +254,7 @@ def test_rows_of_hexadecimal(made: MakesTree) -> None:
     assert rows.without_words(tree) == wanted
 
 
-CODE = '''\
+CODE = """\
 //! LONG
 pub static ROWS: [(&str, u8); 2] = [
     // a row of data: LONG"
@@ -250,7 +273,9 @@ LONG
 pub const TEXT: &str = "\\
 LONG
 > LONG";
-'''.replace("LONG", "long " * 30)
+""".replace(
+    "LONG", "long " * 30
+)
 
 
 def test_lines_of_code(made: MakesTree) -> None:

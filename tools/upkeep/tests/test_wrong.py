@@ -3,6 +3,7 @@
 import pathlib
 
 import pytest
+
 from upkeep import wrong
 from upkeep.tree import Tree
 
