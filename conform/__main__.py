@@ -1,8 +1,9 @@
-"""python3 -m conform"""
+"""The old name of bin/wisangub-conform, for one release: python3 -m conform"""
 
 import sys
 
-from .cli import main
+sys.path[:1] = [f"{sys.path[0]}/python", sys.path[0]]
+from wisangub.tester.__main__ import run  # noqa: E402
 
 if __name__ == "__main__":
-    sys.exit(main())
+    sys.exit(run())

@@ -1,82 +1,9 @@
-"""The control room: pages and a worker in one process: python3 -m control --fleet FLEET.toml
+"""The old name of bin/wisangub-control, for one release: python3 -m control"""
 
-    [--database room.sqlite | postgresql://USER@HOST/NAME] [--create] [--listen 127.0.0.1:8080] [--behind-tls]
-    [--zone NAME] [--no-worker]
-
-It ends at an interrupt or a SIGTERM. The first user is made by `python3 -m control.users --database .. --create add NAME
-administrator`, and the database with it. Further workers may stand beside it: python3 -m control.worker.
-"""
-
-import argparse
 import sys
 
-from door.places import called, in_words_of_command
-from door.refusal import status_of, tell
-from door.sockets import Waiting, host_and_port
-
-from . import SIGNTOOL, database, fleet, start
-from .waits import waited
-
-LISTEN = "127.0.0.1:8080"
-
-
-def arguments() -> argparse.ArgumentParser:
-    words = argparse.ArgumentParser(
-        prog=called("control"),
-        description=in_words_of_command(__doc__),
-        formatter_class=argparse.RawDescriptionHelpFormatter,
-    )
-    words.add_argument("--fleet", required=True, metavar="FILE", help="the signs, as in signs/fleet.toml")
-    words.add_argument("--database", default="room.sqlite", metavar="WHERE", help=database.WHERE)
-    words.add_argument("--create", action="store_true", help=database.CREATE)
-    words.add_argument("--listen", default=LISTEN, metavar="HOST:PORT", help=f"where the pages are; else {LISTEN}")
-    words.add_argument(
-        "--behind-tls",
-        action="store_true",
-        help="a proxy on this machine ends TLS: cookies are Secure, and its X-Forwarded-For is believed",
-    )
-    words.add_argument("--zone", metavar="NAME", help="the zone that times are shown in; else the machine's")
-    words.add_argument("--no-worker", action="store_true", help="pages alone; workers are other processes")
-    words.add_argument("--signtool", default=str(SIGNTOOL), metavar="PATH")
-    return words
-
-
-def main() -> int:
-    asked = arguments().parse_args()
-    start.needed("control", "aiohttp", "jinja2", *(["psycopg"] if database.is_url(asked.database) else []))
-    from .service import Pace, Pages, work  # aiohttp is there from here on
-    from .users import users
-    from .web.settings import Settings, zone_of
-
-    host, port = host_and_port(asked.listen)
-    settings = Settings(asked.database, asked.signtool, asked.behind_tls, zone_of(asked.zone))
-    signs, waiting = fleet.read(asked.fleet), Waiting()
-    fleet.tell_open(signs)
-    pages = Pages(settings, signs, host, port)
-
-    def begun() -> bool:
-        held = database.opened(asked.database, asked.create)
-        has_users = bool(users(held))
-        held.close()
-        pages.start()
-        return has_users
-
-    has_users = waited(waiting, begun)
-    if has_users is None:
-        return 0
-    if not has_users:
-        tell(f"there is no user yet: {called('control.users')} --database .. add NAME administrator")
-    tell(f"the control room of {len(signs)} signs is at {pages.address}")
-    try:
-        if asked.no_worker:
-            while not waiting.is_stopped:
-                waiting.until([], None)
-        else:
-            work(settings, signs, Pace(), waiting)
-    finally:
-        pages.stop()
-    return 0
-
+sys.path[:1] = [f"{sys.path[0]}/python", sys.path[0]]
+from wisangub.room.__main__ import run  # noqa: E402
 
 if __name__ == "__main__":
-    sys.exit(status_of(main))
+    sys.exit(run())

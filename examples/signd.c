@@ -3,7 +3,7 @@
  * [--accept-damage] [--need-journal] [--most-recorded N]] [--no-ticks] [--quiet] DESCRIPTION. Without options it is at
  * 127.0.0.1:1161. Each datagram goes to the sign and its reply back; each second is a tick. SIGUSR1 takes the power
  * away, SIGUSR2 gives it back, and SIGINT or SIGTERM ends it. With a journal the sign goes on where it was, also where
- * tools/udp_sign.py kept it; what the time without a process was, a loss of power or seconds, is told by the kernel's
+ * wisangub-sign kept it; what the time without a process was, a loss of power or seconds, is told by the kernel's
  * boot id, or by --down.
  */
 #define _GNU_SOURCE

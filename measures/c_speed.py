@@ -28,7 +28,7 @@ import time
 from typing import Iterator
 
 TOP = pathlib.Path(__file__).resolve().parent.parent
-sys.path.insert(0, str(TOP / "tools"))
+sys.path.insert(0, str(TOP))
 
 from model import wire  # noqa: E402
 from model.text import BENCH  # noqa: E402

@@ -1,12 +1,14 @@
 #!/usr/bin/env bash
 # Asks each tool for its help: `tools/helps.sh [TOOL..]` prints `N passed, N failed`.
 #
-# Every file of tools/ and of the measures that begins with `#!` has to be executable, and no other; `--help` has to
-# print and to end with 0, without input, without errors and without a change to the repository. So for each module of
-# conform/ and control/ that has a command line; one whose packages are not installed here is skipped, which is said.
+# Every file of bin/, tools/, trials/ and of the measures that begins with `#!` has to be executable, and no other;
+# `--help` has to print and to end with 0, without input, without errors and without a change to the repository. So for
+# each module of the package and of trials/ that has a command line, and the old names conform and control; one whose
+# packages are not installed here is skipped, which is said.
 set -u
 case " $* " in *" --help "*) sed -n '2,/^[^#]/s/^# \{0,1\}//p' "$0"; exit ;; esac
 cd "$(dirname "$0")/.." || exit 2
+export PYTHONPATH=$PWD/python${PYTHONPATH:+:$PYTHONPATH}
 folder=$(mktemp -d)
 trap 'rm -rf "$folder"' EXIT
 passed=0
@@ -24,8 +26,8 @@ is() {
 
 # the modules that have a command line, by their names
 modules() {
-    grep -rl --include='*.py' 'if __name__ == "__main__":' conform control | grep -v /tests/ |
-        sed -e 's#/__main__\.py$##' -e 's#\.py$##' -e 's#/#.#g' | sort
+    grep -rl --include='*.py' 'if __name__ == "__main__":' python/wisangub trials conform control |
+        sed -e 's#^python/##' -e 's#/__main__\.py$##' -e 's#\.py$##' -e 's#/#.#g' | sort
 }
 
 # asks COMMAND..: its help in $folder/out and $folder/err, its status, and what it changed since the one before
@@ -44,7 +46,7 @@ asks() {
 
 shopt -s nullglob
 standing > "$folder/before"
-[ $# != 0 ] || set -- tools/*.py tools/*.sh measures/*.py measures/*.sh $(modules)
+[ $# != 0 ] || set -- bin/* model/signtool tools/*.py tools/*.sh trials/*.sh measures/*.py measures/*.sh $(modules)
 for tool in "$@"; do
     fault=
     if [ ! -f "$tool" ]; then

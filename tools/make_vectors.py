@@ -1,5 +1,5 @@
 #!/usr/bin/env python3
-"""Writes vectors/*.jsonl: cases for makers of other signs and centres. The answers are those of the model in tools/model,
+"""Writes vectors/*.jsonl: cases for makers of other signs and centres. The answers are those of the model in model,
 which is written from docs/PROFILE.md; the program has no part in them.
 
     tools/make_vectors.py           writes the files

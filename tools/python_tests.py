@@ -4,8 +4,8 @@
     tools/python_tests.py [FOLDER ..]
     tools/python_tests.py --quick | --types                 the tests that take seconds, or mypy alone
 
-The tests of conform/ and control/ are run by `conform.short` and `control.short`. A folder is a run of its own, as in a
-fresh clone. Both programs are taken of this Python, or of the system's where this one has them not, and are skipped by
+The tests of the tester and of the control room are run by `tests.tester.short` and `tests.room.short`. A folder is a
+run of its own, as in a fresh clone. Both programs are taken of this Python, or of the system's where this one has them not, and are skipped by
 name where neither has.
 """
 
@@ -21,8 +21,8 @@ from collections.abc import Sequence
 
 TOP = pathlib.Path(__file__).resolve().parent.parent
 PYTHONS = (sys.executable, "/usr/bin/python3")
-FOLDERS = ("tools/*/tests", "measures/tests")
-SLOW = ("conform/tests/test_signs.py", "tools/tries/tests/test_planted.py")  # a minute of a processor each
+FOLDERS = ("tools/*/tests", "measures/tests", "model/tests", "python/tests/process", "python/tests/endpoint")
+SLOW = ("python/tests/tester/test_signs.py", "tools/tries/tests/test_planted.py")  # a minute of a processor each
 
 
 def python_with(module: str) -> str | None:
@@ -57,7 +57,7 @@ def tested(python: str, folder: str, left_out: Sequence[str] = ()) -> tuple[int,
 
 def typed(python: str) -> tuple[int, int]:
     """Whether the types of all Python here fit."""
-    status, said = ran(python, "-m", "mypy", "--cache-dir", os.devnull)
+    status, said = ran(python, "-m", "mypy", "--config-file", "python/pyproject.toml", "--cache-dir", os.devnull)
     print(said[-6000:] if status else f"mypy: {said.strip()}", flush=True)
     return int(not status), int(bool(status))
 

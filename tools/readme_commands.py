@@ -4,8 +4,8 @@
 Each block of `sh` that begins with `./signtool` or `cp` is run at a copy of signs/ and the built program, line by line
 (a here-document is one line). The block of the SNMP tools is run whole, without its `apt-get` and on a port that is
 free, where they are installed, and else skipped, which is said; with --short it is left out. With --signtool, another
-program that answers the lines of doors, such as tools/coprocess_model.py, it is the one block that is run. A block
-without a language right after it is what its last command, or the whole block, prints. The two commands that prove,
+program that answers the lines of doors, such as model/signtool, it is the one block that is run. A block without a
+language right after it is what its last command, or the whole block, prints. The two commands that prove,
 `tools/build.py` and the gate, are left to the gate. With --rattle nothing of this is run but the block of `rust`, which
 `rt try` compiles and runs in a crate of a copy, in some minutes; where no kit is here it is skipped.
 """
@@ -20,9 +20,15 @@ import sys
 import tempfile
 from collections.abc import Iterator
 
-from door.places import SIGNTOOL, program
-
 TOP = pathlib.Path(__file__).resolve().parent.parent
+SIGNTOOL = TOP / "crates/signtool/out/signtool"
+
+
+def program(path: str) -> str:
+    """The program at this place: the type of an option, so that it is said that there is none."""
+    if not pathlib.Path(path).is_file():
+        raise argparse.ArgumentTypeError(f"no program at {path}: tools/build.py builds it")
+    return path
 
 
 def commands(block: str) -> Iterator[str]:
@@ -52,8 +58,8 @@ def with_snmp_tools(block: str, after: str, program: str) -> bool:
     width = f"snmpget -v1 -c public -t 1 -r 0 127.0.0.1:{port} 1.3.6.1.4.1.1206.4.2.3.2.4.0"
     whole = "shopt -s expand_aliases\n" + block.split("\n", 1)[1]
     for old, new in (
-        ("tools/udp_sign.py", f"tools/udp_sign.py --port {port} --signtool {program}"),
-        ("tools/udp_centre.py", f"tools/udp_centre.py --signtool {program}"),
+        ("bin/wisangub-sign", f"bin/wisangub-sign --port {port} --signtool {program}"),
+        ("bin/wisangub-centre", f"bin/wisangub-centre --signtool {program}"),
         ("127.0.0.1:1161", f"127.0.0.1:{port}"),
         ("&    #", f"& until {width} > /dev/null 2>&1; do sleep 0.1; done    #"),
     ):

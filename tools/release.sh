@@ -48,7 +48,7 @@ filled() {
         -e "s/@RECOMMENDS@/${recommends:-}/g" "$1"
 }
 
-# command_of NAME WORDS: a command in $usr/bin that runs WORDS in Python, with the release's own folders in its path
+# command_of NAME MODULE: a command in $usr/bin that runs the module, with the release's own folders in its path
 command_of() {
     cat > "$usr/bin/$1" <<END
 #!$python
@@ -57,8 +57,10 @@ import pathlib
 import sys
 
 HOME = pathlib.Path(__file__).resolve().parents[1] / "share/wisangub"
-sys.path[:1] = [str(HOME), str(HOME / "tools")]
-$2
+sys.path[:1] = [str(HOME / "python"), str(HOME)]
+from wisangub.$2 import run  # noqa: E402
+
+sys.exit(run())
 END
     chmod 755 "$usr/bin/$1"
 }
@@ -66,19 +68,17 @@ END
 # tree: the release under $usr, for the interpreter $python
 tree() {
     local share=$usr/share/wisangub page section
-    mkdir -p "$usr/bin" "$share/tools" "$share/docs" "$usr"/share/{doc/wisangub,man/man1,man/man7}
+    mkdir -p "$usr/bin" "$share/python" "$share/docs" "$usr"/share/{doc/wisangub,man/man1,man/man7}
     install -m 755 "$program" "$usr/bin/wisangub-signtool"
-    cp -R "$source"/conform "$source"/control "$source"/mibs "$source"/signs "$source"/vectors "$share/"
-    cp -R "$source"/tools/door "$source"/tools/model "$source"/tools/udp_sign.py "$source"/tools/udp_centre.py \
-        "$source"/tools/ask_vectors.py "$source"/tools/hostile_datagrams.py "$share/tools/"
-    cp "$source/tools/release/run.py" "$share/tools/run.py"
+    cp -R "$source"/model "$source"/mibs "$source"/signs "$source"/vectors "$share/"
+    cp -R "$source"/python/wisangub "$share/python/"
     cp -R "$source"/docs/{PROFILE,COVERAGE,JOURNAL,CONFORMANCE,CONTROL,C}.md "$source"/docs/pictures "$share/docs/"
-    rm -rf "$share"/conform/tests "$share"/conform/short.py "$share"/control/tests "$share"/tools/door/tests
+    rm -rf "$share"/model/tests "$share"/model/signtool
     find "$share" -name '*.py' -exec sed -i '1{/^#!/d}' {} + -exec chmod 644 {} +
-    command_of wisangub-sign 'from runpy import run_module; run_module("udp_sign", run_name="__main__")'
-    command_of wisangub-centre 'from runpy import run_module; run_module("udp_centre", run_name="__main__")'
-    command_of wisangub-conform 'from run import run; run("conform")'
-    command_of wisangub-control 'from run import run; run("control")'
+    command_of wisangub-sign endpoint.sign
+    command_of wisangub-centre endpoint.centre
+    command_of wisangub-conform tester.__main__
+    command_of wisangub-control room.__main__
     for page in "$source"/tools/release/man/*.[17]; do
         section=${page##*.}
         filled "$page" | gzip -9n > "$usr/share/man/man$section/${page##*/}.gz"
@@ -98,7 +98,7 @@ completions() {
     "$made" "$1" wisangub-signtool "$usr/bin/wisangub-signtool"
     "$made" "$1" wisangub-sign "$usr/bin/wisangub-sign"
     "$made" "$1" wisangub-centre "$usr/bin/wisangub-centre"
-    "$made" "$1" wisangub-conform "$usr/bin/wisangub-conform" centre mutants.door
+    "$made" "$1" wisangub-conform "$usr/bin/wisangub-conform" centre soak vectors
     "$made" "$1" wisangub-control "$usr/bin/wisangub-control" \
         $(sed -n 's/^\.It Cm \([a-z]*\)$/\1/p' "$source/tools/release/man/wisangub-control.1")
 }

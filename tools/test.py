@@ -35,7 +35,7 @@ from steps.left import Left, in_words
 from steps.step import TOP, Outcome, Step, totals
 from steps.together import adopt_orphans, end_children, ended
 
-MODEL = "tools/coprocess_model.py"
+MODEL = "model/signtool"
 OF_GATE = {  # what each takes, in seconds, alone
     "vectors": 5,
     "co-process": 2,
@@ -49,10 +49,10 @@ OF_GATE = {  # what each takes, in seconds, alone
     "vectors as made": 7,
 }
 # what needs no server, no packages and no program
-OF_CONTROL = [f"control/tests/test_{part}.py" for part in ("fleet", "readings", "style")]
+OF_CONTROL = [f"python/tests/room/test_{part}.py" for part in ("fleet", "readings", "style")]
 OWN = (
-    Step("model", "tools/compare_model.py --program {program} --seconds 40", 900, "", 41),
-    Step("tests of the tester", "tools/python_tests.py --quick conform/tests", 899, "", 25),
+    Step("model", "python3 -m trials.compare_model --program {program} --seconds 40", 900, "", 41),
+    Step("tests of the tester", "tools/python_tests.py --quick python/tests/tester", 899, "", 25),
     Step("types", "tools/python_tests.py --types", 898, "", 26),
     Step("tests of tools", "tools/python_tests.py --quick", 897, "", 20),
     Step("parts of the control room", f"tools/python_tests.py --quick {' '.join(OF_CONTROL)}", 600, "", 4),

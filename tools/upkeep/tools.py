@@ -5,7 +5,7 @@ import re
 from .tree import Tree
 
 LIST = "CONTRIBUTING.md"
-FOLDERS = ("tools/", "measures/")
+FOLDERS = ("bin/", "tools/", "trials/", "measures/")
 MAIN = 'if __name__ == "__main__":'
 
 
@@ -41,7 +41,9 @@ def has_help(tree: Tree) -> list[str]:
     return [
         f"{name}: --help is not read"
         for name in [*scripts(tree), *modules(tree)]
-        if not re.search(r"ArgumentParser\(|--help|from \.cli import main|import main\b", tree.text(name))
+        if not re.search(
+            r"ArgumentParser\(|--help|from \.cli import main|import main\b|import run\b|def run\(", tree.text(name)
+        )
         and "options(__doc__)" not in tree.text(name)
     ]
 

@@ -6,7 +6,7 @@ from .tree import Tree
 
 PUT_OFF = re.compile(r"\b(?:TO" r"DO|FIX" r"ME|HA" r"CK)\b")
 TEXTS = (".md", ".rt", ".antt", ".py", ".sh", ".c", ".h", ".rs", ".sql", ".txt", ".html", ".css", ".js", ".toml")
-HELD = ("conform", "control", "crates", "docs", "measures", "mibs", "signs", "tools", "vectors")
+HELD = "bin conform control crates docs measures mibs model python signs tools trials vectors".split()
 CITED = re.compile(r"(?<![\w/.<-])((?:" + "|".join(HELD) + r")/[\w./*{},-]*)")
 BUILT = re.compile(r"/out(?:/|$)|[*{<]|\.\.|NNN|NAME")
 

@@ -8,18 +8,16 @@ from collections.abc import Iterator
 
 TOP = pathlib.Path(__file__).resolve().parents[3]
 SCRIPT = (TOP / "tools/release.sh").read_text(encoding="utf-8")
-PACKAGES = ["conform", "control", "tools/door", "tools/model"]
-LEFT_OUT = re.compile(r"/tests/|^conform/short\.py$")
+PACKAGES = ["python/wisangub", "model"]
 
 
 def files() -> list[pathlib.Path]:
     """The Python of a release, as tools/release.sh copies it."""
-    tools = re.findall(r'"\$source"/(tools/\w+\.py)', SCRIPT)
-    found = [TOP / name for name in tools]
+    found = []
     for package in PACKAGES:
         assert f'"$source"/{package} ' in SCRIPT, package
         found += sorted((TOP / package).rglob("*.py"))
-    return [path for path in found if not LEFT_OUT.search(str(path.relative_to(TOP)))]
+    return [path for path in found if "tests" not in path.parts]
 
 
 def imported(path: pathlib.Path) -> Iterator[str]:
@@ -32,7 +30,7 @@ def imported(path: pathlib.Path) -> Iterator[str]:
 
 
 def test_imports() -> None:
-    shipped = {pathlib.PurePath(package).name for package in PACKAGES} | {path.stem for path in files()}
+    shipped = {pathlib.PurePath(package).name for package in PACKAGES}
     recommended = set(re.findall(r"(\w+):python3-\w+", SCRIPT))
     known = set(sys.stdlib_module_names) | shipped | recommended
     unknown = {f"{path.relative_to(TOP)}: {name}" for path in files() for name in imported(path) if name not in known}

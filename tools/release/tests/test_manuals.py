@@ -12,10 +12,10 @@ MAN = TOP / "tools/release/man"
 PROGRAM = TOP / "crates/signtool/out/signtool"
 PYTHON = [sys.executable]
 COMMANDS = {
-    "wisangub-sign": [[*PYTHON, "tools/udp_sign.py"]],
-    "wisangub-centre": [[*PYTHON, "tools/udp_centre.py"]],
-    "wisangub-conform": [[*PYTHON, "-m", "conform"]],
-    "wisangub-control": [[*PYTHON, "-m", "control"]],
+    "wisangub-sign": [[*PYTHON, "bin/wisangub-sign"]],
+    "wisangub-centre": [[*PYTHON, "bin/wisangub-centre"]],
+    "wisangub-conform": [[*PYTHON, "bin/wisangub-conform"]],
+    "wisangub-control": [[*PYTHON, "bin/wisangub-control"]],
 }
 PARTS = ["answer", "check", "pages", "code", "activation", "decode", "items", "replay", "sign", "centre"]
 
@@ -59,7 +59,7 @@ def test_subcommands_of_the_program() -> None:
 def test_control_names_its_commands() -> None:
     text = (MAN / "wisangub-control.1").read_text(encoding="utf-8")
     for part in re.findall(r"(?m)^\.It Cm (\w+)$", text):
-        assert f"usage: python3 -m control.{part} " in said([*PYTHON, "-m", f"control.{part}"])
+        assert f"usage: bin/wisangub-control {part} " in said([*PYTHON, "bin/wisangub-control", part])
 
 
 def test_each_manual_page_has_a_name_and_fields() -> None:

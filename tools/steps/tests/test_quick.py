@@ -107,7 +107,7 @@ def test_a_program_that_is_older_than_what_changed_is_told(top: pathlib.Path) ->
 def test_the_list_names_steps_and_changed_crates(top: pathlib.Path) -> None:
     change(top, "low")
     status, printed, _, asked = called(top, "--list")
-    assert (status, asked) == (0, []) and "model: tools/compare_model.py" in printed
+    assert (status, asked) == (0, []) and "model: python3 -m trials.compare_model" in printed
     assert printed.splitlines()[-1].startswith("check of low: env -C crates/low rt check (some ")
     assert "check of" not in called(top, "--list", "--without-crates")[1]
 
@@ -159,6 +159,12 @@ def test_where_no_python_has_pytest_or_mypy_they_are_skipped_by_name(
     assert (outcome.passed, outcome.failed, outcome.skipped) == (0, 0, [f"tests: {name}"])
 
 
+def file_of(command: str) -> pathlib.Path:
+    """The file that a command runs: a tool's own, or a module's."""
+    words = command.split()
+    return TOP / (f"{words[2].replace('.', '/')}.py" if words[:2] == ["python3", "-m"] else words[0])
+
+
 def test_what_it_names_of_other_tools_is_there() -> None:
     for name in python_tests.SLOW:
         assert (TOP / name).is_file(), name
@@ -166,5 +172,5 @@ def test_what_it_names_of_other_tools_is_there() -> None:
     names = subprocess.run(words, cwd=TOP, capture_output=True, text=True, check=True)
     for line in names.stdout.splitlines():
         name, _, command = line.partition(": ")
-        assert (TOP / command.split()[0]).is_file() or name.startswith("check of "), line
+        assert file_of(command).is_file() or name.startswith("check of "), line
     assert "vectors as made: tools/make_vectors.py --check" in names.stdout

@@ -96,7 +96,7 @@ def test_the_gate_counts_what_ran_before_and_needs_a_program() -> None:
 def test_the_gate_lists_its_steps_and_knows_their_names() -> None:
     words = [sys.executable, "tools/after_gate.py"]
     listed = subprocess.run([*words, "--list"], cwd=TOP, capture_output=True, text=True, check=True).stdout
-    assert listed.startswith("vectors: tools/check_vectors.py --program {program} (at most ")
+    assert listed.startswith("vectors: python3 -m trials.check_vectors --program {program} (at most ")
     environment = {**os.environ, "PYTHONDONTWRITEBYTECODE": "1"}
     unknown = subprocess.run([*words, "no such step"], cwd=TOP, env=environment, capture_output=True, check=False)
     assert unknown.returncode == 2

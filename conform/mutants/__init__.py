@@ -1,1 +1,0 @@
-"""Signs wrong in one rule each, made from tools/model by one edit each, to see whether the tester finds them."""

@@ -1,0 +1,15 @@
+"""Tests of the package. Those whose names need no fixture run without pytest too: tests.tester.short, trials.lasting.
+
+Programs that they start import the package and the model from this checkout.
+"""
+
+import os
+import pathlib
+import sys
+
+TOP = pathlib.Path(__file__).resolve().parents[2]
+FOLDERS = [str(TOP / "python"), str(TOP)]
+
+sys.path[:0] = [folder for folder in FOLDERS if folder not in sys.path]
+BEFORE = [folder for folder in os.environ.get("PYTHONPATH", "").split(os.pathsep) if folder and folder not in FOLDERS]
+os.environ["PYTHONPATH"] = os.pathsep.join([*FOLDERS, *BEFORE])

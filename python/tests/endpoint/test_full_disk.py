@@ -1,0 +1,156 @@
+"""A disk that is full, or can only be read, at a start and while a door runs."""
+
+import errno
+import os
+import pathlib
+import tempfile
+from typing import Any
+from unittest import mock
+
+from wisangub.endpoint.clock import Moment
+from wisangub.endpoint.files import NotKept
+from wisangub.endpoint.journal import Journal
+from wisangub.endpoint.keeper import Keeper
+from wisangub.endpoint.records import whole
+
+from .form1 import older
+from .test_journal import HEAD, LINES, NOW, kept, made
+
+LATER = Moment("one", 1030, 40)
+
+
+class Disk:
+    """Refuses to write, while it is full, and to open files to be written while it can only be read."""
+
+    def __init__(self, error: int) -> None:
+        self.error, self.is_full = error, True
+        self.write, self.open = os.write, os.open
+
+    def writes(self, file: int, octets: bytes) -> int:
+        if self.is_full:
+            raise OSError(self.error, os.strerror(self.error))
+        return self.write(file, octets)
+
+    def opens(self, path: str, how: int, *words: Any, **more: Any) -> int:
+        is_made = how & os.O_CREAT and not os.path.exists(path)
+        if self.is_full and (is_made or self.error == errno.EROFS and how & (os.O_RDWR | os.O_WRONLY)):
+            raise OSError(self.error, os.strerror(self.error), path)
+        return self.open(path, how, *words, **more)
+
+    def patches(self) -> Any:
+        return mock.patch.multiple("os", write=self.writes, open=self.opens)
+
+
+def lines_of(journal: Journal) -> list[bytes]:
+    return [line for some in journal.lines() for line in some]
+
+
+def test_a_sign_starts_from_what_is_there_and_writes_when_it_can() -> None:
+    contents = {"whole": b"", "torn": b"datagram 30", "form 1": b"", "none": b""}
+    for error in (errno.ENOSPC, errno.EROFS, errno.EDQUOT):
+        for name, more in contents.items():
+            with tempfile.TemporaryDirectory() as folder:
+                path = pathlib.Path(folder, "journal")
+                wanted = [] if name == "none" else LINES
+                if name == "form 1":
+                    path.write_bytes(older([HEAD.line(), NOW.start(), NOW.clock(), *LINES]))
+                elif wanted:
+                    path.write_bytes(made(str(path)) + more)
+                before = path.read_bytes() if wanted else None
+                disk = Disk(error)
+                with disk.patches():
+                    journal = Journal.opened(str(path), HEAD, is_patient=True)
+                    keeper = Keeper(journal)
+                    down = keeper.start(LATER, None, is_patient=True)
+                    assert lines_of(journal) == wanted and down == ([b"ticks 30"] if wanted else [])
+                    keeper.tick(50, 90.0)
+                    assert not keeper.keep([b"datagram 31"]) and not keeper.end(91.0)
+                    keeper.tick(30, 120.0)
+                    keeper.heard(by_kept=False)
+                    assert journal.refused and (before is None or path.read_bytes() == before)
+                    disk.is_full = False
+                    assert keeper.keep([b"datagram 32"]) and not journal.refused
+                journal.close()
+                assert whole(path.read_bytes()).size == path.stat().st_size
+                assert kept(str(path)) == [*wanted, *down, b"ticks 80", b"heard", b"datagram 32"], (error, name)
+
+
+def test_who_needs_the_journal_does_not_start() -> None:
+    for error in (errno.ENOSPC, errno.EROFS):
+        for is_there in (False, True):
+            with tempfile.TemporaryDirectory() as folder:
+                if is_there:
+                    made(f"{folder}/journal")
+                with Disk(error).patches():
+                    try:
+                        Keeper(Journal.opened(f"{folder}/journal", HEAD)).start(LATER, None)
+                        found = ""
+                    except NotKept as refused:
+                        found = str(refused)
+                assert os.strerror(error) in found
+
+
+def test_a_file_that_another_hand_changed_meanwhile_is_not_written_to() -> None:
+    with tempfile.TemporaryDirectory() as folder:
+        path = pathlib.Path(folder, "journal")
+        made(str(path))
+        disk = Disk(errno.EROFS)
+        with disk.patches():
+            journal = Journal.opened(str(path), HEAD, is_patient=True)
+            with open(path, "ab") as file:
+                file.write(b"more")
+            disk.is_full = False
+            try:
+                journal.keep([b"tick"])
+                found = ""
+            except Exception as refused:
+                found = str(refused)
+        journal.close()
+        assert "another hand" in found
+
+
+def test_each_minute_it_is_said_what_the_next_start_will_not_know() -> None:
+    told: list[str] = []
+    with tempfile.TemporaryDirectory() as folder:
+        disk = Disk(errno.ENOSPC)
+        made(f"{folder}/journal")
+        with disk.patches(), mock.patch("wisangub.endpoint.keeper.say", told.append), mock.patch(
+            "wisangub.endpoint.journal.say", told.append
+        ):
+            keeper = Keeper(Journal.opened(f"{folder}/journal", HEAD, is_patient=True))
+            keeper.start(LATER, None, is_patient=True)
+            for second in range(1, 200):
+                keeper.tick(1, 40.0 + second)
+                keeper.heard(by_kept=False)
+            minutes = [words for words in told if "lost at the next start" in words]
+            assert [words.rpartition(": ")[2].split(" ")[0] for words in minutes] == ["60", "120", "180"], told
+            assert all(os.strerror(errno.ENOSPC) in words for words in minutes)
+            disk.is_full = False
+            keeper.tick(41, 281.0)
+            assert told[-1].endswith("it is written again") and len(keeper.journal.owed.first) == 0
+            keeper.tick(60, 341.0)
+            assert told[-1].endswith("it is written again") and keeper.end(342.0)
+        keeper.journal.close()
+        assert sum(int(line[6:]) for line in kept(f"{folder}/journal") if line.startswith(b"ticks ")) == 30 + 199 + 101
+
+
+def test_a_folder_that_takes_no_file_lets_a_torn_end_be() -> None:
+    for contents in (b"torn", b"form 1"):
+        with tempfile.TemporaryDirectory() as folder:
+            path = pathlib.Path(folder, "journal")
+            text = made(str(path)) + b"datagram 30"
+            path.write_bytes(text if contents == b"torn" else older([HEAD.line(), NOW.start(), NOW.clock(), *LINES]))
+            before, opened = path.read_bytes(), os.open
+
+            def refusing(name: str, how: int, *words: Any, **more: Any) -> int:
+                if how & os.O_CREAT and not os.path.exists(name):
+                    raise OSError(errno.EACCES, os.strerror(errno.EACCES), name)
+                return opened(name, how, *words, **more)
+
+            with mock.patch("os.open", refusing):
+                journal = Journal.opened(str(path), HEAD, is_patient=True)
+                assert lines_of(journal) == LINES and "Permission denied" in journal.refused
+                assert path.read_bytes() == before
+            journal.keep([b"tick"])
+            journal.close()
+            assert kept(str(path)) == [*LINES, b"tick"]

@@ -1,0 +1,388 @@
+"""A journal's file: begun, cut, refused, put aside."""
+
+import contextlib
+import functools
+import os
+import pathlib
+import tempfile
+from dataclasses import replace
+from typing import Callable, Iterator
+from unittest import mock
+
+from wisangub.endpoint import records
+from wisangub.endpoint.clock import Moment
+from wisangub.endpoint.files import NotKept, opened
+from wisangub.endpoint.journal import MOST_OWED, Journal
+from wisangub.endpoint.keeper import Keeper
+from wisangub.endpoint.records import Head
+from wisangub.refusal import Refusal
+
+from .form1 import older
+
+HEAD = Head("sign", "bench")
+LINES = [b"datagram 30%02x" % at for at in range(5)]
+NOW = Moment("one", 1000, 10)
+
+
+def refused(do: Callable[[], object]) -> str:
+    """The words of a refusal."""
+    try:
+        do()
+    except Refusal as found:
+        return str(found)
+    return ""
+
+
+def kept(path: str, head: Head = HEAD) -> list[bytes]:
+    """The lines of a journal that is opened anew."""
+    journal = Journal.opened(path, head)
+    lines = [line for some in journal.lines() for line in some]
+    os.close(journal.file)
+    return lines
+
+
+@contextlib.contextmanager
+def without_syncs() -> Iterator[None]:
+    """What is looked at goes by what is written, many times over, and not by when it is on the disk."""
+    with mock.patch("os.fsync"), mock.patch("os.fdatasync"):
+        yield
+
+
+def made(path: str) -> bytes:
+    """A journal with these lines: its octets."""
+    journal = Journal.opened(path, HEAD)
+    journal.keep([NOW.start(), NOW.clock()])
+    for line in LINES:
+        journal.keep([line])
+    os.close(journal.file)
+    return pathlib.Path(path).read_bytes()
+
+
+def test_each_prefix_gives_the_lines_that_are_whole() -> None:
+    with without_syncs(), tempfile.TemporaryDirectory() as folder:
+        path = f"{folder}/journal"
+        text = made(path)
+        for size in range(len(text) + 1):
+            pathlib.Path(path).write_bytes(text[:size])
+            found = kept(path)
+            assert found == LINES[: len(found)]
+            assert len(found) == max(0, text[:size].count(b"\n") - 3)
+            assert kept(path) == found
+            for name in os.listdir(folder):
+                if name != "journal":
+                    os.unlink(f"{folder}/{name}")
+
+
+def test_a_changed_record_is_refused_and_left_as_it_is() -> None:
+    with without_syncs(), tempfile.TemporaryDirectory() as folder:
+        path = f"{folder}/journal"
+        text = made(path)
+        for at in range(0, len(text), 3):
+            changed = text[:at] + bytes([text[at] ^ 1]) + text[at + 1 :]
+            pathlib.Path(path).write_bytes(changed)
+            words = refused(lambda: kept(path))
+            begin = text.rfind(b"\n", 0, at) + 1
+            wanted = [f"damaged at octet {begin}:", "--accept-damage"] if begin else ["is no journal"]
+            assert all(word in words for word in wanted)
+            assert pathlib.Path(path).read_bytes() == changed
+        assert os.listdir(folder) == ["journal"]
+
+
+def test_damage_that_is_accepted_is_put_aside() -> None:
+    with tempfile.TemporaryDirectory() as folder:
+        path = f"{folder}/journal"
+        text = made(path)
+        ends = [at for at in range(1, len(text) + 1) if text[at - 1 : at] == b"\n"]
+        changed = text[: ends[4] + 5] + b"!" + text[ends[4] + 6 :]
+        pathlib.Path(path).write_bytes(changed)
+        journal = Journal.opened(path, HEAD, accepts=True)
+        journal.keep([b"tick"])
+        journal.close()
+        assert kept(path) == [*LINES[:2], b"tick"]
+        assert pathlib.Path(path).read_bytes().startswith(text[: ends[4]])
+        aside = [name for name in os.listdir(folder) if name != "journal"]
+        assert len(aside) == 1 and aside[0].startswith("journal.cut-")
+        assert pathlib.Path(folder, aside[0]).read_bytes() == changed[ends[4] :]
+        assert pathlib.Path(folder, aside[0]).stat().st_mode & 0o777 == 0o600
+        pathlib.Path(path).write_bytes(changed)
+        kept_twice = Journal.opened(path, HEAD, accepts=True)
+        kept_twice.close()
+        assert len(os.listdir(folder)) == 3
+
+
+def test_what_is_cut_off_is_on_the_disk_before_it_is_cut() -> None:
+    done: list[str] = []
+    calls = ("fsync", "ftruncate", "write")
+
+    def told(name: str, call: Callable[..., object]) -> Callable[..., object]:
+        def telling(*words: object) -> object:
+            done.append(name)
+            return call(*words)
+
+        return telling
+
+    with tempfile.TemporaryDirectory() as folder:
+        text = made(f"{folder}/journal")
+        pathlib.Path(folder, "journal").write_bytes(text[:-3])
+        with contextlib.ExitStack() as stack:
+            for name in calls:
+                stack.enter_context(mock.patch(f"os.{name}", told(name, getattr(os, name))))
+            assert kept(f"{folder}/journal") == LINES[:-1]
+        assert done == ["write", "fsync", "fsync", "ftruncate", "fsync", "fsync"]
+
+
+def test_a_damaged_journal_of_a_centre_is_refused_since_its_numbers_are_not_known() -> None:
+    with tempfile.TemporaryDirectory() as folder:
+        head = Head("centre", "bench", 5)
+        text = records.records([replace(head, form=2).line(), b"blank 1 2 3 127.0.0.1", b"tick", b"tick"])
+        pathlib.Path(folder, "journal").write_bytes(text[:-20] + b"!" + text[-19:])
+        for accepts in (False, True):
+            words = refused(lambda: Journal.opened(f"{folder}/journal", head, accepts))
+            assert "--fresh begins above all numbers" in words, words
+
+
+def test_a_line_that_no_end_knows_is_refused_by_name() -> None:
+    with tempfile.TemporaryDirectory() as folder:
+        path, head = pathlib.Path(folder, "journal"), replace(HEAD, form=2).line()
+        unknown = (
+            b"hello world",
+            b"ticks 12x",
+            b"ticks 4294967296",
+            b"power-back 4294967296",
+            b"blank 1 2 3 127.0.0.1",
+        )
+        for line in unknown:
+            for text in (records.records([head, b"ticks 5", line]), older([HEAD.line(), b"ticks 5", line])):
+                path.write_bytes(text)
+                words = refused(lambda: kept(str(path)))
+                at = text.index(line)
+                assert f"record 3 at octet {at} is {line.decode()!r}: no sign knows this line" in words, words
+                assert path.read_bytes() == text
+
+
+def test_a_journal_of_form_1_is_written_anew_and_kept_as_it_was() -> None:
+    with tempfile.TemporaryDirectory() as folder:
+        path = pathlib.Path(folder, "journal")
+        lines = [HEAD.line(), NOW.start(), NOW.clock(), *LINES, b"ticks 3"]
+        for at, more in enumerate((b"", b"datagram 30", b"")):
+            path.write_bytes(older(lines) + more)
+            assert kept(str(path)) == [*LINES, b"ticks 3"]
+            name = "journal.form1" + (f"-{at + 1}" if at else "")
+            assert pathlib.Path(folder, name).read_bytes() == older(lines) + more
+            assert path.read_bytes() == records.records([replace(HEAD, form=2).line(), *lines[1:]])
+            assert path.stat().st_mode & 0o777 == 0o600
+            assert kept(str(path)) == [*LINES, b"ticks 3"] and len(os.listdir(folder)) == 2 + at
+
+
+def test_a_journal_of_form_1_that_is_damaged_is_refused() -> None:
+    with tempfile.TemporaryDirectory() as folder:
+        path = pathlib.Path(folder, "journal")
+        text = older([HEAD.line(), NOW.start(), NOW.clock(), *LINES])
+        for changed in (text[:-3] + b"!" + text[-2:], text[:120] + bytes(30) + text[150:], text[:-1] + b"\x0b"):
+            path.write_bytes(changed)
+            assert "damaged at octet" in refused(lambda: kept(str(path)))
+            assert path.read_bytes() == changed and os.listdir(folder) == ["journal"]
+            journal = Journal.opened(str(path), HEAD, accepts=True)
+            journal.close()
+            assert pathlib.Path(folder, "journal.form1").read_bytes() == changed
+            pathlib.Path(folder, "journal.form1").unlink()
+
+
+class Killed(BaseException):
+    """The door was killed at a call."""
+
+
+def test_killed_at_each_call_of_writing_anew_there_is_one_whole_journal() -> None:
+    text = older([HEAD.line(), NOW.start(), NOW.clock(), *LINES])
+    for name in ("open", "write", "fsync", "link", "rename", "unlink"):
+        for at in range(1, 20):
+            if not killed_at(text, name, at):
+                break
+
+
+def killed_at(text: bytes, name: str, at: int) -> bool:
+    """Whether a door made so many of these calls before it was killed at the last of them; what it leaves is whole."""
+    call, count = getattr(os, name), [0]
+
+    def counted(*words: object, **more: object) -> object:
+        count[0] += 1
+        if count[0] == at:
+            raise Killed
+        return call(*words, **more)
+
+    with tempfile.TemporaryDirectory() as folder:
+        path = pathlib.Path(folder, "journal")
+        path.write_bytes(text)
+        pathlib.Path(folder, "journal.new").write_bytes(b"of an earlier kill")
+        try:
+            with mock.patch(f"os.{name}", counted):
+                kept(str(path))
+        except Killed:
+            pass
+        is_killed = count[0] >= at
+        for file in map(int, os.listdir("/proc/self/fd")):  # a kill closes what is open
+            if os.path.exists(f"/proc/self/fd/{file}") and os.readlink(f"/proc/self/fd/{file}").startswith(folder):
+                os.close(file)
+        anew = records.records([replace(HEAD, form=2).line(), NOW.start(), NOW.clock(), *LINES])
+        assert path.read_bytes() in (text, anew)
+        assert kept(str(path)) == LINES
+        asides = [one for one in os.listdir(folder) if one.startswith("journal.form1")]
+        assert asides == ["journal.form1"] and pathlib.Path(folder, asides[0]).read_bytes() == text
+    return is_killed
+
+
+def test_another_file_is_refused_and_left_as_it_is() -> None:
+    with tempfile.TemporaryDirectory() as folder:
+        path = f"{folder}/journal"
+        for text in (b"notes", b"notes\n", b"notes\nmore\n", b"journal 1 sign\n"):
+            pathlib.Path(path).write_bytes(text)
+            assert "is no journal" in refused(lambda: kept(path))
+            assert pathlib.Path(path).read_bytes() == text
+        assert (
+            refused(lambda: kept(folder))
+            and refused(lambda: kept(f"{folder}/none/journal"))
+            and refused(lambda: kept("/dev/null"))
+        )
+
+
+def test_what_differs_is_named() -> None:
+    rows = [
+        (Head("centre", "bench", 1), "its end is sign"),
+        (Head("sign", "0" * 64), "another description"),
+        (Head("sign", "bench", rules=2), "its rules is 1"),
+    ]
+    with tempfile.TemporaryDirectory() as folder:
+        path = pathlib.Path(folder, "journal")
+        path.write_bytes(records.records([replace(HEAD, form=3).line()]))
+        assert "its form is 3, and this door's 2" in refused(lambda: kept(str(path)))
+        path.unlink()
+        made(str(path))
+        for head, words in rows:
+            assert words in refused(functools.partial(kept, f"{folder}/journal", head))
+        assert kept(f"{folder}/journal") == LINES
+
+
+def test_one_door_a_journal() -> None:
+    with tempfile.TemporaryDirectory() as folder:
+        file = opened(f"{folder}/journal")
+        assert "another door holds" in refused(lambda: opened(f"{folder}/journal"))
+        assert os.fstat(file).st_mode & 0o777 == 0o600
+        os.close(file)
+
+
+def test_an_old_file_is_put_aside_whole() -> None:
+    with tempfile.TemporaryDirectory() as folder:
+        text = made(f"{folder}/journal")
+        journal = Journal.fresh(f"{folder}/journal", HEAD)
+        journal.keep([b"tick"])
+        os.close(journal.file)
+        assert kept(f"{folder}/journal") == [b"tick"]
+        aside = [name for name in os.listdir(folder) if name != "journal"]
+        assert len(aside) == 1 and pathlib.Path(folder, aside[0]).read_bytes() == text
+
+
+def test_a_start_without_its_clock_counts_for_nothing() -> None:
+    with tempfile.TemporaryDirectory() as folder:
+        path = f"{folder}/journal"
+        text = made(path)
+        number = text.count(b"\n") + 1
+        more = records.records([Moment("two", 2000, 5).start(), b"power-lost"], number)
+        pathlib.Path(path).write_bytes(text + more)
+        journal = Journal.opened(path, HEAD)
+        assert journal.last == NOW and journal.size == len(text) and journal.number == number
+        os.close(journal.file)
+        starts = records.records([NOW.start()] * 2000, number)
+        pathlib.Path(path).write_bytes(text + starts)
+        assert kept(path) == LINES and pathlib.Path(path).read_bytes() == text
+
+
+def test_seconds_and_polls_in_a_row_are_one_record() -> None:
+    with tempfile.TemporaryDirectory() as folder:
+        path = f"{folder}/journal"
+        keeper = Keeper(Journal.opened(path, HEAD))
+        assert keeper.start(NOW, None) == []
+        for seconds, is_heard in ((3, True), (4, True), (1, False), (2, False)):
+            keeper.tick(seconds, 10.0)
+            if is_heard:
+                keeper.heard(by_kept=False)
+                keeper.heard(by_kept=False)
+        keeper.keep([b"datagram 30"])
+        keeper.heard(by_kept=True)
+        keeper.heard(by_kept=False)
+        keeper.tick(5, 10.0)
+        os.close(keeper.journal.file)
+        assert kept(path) == [b"ticks 3", b"heard", b"ticks 4", b"heard", b"ticks 3", b"datagram 30"]
+
+
+def test_a_record_of_the_clock_goes_in_each_minute() -> None:
+    with tempfile.TemporaryDirectory() as folder:
+        path = pathlib.Path(folder, "journal")
+        keeper = Keeper(Journal.opened(str(path), HEAD))
+        keeper.start(NOW, None)
+        for second in range(1, 131):
+            keeper.tick(1, 10.0 + second)
+        keeper.journal.close()
+        lines = [line.partition(b" #")[0] for line in path.read_bytes().splitlines()]
+        assert [line for line in lines if line.startswith(b"ticks")] == [b"ticks 60", b"ticks 60"]
+        assert [line.split()[2] for line in lines if line.startswith(b"clock")] == [b"10", b"70", b"130"]
+        after = Journal.opened(str(path), HEAD)
+        assert after.last is not None and after.last.up == 130
+        after.close()
+
+
+class Refusing(Journal):
+    """A journal whose disk takes no record."""
+
+    def append(self, lines: list[bytes], synced: bool) -> None:
+        raise NotKept("the disk is full", 1)
+
+
+def test_seconds_that_could_not_be_recorded_go_with_the_next_record() -> None:
+    with tempfile.TemporaryDirectory() as folder:
+        path = f"{folder}/journal"
+        keeper = Keeper(Journal.opened(path, HEAD))
+        keeper.journal.__class__ = Refusing
+        for seconds in (30, 20):
+            keeper.tick(seconds, 10.0)
+            assert not keeper.keep([b"datagram 31"])
+        keeper.heard(by_kept=False)
+        keeper.tick(2, 10.0)
+        keeper.journal.__class__ = Journal
+        assert keeper.keep([b"datagram 32"])
+        os.close(keeper.journal.file)
+        assert kept(path) == [b"ticks 50", b"heard", b"ticks 2", b"datagram 32"]
+
+
+def test_lines_that_wait_for_a_disk_are_written_part_by_part() -> None:
+    with tempfile.TemporaryDirectory() as folder:
+        path = f"{folder}/journal"
+        keeper = Keeper(Journal.opened(path, HEAD))
+        keeper.journal.__class__ = Refusing
+        for at in range(20 * MOST_OWED):
+            keeper.tick(7, 10.0)
+            keeper.heard(by_kept=False)
+        assert len(keeper.journal.owed.first) == MOST_OWED
+        wanted = [b"ticks 7", b"heard"] * (MOST_OWED // 2)
+        keeper.journal.__class__ = Half
+        assert not keeper.keep([b"datagram 31"])
+        assert len(keeper.journal.owed.first) == MOST_OWED and keeper.journal.owed.polls
+        keeper.journal.__class__ = Journal
+        assert keeper.keep([b"datagram 32"]) and not keeper.journal.owed
+        keeper.journal.close()
+        lines = kept(path)
+        assert lines[:MOST_OWED] == wanted and lines[-1] == b"datagram 32"
+        assert sum(int(line[6:]) for line in lines if line.startswith(b"ticks")) == 7 * 20 * MOST_OWED
+        assert all(int(line[6:]) < 60 for line in lines if line.startswith(b"ticks"))
+
+
+class Half(Journal):
+    """A journal whose disk takes two parts, and then no record."""
+
+    parts = 2
+
+    def append(self, lines: list[bytes], synced: bool) -> None:
+        assert len(lines) <= MOST_OWED
+        self.parts -= 1
+        if self.parts < 0:
+            raise NotKept("the disk is full", 1)
+        super().append(lines, synced)

@@ -1,0 +1,225 @@
+"""Composing, confirming and asking: faults with their places, tokens, and what a confirmation counts."""
+
+import pathlib
+import re
+
+import pytest
+
+from . import needs
+
+needs.modules("aiohttp", "jinja2")
+
+from model import layout, text
+from wisangub.endpoint.lack import spelled
+from wisangub.room.store import past, views
+from wisangub.room.web.compose import marked
+from wisangub.room.web.draft import Draft, joined
+from wisangub.room.web.faces import face_of
+from wisangub.room.web.pictures import drawn
+from wisangub.room.web.words import asked
+
+from .visits import Bench, Visitor, Visitors, run
+
+GOOD = {
+    "text": "[fo2]FOG",
+    "memory": "3",
+    "number": "2",
+    "run": "90",
+    "priority": "110",
+    "lasts": "minutes",
+    "minutes": "30",
+}
+FAULTS = [
+    ("FOG[fo9]", 3, "FOG<mark>[fo9]</mark>", "no such font"),
+    ("FOG\u00e9", 3, "FOG<mark>é</mark>", "no picture of this character"),
+    ("[fo9]", 0, "<mark>[fo9]</mark>", "no such font"),
+    ("FOG[xy]", 3, "FOG<mark>[xy]</mark>", "no tag of MULTI"),
+    ("FOG[", 3, "FOG<mark>[</mark>", "no tag of MULTI"),
+    ("FOG\u20ac", 3, "FOG<mark>€</mark>", "U+20AC"),
+    ("FOG[np]" * 6 + "FOG", 38, "<mark>[np]</mark>", "six pages"),
+]
+
+
+async def confirmation(one: Visitor, fields: list[tuple[str, str]]) -> list[tuple[str, str]]:
+    """The fields of the confirmation's form."""
+    status, page, _ = await one.post("/compose", fields)
+    assert status == 200, page
+    held = re.findall(r'<input type="hidden" name="(\w+)" value="([^"]*)">', page[page.index('action="/send"') :])
+    return [field for field in held if field[0] != "token"]
+
+
+def test_a_text_is_published(tmp_path: pathlib.Path, where: str) -> None:
+    async def act(bench: Bench, visitor: Visitors) -> None:
+        one = await bench.logged_in(visitor, "operator")
+        fields = [("sign", str(bench.one)), ("sign", str(bench.gantry)), *GOOD.items()]
+        status, page, _ = await one.post("/compose", fields)
+        assert status == 200 and "Publish on 2 signs?" in page and "30 min" in page and "changeable 2" in page
+        assert page.count("/464f47.svg") == 0 and page.count("5b666f325d464f47.svg") >= 2, "a picture a face"
+        held = await confirmation(one, fields)
+        status, _, then = await one.post("/send", held)
+        assert (status, then) == (303, "/batches/1")
+        assert (await one.post("/send", held))[2] == "/batches/1", "a confirmation counts once"
+        commands = views.commands(bench.store.database, views.Wanted())
+        assert sorted(command.sign for command in commands) == sorted([bench.one, bench.gantry])
+        line = asked(commands[0].line)
+        assert (line.text, line.owner, line.run, line.priority, line.minutes) == (b"[fo2]FOG", b"operator", 90, 110, 30)
+        assert (line.memory, line.number, line.beacon) == (3, 2, 0)
+        assert commands[0].who == "operator" and commands[0].line.endswith(" 127.0.0.1")
+        page = (await one.get("/batches/1"))[1]
+        assert "0 of 2 accepted, 2 under way" in page and "waits for its turn" in page
+        lines = [what for _, _, who, what in past.audit(bench.store.database, None) if who == "operator"]
+        assert sum("publish" in line for line in lines) == 2, "a line of the audit a command"
+
+    run(tmp_path, where, act)
+
+
+@pytest.mark.parametrize(("written", "offset", "shown", "why"), FAULTS)
+def test_a_text_is_refused_at_its_place(
+    tmp_path: pathlib.Path, written: str, offset: int, shown: str, why: str
+) -> None:
+    async def act(bench: Bench, visitor: Visitors) -> None:
+        one = await bench.logged_in(visitor, "operator")
+        status, page, _ = await one.post("/compose", {**GOOD, "sign": str(bench.one), "text": written})
+        assert status == 422 and f"At character {offset + 1}: " in page and why in page
+        assert shown in page.replace("&lt;", "<")
+        answer = await one.client.post(
+            "/look", json={"signs": [bench.one], "text": written}, headers={"X-Token": await one.token()}
+        )
+        said = (await answer.json())["looks"][0]
+        assert said["offset"] == offset and why in said["why"] and said["src"] is None
+        assert "".join(said["marked"]) == written
+        held = {**GOOD, "sign": str(bench.one), "text": written, "kind": "publish", "confirmation": "x" * 24}
+        assert (await one.post("/send", held))[0] == 422
+        assert views.commands(bench.store.database, views.Wanted()) == []
+
+    run(tmp_path, str(tmp_path / "database"), act)
+
+
+def test_fields_that_are_not_in_order(tmp_path: pathlib.Path) -> None:
+    async def act(bench: Bench, visitor: Visitors) -> None:
+        one = await bench.logged_in(visitor, "operator")
+        for key, value, why in (
+            ("number", "33", "from 1 to 32"),
+            ("number", "x", "from 1 to 32"),
+            ("run", "0", "from 1 to 255"),
+            ("priority", "256", "from 0 to 255"),
+            ("minutes", "0", "from 1 to 65534"),
+            ("memory", "5", "from 3 to 4"),
+            ("text", "", "Write a text"),
+            ("beacon", "1", "Not all of these signs have a beacon"),
+            ("sign", "999", "Choose at least one sign"),
+        ):
+            fields = {**GOOD, "sign": str(bench.one), key: value}
+            status, page, _ = await one.post("/compose", fields)
+            assert status == 422 and why in page, key
+            held = {**fields, "kind": "publish", "confirmation": "x" * 24}
+            assert (await one.post("/send", held))[0] == 422, key
+        assert (await one.post("/send", {**GOOD, "sign": str(bench.one), "kind": "publish"}))[0] == 400
+        assert views.commands(bench.store.database, views.Wanted()) == []
+
+    run(tmp_path, str(tmp_path / "database"), act)
+
+
+def test_a_request_without_its_token_does_nothing(tmp_path: pathlib.Path, where: str) -> None:
+    async def act(bench: Bench, visitor: Visitors) -> None:
+        one, other = [await bench.logged_in(visitor, name) for name in ("operator", "administrator")]
+        held = {**GOOD, "sign": str(bench.one), "kind": "publish", "confirmation": "x" * 24}
+        theirs = await other.token()
+        wrongs: list[dict[str, str]] = [{}, {"token": ""}, {"token": theirs}]
+        for wrong in wrongs:
+            answer = await one.answered("/send", {**held, **wrong})
+            assert answer.status == 403 and "nothing was done" in await answer.text()
+        for headers in ({"Origin": "https://example.org"}, {"Sec-Fetch-Site": "cross-site"}):
+            answer = await one.answered("/send", {**held, "token": await one.token()}, headers)
+            assert answer.status == 403
+        answer = await other.answered("/users", {"do": "disable", "name": "operator"})
+        assert answer.status == 403 and (await one.get("/"))[0] == 200
+        assert views.commands(bench.store.database, views.Wanted()) == []
+
+    run(tmp_path, where, act)
+
+
+def test_blanking_and_showing_a_row(tmp_path: pathlib.Path) -> None:
+    async def act(bench: Bench, visitor: Visitors) -> None:
+        bench.table(bench.one)
+        bench.read(bench.one, priority=200)
+        one = await bench.logged_in(visitor, "operator")
+        for path, kind, line in (
+            (f"/blank?sign={bench.one}&sign={bench.two}", "blank", "blank 1 65535 255 127.0.0.1"),
+            (f"/show?sign={bench.one}&memory=3&number=1", "activate", "activate ffffff0300019a667f000001"),
+        ):
+            page = (await one.get(path))[1]
+            form = page[page.index('action="/send"') :]
+            held = re.findall(r'<input type="hidden" name="(\w+)" value="([^"]*)">', form)
+            assert ("kind", kind) in held
+            asked_for = [*[field for field in held if field[0] != "token"], ("priority", "255"), ("lasts", "forever")]
+            assert (await one.post("/send", asked_for))[0] == 303
+            assert views.commands(bench.store.database, views.Wanted(most=1))[0].line == line
+        fields = {**GOOD, "sign": str(bench.one)}
+        assert "It will refuse this: what it shows has priority 200" in (await one.post("/compose", fields))[1]
+
+    run(tmp_path, str(tmp_path / "database"), act)
+
+
+def test_a_command_that_waits_is_withdrawn(tmp_path: pathlib.Path, where: str) -> None:
+    async def act(bench: Bench, visitor: Visitors) -> None:
+        one = await bench.logged_in(visitor, "operator")
+        number = bench.store.ask(bench.one, "operator", "blank 1 65535 255 127.0.0.1")
+        assert "Withdraw" in (await one.get("/history"))[1]
+        assert (await one.post(f"/commands/{number}/withdraw", {}))[0] == 303
+        assert bench.store.how(number) == "withdrawn by operator"
+        assert (await one.post(f"/commands/{number}/withdraw", {}))[0] == 409
+        assert (await one.post("/commands/999/withdraw", {}))[0] == 409
+
+    run(tmp_path, where, act)
+
+
+def test_an_earlier_text_is_used_again(tmp_path: pathlib.Path) -> None:
+    async def act(bench: Bench, visitor: Visitors) -> None:
+        one = await bench.logged_in(visitor, "operator")
+        held = await confirmation(one, [("sign", str(bench.one)), *GOOD.items()])
+        await one.post("/send", held)
+        page = (await one.get("/compose?again=1"))[1]
+        assert ">[fo2]FOG</textarea>" in page and 'value="30"' in page and 'value="110"' in page
+
+    run(tmp_path, str(tmp_path / "database"), act)
+
+
+def test_pictures_and_the_model_agree(tmp_path: pathlib.Path) -> None:
+    async def act(bench: Bench, visitor: Visitors) -> None:
+        face = face_of(bench.room.signs[bench.one])
+        held = text.described(face.text).face
+        for octets in (
+            b"FOG",
+            b"F\xe9G",
+            b"FO[\xe9]G",
+            b"[fo2]A\x00B",
+            b"A" * 40,
+            b"FOG[xx]\xe9",
+            b"[fo9]\xe9",
+            b"",
+            b"A" * 513,
+            b"[hcE9]",
+            b"[[[]",
+            b"]",
+        ):
+            found, (_, fault) = drawn(bench.room.settings.program, face, octets, None), layout.laid_out(
+                held, held.defaults, octets
+            )
+            assert (found.code, found.offset) == (fault or (None, None)) and found.is_good == (fault is None), octets
+        assert spelled(b"A\xe9B")[0] == b"A[hcE9]B"
+
+    run(tmp_path, str(tmp_path / "database"), act)
+
+
+def test_words_of_a_draft() -> None:
+    assert joined("A\r\nB\nC") == "A[nl]B[nl]C"
+    assert marked("AB[fo9]C", 2) == ("AB", "[fo9]", "C") and marked("AB", 2) == ("AB", "", "")
+    assert marked("A[[B", 1) == ("A", "[", "[B") and marked("A[B", 1) == ("A", "[", "B")
+    draft = Draft("publish", (1,), "A", 4, 2, 0, 1, 9, 8, 7)
+    assert draft.line("me", "192.0.2.1") == "publish 4 2 41 6d65 0 1 9 7 8 192.0.2.1"
+    assert asked(draft.line("me", "192.0.2.1")).owner == b"me"
+    assert (
+        Draft("activate", (1,), memory=3, number=258, priority=9, minutes=5, checksum=0x9A66).line("me", "192.0.2.1")
+        == "activate 0005090301029a66c0000201"
+    )

@@ -1,0 +1,169 @@
+"""Logging in and out: cookies, tokens, limits, and what ends a log-in."""
+
+import pathlib
+
+import pytest
+
+from . import needs
+
+needs.modules("aiohttp", "jinja2")
+
+from wisangub.refusal import Refusal
+from wisangub.room.store import passwords, users
+from wisangub.room.store.users import Role
+from wisangub.room.web import logins
+from wisangub.room.web.sign_in import local
+
+from .visits import PASSWORD, Bench, Visitors, run
+
+
+def test_who_is_not_logged_in_sees_the_form_alone(tmp_path: pathlib.Path, where: str) -> None:
+    async def act(bench: Bench, visitor: Visitors) -> None:
+        nobody = visitor()
+        for path in ("/", "/signs/1", "/history", "/audit", "/compose?sign=1"):
+            answer = await nobody.answered(path)
+            assert answer.status == 303 and answer.headers["Location"].startswith("/login"), path
+        assert (await nobody.get("/events?view=wall"))[0] == 401
+        assert (await nobody.answered("/send", {"kind": "blank"})).status == 401
+        assert (await nobody.get("/login"))[0] == 200
+
+    run(tmp_path, where, act)
+
+
+def test_a_log_in_leads_where_the_visitor_was_going(tmp_path: pathlib.Path, where: str) -> None:
+    async def act(bench: Bench, visitor: Visitors) -> None:
+        assert await visitor().log_in("reader", then="/history?who=me") == (303, "/history?who=me")
+        for elsewhere in ("https://example.org/", "//example.org", "/\\example.org", ""):
+            assert await visitor().log_in("reader", then=elsewhere) == (303, "/")
+        assert local("/signs/1") == "/signs/1"
+
+    run(tmp_path, where, act)
+
+
+def test_cookies_are_signed_and_kept_from_scripts(tmp_path: pathlib.Path, where: str) -> None:
+    async def act(bench: Bench, visitor: Visitors) -> None:
+        one = visitor()
+        token = await one.token("/login")
+        answer = await one.answered("/login", {"token": token, "name": "reader", "password": PASSWORD})
+        said = answer.headers.getall("Set-Cookie")
+        cookie = next(line for line in said if line.startswith("login="))
+        assert "HttpOnly" in cookie and "SameSite=Strict" in cookie and "Path=/" in cookie and "Secure" not in cookie
+        value = cookie.split("=", 1)[1].split(";")[0]
+        for wrong in (value[:-1] + ("0" if value[-1] != "0" else "1"), value.split(".")[0], "x." + value.split(".")[1]):
+            assert (await visitor().answered("/", headers={"Cookie": f"login={wrong}"})).status == 303
+        assert (await visitor().answered("/", headers={"Cookie": f"login={value}"})).status == 200
+
+    run(tmp_path, where, act)
+
+
+def test_behind_tls_cookies_are_secure(tmp_path: pathlib.Path) -> None:
+    async def act(bench: Bench, visitor: Visitors) -> None:
+        answer = await visitor().answered("/login")
+        cookie = answer.headers.getall("Set-Cookie")[0]
+        assert cookie.startswith("__Host-before=") and "Secure" in cookie and "HttpOnly" in cookie
+
+    run(tmp_path, str(tmp_path / "database"), act, is_behind_tls=True)
+
+
+def test_a_form_without_its_token_logs_nobody_in(tmp_path: pathlib.Path) -> None:
+    async def act(bench: Bench, visitor: Visitors) -> None:
+        one = visitor()
+        await one.get("/login")
+        for token in ("", "0" * 64):
+            answer = await one.answered("/login", {"token": token, "name": "reader", "password": PASSWORD})
+            assert answer.status == 403
+        other = await visitor().token("/login")
+        assert (await one.answered("/login", {"token": other, "name": "reader", "password": PASSWORD})).status == 403
+
+    run(tmp_path, str(tmp_path / "database"), act)
+
+
+def test_log_ins_that_fail_are_counted(tmp_path: pathlib.Path, where: str) -> None:
+    async def act(bench: Bench, visitor: Visitors) -> None:
+        one = visitor()
+        for _ in range(logins.MOST_OF_BOTH):
+            assert (await one.log_in("reader", "wrong"))[0] == 403
+        assert (await one.log_in("reader"))[0] == 429, "the right password is no way around"
+        assert (await one.log_in("operator"))[0] == 303, "another user may"
+        lines = [str(row[0]) for row in bench.store.run("SELECT what FROM audit WHERE who = 'reader'")]
+        assert lines == ["a log-in failed, from 127.0.0.1"] * logins.MOST_OF_BOTH
+        for number in range(logins.MOST_OF_ADDRESS - logins.MOST_OF_BOTH):
+            assert (await one.log_in(f"nobody{number}", "my secret"))[0] == 403
+        assert (await one.log_in("administrator"))[0] == 429, "so many from one address"
+        held = str(bench.store.run("SELECT * FROM failed_logins")) + str(bench.store.run("SELECT * FROM audit"))
+        assert "nobody1" not in held and "my secret" not in held
+
+    run(tmp_path, where, act)
+
+
+def test_a_success_forgets_what_failed(tmp_path: pathlib.Path) -> None:
+    async def act(bench: Bench, visitor: Visitors) -> None:
+        one = visitor()
+        for _ in range(3):
+            for _ in range(logins.MOST_OF_BOTH - 1):
+                await one.log_in("reader", "wrong")
+            assert (await one.log_in("reader"))[0] == 303
+            assert (await one.post("/logout", {}))[2] == "/login"
+
+    run(tmp_path, str(tmp_path / "database"), act)
+
+
+def test_what_ends_a_log_in(tmp_path: pathlib.Path, where: str) -> None:
+    async def act(bench: Bench, visitor: Visitors) -> None:
+        held = bench.store.database
+        one = await bench.logged_in(visitor, "operator")
+        cookie = one.client.session.cookie_jar.filter_cookies(one.client.make_url("/"))["login"].value
+        assert (await one.post("/logout", {}))[0] == 303
+        assert (await visitor().answered("/", headers={"Cookie": f"login={cookie}"})).status == 303, "a stolen cookie"
+        for end in (
+            lambda: users.change_role(held, "operator", Role.READER, "a test"),
+            lambda: users.change_password(held, "operator", PASSWORD, "a test"),
+            lambda: users.disable(held, "operator", True, "a test"),
+        ):
+            two = await bench.logged_in(visitor, "operator")
+            end()
+            assert (await two.get("/"))[0] == 303
+        assert (await visitor().log_in("operator"))[0] == 403, "who is disabled does not log in"
+        held.run("UPDATE logins SET begun = begun - ?", logins.LASTS)
+        users.disable(held, "operator", False, "a test")
+        three = await bench.logged_in(visitor, "operator")
+        held.run("UPDATE logins SET begun = begun - ?", logins.LASTS)
+        assert (await three.get("/"))[0] == 303, "a log-in lasts a shift"
+
+    run(tmp_path, where, act)
+
+
+def test_passwords(monkeypatch: pytest.MonkeyPatch) -> None:
+    monkeypatch.setattr(passwords, "COST", 2**4)
+    kept = passwords.secret_of("correct horse")
+    assert kept.startswith("scrypt 16 8 3 ") and "correct" not in kept
+    assert passwords.is_password("correct horse", kept) and not passwords.is_password("correct Horse", kept)
+    assert passwords.secret_of("correct horse") != kept, "each has a salt of its own"
+    assert not passwords.is_password("x" * 1000, kept)
+    for bad in ("short", "a" * 20, "x" * 300):
+        assert passwords.fault_of(bad)
+
+
+def test_users_from_the_command_line(
+    tmp_path: pathlib.Path, monkeypatch: pytest.MonkeyPatch, capsys: pytest.CaptureFixture[str]
+) -> None:
+    monkeypatch.setattr(passwords, "COST", 2**4)
+    monkeypatch.setattr(users, "asked_password", lambda: "a long password")
+
+    def call(*words: str) -> int:
+        monkeypatch.setattr("sys.argv", ["users", "--database", str(tmp_path / "database"), *words])
+        return users.main()
+
+    assert call("--create", "add", "ann", "administrator") == 0 and call("add", "bob", "reader") == 0
+    assert call("role", "bob", "operator") == 0 and call("disable", "bob") == 0 and call("list") == 0
+    assert capsys.readouterr().out == "ann administrator\nbob operator disabled\n"
+    for words, why in (
+        (("add", "ann", "reader"), "already"),
+        (("add", "Ann", "reader"), "small letters"),
+        (("add", "eve", "king"), "no role"),
+        (("role", "eve", "reader"), "no user"),
+        (("disable", "ann"), "no administrator would be left"),
+        (("role", "ann", "reader"), "no administrator would be left"),
+    ):
+        with pytest.raises(Refusal, match=why):
+            call(*words)

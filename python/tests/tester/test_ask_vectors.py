@@ -1,0 +1,60 @@
+"""wisangub-conform vectors at a port that is silent, and at one that answers wrongly."""
+
+import socket
+import subprocess
+import sys
+import threading
+
+CALL = [sys.executable, "-m", "wisangub.tester", "vectors"]
+
+
+def asked(port: int) -> subprocess.CompletedProcess[str]:
+    """How the tool ends at a port of this machine."""
+    words = [*CALL, "--to", f"127.0.0.1:{port}", "--wait", "0.2"]
+    return subprocess.run(words, capture_output=True, text=True, timeout=120, check=False)
+
+
+def received(door: socket.socket) -> int:
+    """How many datagrams wait."""
+    count = 0
+    door.setblocking(False)
+    while True:
+        try:
+            door.recv(2048)
+        except BlockingIOError:
+            return count
+        count += 1
+
+
+def test_stops_after_three_silent_requests() -> None:
+    with socket.socket(socket.AF_INET, socket.SOCK_DGRAM) as door:
+        door.bind(("127.0.0.1", 0))
+        ended = asked(door.getsockname()[1])
+        assert ended.returncode == 2
+        assert received(door) == 3
+        assert "3 requests one after the other without a reply: stopped" in ended.stderr
+
+
+def test_goes_on_where_replies_are_wrong() -> None:
+    with socket.socket(socket.AF_INET, socket.SOCK_DGRAM) as door:
+        door.bind(("127.0.0.1", 0))
+        door.settimeout(20)
+
+        def answer() -> None:
+            try:
+                while octets := door.recvfrom(2048):
+                    door.sendto(b"\0", octets[1])
+            except OSError:
+                pass
+
+        thread = threading.Thread(target=answer, daemon=True)
+        thread.start()
+        ended = asked(door.getsockname()[1])
+    assert ended.returncode == 1
+    assert ended.stdout.splitlines()[-1].startswith("0 passed, ")
+
+
+def test_refuses_what_is_no_address() -> None:
+    words = [*CALL, "--to", "nobody"]
+    ended = subprocess.run(words, capture_output=True, text=True, timeout=60, check=False)
+    assert ended.returncode == 2 and "--to wants HOST:PORT" in ended.stderr

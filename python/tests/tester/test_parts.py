@@ -1,0 +1,149 @@
+"""The parts by themselves: rules, comparison, ticks, steps."""
+
+import random
+
+from model import text, wire
+from trials.wrong_signs.load import edited
+from trials.wrong_signs.table import MUTANTS
+from wisangub.tester import bench, kept
+from wisangub.tester.chapters import ALL
+from wisangub.tester.classify import rule_of
+from wisangub.tester.clock import SimulatedClock
+from wisangub.tester.compare import Kind, fields, mismatch
+from wisangub.tester.context import Context
+from wisangub.tester.objects import integer, scalar
+from wisangub.tester.repeat import steps_of
+from wisangub.tester.rules import CHAPTERS, RULES, is_in_profile
+from wisangub.tester.sign.ticks import Ticks
+from wisangub.tester.steps import Wait, get, put
+
+HEIGHT = scalar(2, 3)
+
+
+def response(number: int = 7, status: int = 0, index: int = 0, value: int = 14, community: bytes = b"public") -> bytes:
+    return wire.written(wire.Message(wire.RESPONSE, community, number, status, index, [(HEIGHT, integer(value))]))
+
+
+def test_every_rule_stands_in_the_profile() -> None:
+    assert not [rule.key for rule in RULES.values() if not is_in_profile(rule)]
+    assert {rule.chapter for rule in RULES.values()} <= {"before", *CHAPTERS}
+    assert [chapter.name for chapter in ALL] == list(CHAPTERS)
+
+
+def test_replies_differ_by_kind() -> None:
+    same = response()
+    longer = same[:1] + b"\x81" + same[1:]
+    table = [
+        (same, same, None),
+        (same, None, Kind.NO_ANSWER),
+        (None, same, Kind.ANSWER),
+        (same, b"\x30", Kind.UNREADABLE),
+        (same, longer, Kind.SPELLING),
+        (same, response(8), Kind.HEAD),
+        (same, response(community=b"admin"), Kind.HEAD),
+        (same, response(status=2, index=1), Kind.STATUS),
+        (same, response(value=15), Kind.VALUE),
+    ]
+    for ours, theirs, kind in table:
+        found = mismatch(ours, theirs)
+        assert (found.kind if found else None) is kind, (ours, theirs)
+    assert mismatch(same, response(value=15), frozenset([HEIGHT])) is None
+
+
+def test_fields_are_words() -> None:
+    assert fields(response(status=2, index=1)) == [
+        "Response of public, request-id 7, noSuchName, index 1",
+        "vmsSignHeightPixels.0 = 14",
+    ]
+    assert fields(None) == ["no answer"]
+    assert fields(b"\x30") == ["no message: Truncated at octet 1"]
+
+
+def test_ticks_are_counted_from_what_was_seen() -> None:
+    clock = SimulatedClock()
+    ticks = Ticks(clock)
+    clock.sleep_until(10.3)
+    ticks.learn(10.298, 10.302)
+    assert ticks.take_passed() == 1
+    clock.sleep_until(13.29)
+    ticks.keep_clear()
+    assert clock.now() > 13.3 and ticks.take_passed() == 3
+    ticks.wait(2)
+    assert 15.3 < clock.now() < 15.4 and ticks.take_passed() == 2
+
+
+def test_a_period_is_learnt_no_nearer_than_it_was_seen() -> None:
+    clock = SimulatedClock()
+    ticks = Ticks(clock)
+    ticks.learn(0.0, 0.004)
+    for number in range(1, 101):
+        clock.sleep_until(number * 1.001 + 0.01)
+        ticks.take_passed()
+    ticks.learn(100.1, 100.104)
+    assert abs(ticks.period - 1.001) < 0.0001
+
+
+def test_sequences_are_read_back() -> None:
+    communities = (b"public", b"admin")
+    asks = [get(HEIGHT), put((scalar(4, 8), integer(3)))]
+    spelled = [ask.octets(70000 + at, communities) for at, ask in enumerate(asks)]
+    steps = steps_of(",".join([spelled[0].hex(), "tick", spelled[1].hex(), "3000"]), communities)
+    assert isinstance(steps[1], Wait) and steps[0].octets(70000, communities) == spelled[0]  # type: ignore[union-attr]
+    octets = [step.octets(70001, communities) for step in steps[2:] if not isinstance(step, Wait)]
+    assert octets == [spelled[1], b"\x30\0"]
+
+
+def test_chapters_are_made_for_any_sign() -> None:
+    bare = (
+        b"size 1 1\ncommunities a b\nrows 0 0\norder swapped\nhas 0 0\ndefaults 0 0 0 0 9 2 2 0 0\nfirst 1\n"
+        b"font 9 height 1 space 0 line 0 version 0000\nend\n"
+    )
+    described = text.described(bare)
+    context = Context(described, (described.reader, described.writer), requests=100, is_slow=True)
+    for chapter in ALL:
+        for block in chapter.blocks(context):
+            assert all(step.rule == "" or step.rule in RULES for step in block.steps), block.name
+            assert block.rule == "" or block.rule in RULES, block.name
+    assert bench.run(bench.session(bare, requests=100, is_slow=True)).is_clean()
+
+
+def test_each_mutant_is_one_edit_of_a_rule() -> None:
+    assert len(MUTANTS) >= 80 and len({mutant.name for mutant in MUTANTS}) == len(MUTANTS)
+    for mutant in MUTANTS:
+        assert mutant.rule in RULES and edited(mutant)
+
+
+def test_random_requests_are_the_same_for_a_seed() -> None:
+    described = text.bench()
+    context = Context(described, (described.reader, described.writer), seed=5, requests=60)
+    chapter = ALL[-1]
+    for number in (1, 2):
+        octets = [
+            [step.octets(70000, context.communities) for step in block.steps if not isinstance(step, Wait)]
+            for block in chapter.blocks(context)
+        ]
+        random.random()
+        if number == 1:
+            first = octets
+    assert octets == first
+
+
+def test_a_reply_with_other_names_is_named_by_its_request() -> None:
+    asked = get(HEIGHT).octets(7, (b"public", b"admin"))
+    other = wire.written(wire.Message(wire.RESPONSE, b"admin", 7, 0, 0, [(scalar(2, 4), integer(9))]))
+    same = wire.written(wire.Message(wire.RESPONSE, b"admin", 7, 0, 0, [(HEIGHT, integer(9))]))
+    differs = mismatch(same, other)
+    assert differs is not None and differs.kind is Kind.BINDINGS
+    assert rule_of(asked, same, other, differs).key == "get"
+
+
+def test_names_that_are_kept_are_read_the_same() -> None:
+    for content in (wire.name_content(HEIGHT), b"\x2b", b"\x81\0", wire.name_content(HEIGHT)):
+        assert kept.name(wire.Reader(content, 0, len(content))) == kept.READ_NAME(wire.Reader(content, 0, len(content)))
+    for _ in range(2):
+        try:
+            kept.name(wire.Reader(b"..\x80\1", 2, 4))
+        except wire.Fault as fault:
+            assert (fault.kind, fault.offset) == ("BadName", 2)
+        else:
+            raise AssertionError("octets that spell no name")

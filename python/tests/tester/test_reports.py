@@ -1,0 +1,101 @@
+"""What is told of a sign, on a terminal, as a page, as JSON and as JUnit."""
+
+import json
+import xml.etree.ElementTree as ET
+
+from model import text, wire
+from model.changes import Change, Refused
+from model.sign import Sign
+from trials.wrong_signs.load import sign_of
+from trials.wrong_signs.table import MUTANTS
+from wisangub.tester import bench
+from wisangub.tester.chapters import ALL
+from wisangub.tester.compare import Kind
+from wisangub.tester.context import Context
+from wisangub.tester.found import Difference
+from wisangub.tester.objects import Name, Value, scalar
+from wisangub.tester.report import files, page, terminal, words
+from wisangub.tester.report.picture import pictures
+from wisangub.tester.results import Results
+
+ABOUT = words.About("127.0.0.1:1", "bench.sign", "model", None, 1, 0, False, "today")
+
+
+def found(name: str, *only: str) -> tuple[Results, Context]:
+    """What is found of a wrong sign, up to the first difference."""
+    wrong = sign_of([mutant for mutant in MUTANTS if mutant.name == name], text.BENCH)
+    session = bench.session(text.BENCH, wrong, requests=0, most_differences=1)
+    results = bench.run(session, only)
+    for difference in results.differences():
+        difference.pictures = pictures(difference, session.context, session.pair.oracle)
+    return results, session.context
+
+
+def first(name: str, *only: str) -> Difference:
+    return found(name, *only)[0].differences()[0]
+
+
+def test_reports_say_the_same() -> None:
+    results, context = found("minutes_are_rounded_down", "durations")
+    about, left_out = ABOUT, words.not_tested(context, results, ALL)
+    held = json.loads(files.as_json(results, about, left_out))
+    suite = ET.fromstring(files.as_junit(results, about))
+    whole = page.as_html(results, about, left_out)
+    shown = "\n".join(terminal.ending(results, about, left_out))
+    first = held["differences"][0]
+    assert first["chapter"] == "durations" and first["rule"]["own"] and first["datagrams"] <= 10 and not held["clean"]
+    assert suite.get("failures") == "1" and first["rule"]["sentence"] in shown and first["command"] in shown
+    assert "dmsMessageTimeRemaining" in whole and words.NOT_SEEN[0] in whole
+
+
+def test_a_text_that_the_two_judge_otherwise_is_drawn() -> None:
+    results, _ = found("tags_in_small_letters_alone", "validation")
+    whole = page.as_html(results, ABOUT, [])
+    assert results.differences()[0].pictures and "fits on our sign" in whole and "<svg" in whole
+    refused, _ = found("a_column_more_than_the_matrix", "validation")
+    assert "our sign refuses it with code 5 at octet" in page.as_html(refused, ABOUT, [])
+
+
+def test_another_spelling_and_no_answer_are_classes_of_their_own() -> None:
+    spelling = first("lengths_are_written_in_the_long_form")
+    assert spelling.mismatch.kind is Kind.SPELLING and spelling.rule.key == "shortest form"
+    results, _ = found("a_request_of_no_names_is_dropped", "ber")
+    assert results.differences()[0].mismatch.kind is Kind.NO_ANSWER
+    assert 'type="no answer"' in files.as_junit(results, ABOUT)
+
+
+class Stubborn(Sign):
+    """A sign whose pages' time cannot be written."""
+
+    def change(self, name: Name, value: Value, is_writer: bool) -> Change:
+        if name == scalar(4, 8):
+            raise Refused(wire.GENERAL)
+        return super().change(name, value, is_writer)
+
+
+def test_what_cannot_be_brought_to_the_known_state_is_told() -> None:
+    sign = Stubborn(text.bench())
+    sign.defaults[7] = 99
+    results = bench.run(bench.session(text.BENCH, sign, requests=0, most_differences=1), ["communities"])
+    difference = results.before[0]
+    assert difference.note == "defaultPageOnTime.0 cannot be brought to 30: it reads 99"
+    assert difference.mismatch.kind is Kind.STATUS and not results.is_clean()
+
+
+def test_what_was_changed_since_the_description_is_told_and_set_back() -> None:
+    sign = Sign(text.bench())
+    sign.defaults[7] = 99
+    sign.ask(3, 1, 6)
+    session = bench.session(text.BENCH, sign, requests=0)
+    results = bench.run(session, ["communities"])
+    assert results.set_back == [("defaultPageOnTime.0", "30", "99"), ("dmsMessageStatus.3.1", "1", "2")]
+    assert results.is_clean() and sign.defaults[7] == 30 and sign.rows[3][0].status == 1
+    told = "\n".join(terminal.ending(results, ABOUT, []))
+    assert "defaultPageOnTime.0 is 30 in the description, was 99 on the sign" in told
+    assert json.loads(files.as_json(results, ABOUT, []))["set_back"][0]["read"] == "99"
+
+
+def test_another_matrix_is_told_first() -> None:
+    results, _ = found("height_and_width_exchanged")
+    assert [name for name, _, _ in results.configuration] == ["vmsSignHeightPixels.0", "vmsSignWidthPixels.0"]
+    assert "Described otherwise" in page.as_html(results, ABOUT, [])

@@ -1,0 +1,68 @@
+"""Right signs show nothing; wrong ones are found, over a simulated clock."""
+
+from model import text
+from trials.wrong_signs.__main__ import BENCH, tried
+from trials.wrong_signs.table import MUTANTS
+from wisangub.process.places import SIGNTOOL, TOP
+from wisangub.tester import bench, soak
+from wisangub.tester.sign.oracle import made
+
+SIGNS = [TOP / "signs/roadside.sign", TOP / "signs/gantry.sign"]
+FEW = (
+    "integers_may_be_padded",
+    "getnext_skips_blank_messages",
+    "two_rows_validate",
+    "a_duration_a_second_short",
+    "silence_counts_dropped_datagrams",
+)
+
+
+def test_the_model_beside_itself_shows_nothing() -> None:
+    for description in (text.BENCH, *[path.read_bytes() for path in SIGNS]):
+        results = bench.run(bench.session(description, requests=200, is_slow=True))
+        assert results.is_clean(), [difference.title for difference in results.differences()]
+
+
+def test_lost_late_and_doubled_replies_show_nothing() -> None:
+    for seed in (1, 2):
+        results = bench.run(bench.session(text.BENCH, seed=seed, faulty=0.05, requests=400))
+        assert results.is_clean(), [difference.title for difference in results.differences()]
+
+
+def test_the_program_beside_the_model_shows_nothing() -> None:
+    if not SIGNTOOL.exists():
+        skip(f"no program at {SIGNTOOL}")
+    for description in (text.BENCH, SIGNS[0].read_bytes()):
+        oracle = made(str(SIGNTOOL), description)
+        try:
+            results = bench.run(bench.session(description, oracle=oracle, requests=400, is_slow=True))
+        finally:
+            oracle.end()
+        assert results.is_clean(), [difference.title for difference in results.differences()]
+
+
+def test_a_soak_counts_what_it_told() -> None:
+    entry = {"under_test": "model", "signtool": "model", "sign": "bench", "requests": 150, "commit": ""}
+    for faulty in (0.0, 0.3):
+        held = soak.run(entry | {"seed": 5, "faulty": faulty}, text.BENCH)
+        assert held["clean"] and held["cases"] == 3 and (held["not_told"] == 0 or faulty), held
+        assert held["told_requests"] >= 150 or held["not_told"], held
+
+
+def test_wrong_signs_are_found() -> None:
+    for mutant in MUTANTS:
+        if mutant.name in FEW:
+            outcome = tried(mutant, BENCH, "model")
+            assert outcome.is_found, outcome
+
+
+class Skipped(Exception):
+    """A test that cannot run here, where there is no pytest."""
+
+
+def skip(why: str) -> None:
+    try:
+        import pytest
+    except ImportError:
+        raise Skipped(why) from None
+    pytest.skip(why)

@@ -1,0 +1,91 @@
+"""The command line over UDP: a right sign, a wrong one and its report's command, and nobody at all."""
+
+import contextlib
+import json
+import pathlib
+import shlex
+import socket
+import subprocess
+import sys
+import tempfile
+import time
+from typing import Iterator
+
+from model import text
+from wisangub.process.places import TOP
+
+from .test_signs import skip
+
+LONG = 300  # seconds that a busy machine may take
+BUSY = 25  # where a test that fails took longer, seconds of the machine are none to go by: it is skipped
+
+
+@contextlib.contextmanager
+def in_real_time() -> Iterator[None]:
+    begun = time.monotonic()
+    try:
+        yield
+    except (AssertionError, subprocess.TimeoutExpired):
+        seconds = time.monotonic() - begun
+        if seconds > BUSY:
+            skip(f"the machine is too busy for a test in real time: {seconds:.0f} s")
+        raise
+
+
+def free_port() -> int:
+    with socket.socket(socket.AF_INET, socket.SOCK_DGRAM) as free:
+        free.bind(("127.0.0.1", 0))
+        return int(free.getsockname()[1])
+
+
+@contextlib.contextmanager
+def door(*words: str) -> Iterator[None]:
+    """A sign on a port, which is gone afterwards."""
+    with subprocess.Popen([sys.executable, *words], cwd=TOP, stdout=subprocess.PIPE, stderr=subprocess.DEVNULL) as sign:
+        try:
+            assert sign.stdout is not None and sign.stdout.readline()
+            yield
+        finally:
+            sign.terminate()
+            sign.wait(30)
+
+
+def conform(port: int, described: pathlib.Path, *options: str) -> subprocess.CompletedProcess[bytes]:
+    call = [sys.executable, "-m", "wisangub.tester", "--to", f"127.0.0.1:{port}", "--sign", str(described)]
+    return subprocess.run(
+        [*call, "--signtool", "model", *options], cwd=TOP, capture_output=True, timeout=LONG, check=False
+    )
+
+
+def test_a_right_sign_over_udp() -> None:
+    with tempfile.TemporaryDirectory() as folder:
+        described, port = pathlib.Path(folder) / "bench.sign", free_port()
+        described.write_bytes(text.BENCH)
+        right = ("bin/wisangub-sign", "--signtool", str(TOP / "model/signtool"))
+        with in_real_time(), door(*right, "--port", str(port), "--sign", str(described)):
+            ended = conform(port, described, "--only", "communities", "--only", "priorities", "--wait", "5")
+            assert ended.returncode == 0 and b"nothing differs" in ended.stdout, ended
+
+
+def test_a_wrong_sign_over_udp_and_its_command() -> None:
+    with tempfile.TemporaryDirectory() as folder:
+        described, port, report = pathlib.Path(folder) / "bench.sign", free_port(), pathlib.Path(folder) / "report.json"
+        described.write_bytes(text.BENCH)
+        wrong = ("-m", "trials.wrong_signs.door", "--port", str(port), "--sign", str(described), "the_reader_writes")
+        with in_real_time(), door(*wrong):
+            ended = conform(port, described, "--only", "communities", "--json", str(report), "--wait", "5")
+            assert ended.returncode == 1, ended
+            held = json.loads(report.read_text(encoding="utf-8"))["differences"][0]
+            assert held["chapter"] == "communities" and not held["rule"]["own"] and held["datagrams"] == 1, held
+            words = shlex.split(held["command"])
+            again = subprocess.run([sys.executable, *words], cwd=TOP, capture_output=True, timeout=LONG, check=False)
+            assert again.returncode == 1 and b"another error-status" in again.stdout, again
+
+
+def test_nobody_answers() -> None:
+    with tempfile.TemporaryDirectory() as folder:
+        described = pathlib.Path(folder) / "bench.sign"
+        described.write_bytes(text.BENCH)
+        with in_real_time():
+            ended = conform(free_port(), described, "--wait", "0.2")
+            assert ended.returncode == 2 and b"does not answer" in ended.stdout, ended

@@ -1,0 +1,162 @@
+"""Time and loss: what is asked again, which reply is whose, what an unanswered SET did, and when a request waits."""
+
+from dataclasses import dataclass, field
+
+from model import text, wire
+from model.sign import Sign
+from wisangub.tester import bench
+from wisangub.tester.clock import SimulatedClock
+from wisangub.tester.objects import Row, integer, octets, scalar
+from wisangub.tester.session import Session
+from wisangub.tester.sign.port import Port
+from wisangub.tester.sign.simulated import SimulatedLink
+from wisangub.tester.steps import Ask, get, put
+
+HEIGHT, TIME = scalar(2, 3), scalar(4, 8)
+ROW = Row(3, 1)
+WRITER = (b"public", b"admin")
+
+
+@dataclass
+class Silent:
+    """A link on which nothing comes but what is laid there."""
+
+    clock: SimulatedClock
+    replies: list[bytes] = field(default_factory=list)
+    sent: list[bytes] = field(default_factory=list)
+
+    def send(self, sent: bytes) -> None:
+        self.sent.append(sent)
+
+    def receive(self, until: float) -> bytes | None:
+        if self.replies:
+            return self.replies.pop(0)
+        self.clock.sleep_until(until)
+        return None
+
+    def close(self) -> None:
+        ...
+
+
+@dataclass
+class Losing:
+    """A simulated link that loses the next request, or the reply to it."""
+
+    link: SimulatedLink
+    is_request_lost: bool = False
+    is_reply_lost: bool = False
+    sent: list[bytes] = field(default_factory=list)
+
+    def send(self, sent: bytes) -> None:
+        self.sent.append(sent)
+        if self.is_request_lost:
+            self.is_request_lost = False
+            return
+        waiting = len(self.link.waiting)
+        self.link.send(sent)
+        if self.is_reply_lost:
+            self.is_reply_lost = False
+            del self.link.waiting[waiting:]
+
+    def receive(self, until: float) -> bytes | None:
+        return self.link.receive(until)
+
+    def close(self) -> None:
+        self.link.close()
+
+
+def begun() -> tuple[Session, Losing]:
+    session = bench.session(text.BENCH, Sign(text.bench()))
+    assert isinstance(session.pair.port.link, SimulatedLink)
+    losing = Losing(session.pair.port.link)
+    session.pair.port.link = losing
+    assert session.beginning.begin() and not session.results.before
+    return session, losing
+
+
+def test_only_reads_are_asked_again() -> None:
+    clock = SimulatedClock()
+    link = Silent(clock)
+    port = Port(link, clock)
+    asked = get(HEIGHT).octets(port.new_number(), WRITER)
+    assert port.ask(asked, port.number).reply is None and link.sent == [asked] * 3 and clock.now() == 3
+    session, losing = begun()
+    losing.is_reply_lost = True
+    losing.sent.clear()
+    exchange = session.pair.do(put((TIME, integer(9))))
+    assert exchange is not None and exchange.is_lost and losing.sent.count(exchange.octets) == 1
+    others = [wire.read(octets) for octets in losing.sent if octets != exchange.octets]
+    kinds = {message.kind for message in others}
+    assert kinds == {wire.GET}  # of what it may have changed
+
+
+def test_a_late_reply_is_passed_over_by_number_and_octets() -> None:
+    clock = SimulatedClock()
+    link = Silent(clock)
+    port = Port(link, clock)
+
+    def reply(number: int, name: tuple[int, ...], value: int) -> bytes:
+        return wire.written(wire.Message(wire.RESPONSE, b"admin", number, 0, 0, [(name, integer(value))]))
+
+    first, second = get(HEIGHT).octets(7, WRITER), get(TIME).octets(7, WRITER)
+    assert port.ask_once(first, 7).reply is None
+    link.replies = [reply(7, HEIGHT, 14), reply(7, TIME, 30), reply(7, TIME, 30)]
+    assert port.ask_once(second, 7).reply == reply(7, TIME, 30) and port.passed_over == 1
+    third = get(HEIGHT).octets(port.new_number(), WRITER)
+    link.replies += [reply(port.number, HEIGHT, 15)]
+    assert port.ask_once(third, port.number).reply == reply(port.number, HEIGHT, 15) and port.passed_over == 2
+
+
+def test_what_an_unanswered_set_did_is_read() -> None:
+    sets = [
+        put((TIME, integer(9))),
+        put(ROW.status(6)),
+        put(ROW.text(b"A"), ROW.priority(7)),
+        put((scalar(6, 3), octets(bytes(12)))),
+    ]
+    for is_request_lost in (True, False):
+        session, losing = begun()
+        for ask in sets:
+            losing.is_request_lost, losing.is_reply_lost = is_request_lost, not is_request_lost
+            exchange = session.pair.do(ask)
+            assert exchange is not None and exchange.is_lost, ask
+            same = session.pair.do(get(TIME, ROW.cell(3), ROW.cell(9), scalar(6, 17)))
+            assert same is not None and same.mismatch is None, ask
+            held = session.known.read([TIME])[TIME]
+            assert held == integer(30 if is_request_lost else 9)
+
+
+def test_a_request_waits_where_a_tick_is_near() -> None:
+    session, _ = begun()
+    pair = session.pair
+    due = pair.ticks.upcoming()
+    pair.clock.sleep_until(due - 0.01)
+    exchange = pair.do(get(HEIGHT))
+    assert exchange is not None and exchange.mismatch is None and due < pair.clock.now() < due + 0.1
+    assert pair.log.count(None) >= 1
+
+
+def test_a_row_settles_at_both_in_the_same_tick() -> None:
+    session, _ = begun()
+    for ask in (put(ROW.status(6)), put(ROW.status(7)), get(ROW.cell(9))):
+        exchange = session.pair.do(ask)
+        assert exchange is not None and exchange.mismatch is None
+    session.pair.clock.sleep_until(session.pair.ticks.upcoming() + 0.001)
+    exchange = session.pair.do(get(ROW.cell(9)))
+    reply = wire.spelled(exchange.theirs or b"") if exchange is not None else None
+    assert reply is not None and reply.bindings[0][1] == integer(4)
+
+
+def test_a_lossy_way_shows_no_difference_where_no_answer_comes() -> None:
+    for seed in (11, 12):
+        session = bench.session(text.BENCH, seed=seed, faulty=0.3, requests=150)
+        results = bench.run(session, ["random"])
+        assert results.is_clean(), [difference.title for difference in results.differences()]
+
+
+def test_asks_of_a_sequence_keep_their_numbers() -> None:
+    ask = Ask(wire.GET, ((HEIGHT, (wire.NULL, b"")),), group=3)
+    session, _ = begun()
+    numbers = [session.pair.number_of(ask) for _ in range(2)]
+    session.pair.begin()
+    assert numbers[0] == numbers[1] != session.pair.number_of(ask)

@@ -1,0 +1,97 @@
+"""A centre over UDP: a door between a socket and `signtool centre`.
+
+    wisangub-centre --to HOST:PORT [--signtool PATH] [--sign FILE] [--journal FILE [--fresh] [--need-journal]]
+        [--first N] [--log FILE|- [--json]] [--tick SECONDS] [--wait SECONDS]
+
+Its standard input has an operator's commands, a line each as in a script: `publish ..`, `blank ..`, `activate ..`. Each
+is carried out until the centre is idle, and how it ended is printed with the ledger's lines; one that takes longer than
+--wait is given up, and the next one waits for its end. `publish-text 3 1 "LANE CLOSED[nl]1 KM" "me" 0 0 100 65535 255
+192.0.2.1` is `publish ..` with its text and its owner as they are read, in quotes (\\" and \\\\ are a quote and a
+backslash; a - without quotes is none), each character an octet of ISO 8859-1; `status` prints how things are at any
+time. With a journal (docs/JOURNAL.md) a centre goes on where it was; without one its request numbers begin at the
+description's, or at --first, which has to be above any that was used. Standard error names the step of a command that
+failed, and says what the sign found wrong with its message, or what may be the cause. The exit status is 0 where every
+command ended accepted, 1 where one did not, and 2 where it could not begin.
+"""
+
+import wisangub.endpoint.interrupts  # noqa: F401, before all else
+
+import argparse
+import math
+import sys
+
+from wisangub.process import description
+from wisangub.refusal import Refusal, say, status_of, tell
+
+from . import commands
+from .centre_door import CentreDoor, last_command
+from .questions import Questions
+from .records import Head
+from .setting import MOST_NUMBER, begun, checked, journal_of, log_of, options
+from .sockets import connected, host_and_port
+
+
+def seconds(word: str) -> float:
+    """A time above 0."""
+    found = float(word)
+    if not 0 < found < math.inf:
+        raise ValueError
+    return found
+
+
+def asked_for() -> argparse.Namespace:
+    """The options, as far as they go together."""
+    words = options(__doc__)
+    words.add_argument(
+        "--to", required=True, metavar="HOST:PORT", help="where the sign is; an IPv6 address stands in brackets"
+    )
+    words.add_argument("--first", type=int, metavar="N", help="the number of the first request; else the description's")
+    words.add_argument("--tick", type=seconds, default=1.0, metavar="SECONDS", help="from tick to tick")
+    words.add_argument("--wait", type=seconds, default=120.0, metavar="SECONDS", help="how long a command may take")
+    asked = words.parse_args()
+    checked(asked)
+    if asked.first is not None and not 0 <= asked.first <= MOST_NUMBER:
+        raise Refusal(f"--first {asked.first} is no number of a request: 0 to {MOST_NUMBER}")
+    return asked
+
+
+def begun_with(first: int, wanted: int | None, is_fresh: bool) -> int:
+    """The number that a journal began with; another one is wanted of a new journal alone."""
+    if wanted not in (None, first) and not is_fresh:
+        raise Refusal(f"--first {wanted}: the journal began with {first}, and goes on where it was")
+    return first
+
+
+def main() -> int:
+    asked = asked_for()
+    log = log_of(asked)
+    text = description.read(asked.sign)
+    first = description.first_of(text) if asked.first is None else asked.first
+    with connected(*host_and_port(asked.to)) as socket:
+        journal = journal_of(asked, Head("centre", description.digest(text), first)) if asked.journal else None
+        if journal is None:
+            say(f"request numbers begin at {first}: no journal tells which were used")
+        elif journal.head.first is not None:
+            first = begun_with(journal.head.first, asked.first, asked.fresh)
+            if journal.is_new:
+                say(f"{asked.journal}: a new journal, whose request numbers begin at {first}")
+        centre = begun(asked, "centre", description.with_first(text, first), journal)
+        questions = Questions(asked.signtool, text)
+        operator = CentreDoor(centre, socket, journal, log, asked.tick, asked.wait, questions)
+        if operator.is_busy and journal:
+            operator.line = last_command(journal.lines())
+        is_well = operator.finish([], asked.wait) if operator.is_busy else True
+        for line in commands.lines(operator.waiting):
+            if line is None:
+                tell("bad line: no UTF-8, or longer than 65536 octets")
+            is_well = line is not None and operator.carry_out(line) and is_well
+        centre.end()
+    return 0 if is_well and not operator.waiting.is_stopped else 1
+
+
+def run() -> int:
+    return status_of(main)
+
+
+if __name__ == "__main__":
+    sys.exit(run())

@@ -1,0 +1,183 @@
+"""Files of a door's own: one door a file, mode 0600, and names that outlive a crash."""
+
+import errno
+import fcntl
+import os
+import stat
+import time
+from typing import Callable
+
+from wisangub.refusal import Refusal, reason
+
+MODE = 0o600
+NEW = ".new"  # the end of the name of a file that is to take another one's place
+OLDER = ".form1"  # of a journal of form 1 that was written anew
+CUT = ".cut-"  # comes before the date of what was cut from a journal
+WRITTEN = os.O_RDWR | os.O_CREAT | os.O_APPEND
+FULL = (errno.ENOSPC, errno.EDQUOT, errno.EROFS)  # of a disk that is full, or can only be read
+CHUNK = 1 << 20
+
+
+class NotKept(Refusal):
+    """The disk refuses, and the file is as it was: what should have been recorded counts as lost."""
+
+
+def refusal(fault: OSError, words: str = "", status: int = 2) -> Refusal:
+    """What a fault of the disk is: where that is full, or can only be read, it may be otherwise later."""
+    told = f"{words}: {fault.strerror}" if words else reason(fault)
+    return NotKept(told, status) if fault.errno in FULL else Refusal(told, status)
+
+
+def opened(path: str, how: int = WRITTEN) -> int:
+    """The file of this name, made where there is none, locked."""
+    while True:
+        try:
+            file = os.open(path, how | os.O_CLOEXEC | os.O_NOCTTY, MODE)
+        except OSError as fault:
+            raise refusal(fault) from fault
+        lock(file, path)
+        if is_named(file, path):
+            return file
+        os.close(file)
+
+
+def opened_to_read(path: str) -> int:
+    """The file of this name, locked; -1 where there is none. It is of a disk that cannot be written now."""
+    return opened(path, os.O_RDONLY) if os.path.exists(path) else -1
+
+
+def lock(file: int, path: str) -> None:
+    """Takes the file for this door alone."""
+    if not stat.S_ISREG(os.fstat(file).st_mode):
+        raise Refusal(f"{path} is no plain file")
+    try:
+        fcntl.flock(file, fcntl.LOCK_EX | fcntl.LOCK_NB)
+    except BlockingIOError:
+        raise Refusal(f"{path}: another door holds this journal") from None
+    except OSError as fault:
+        raise Refusal(f"{path}: {reason(fault)}") from fault
+
+
+def own(file: int, path: str) -> None:
+    """A file that is known to be a door's is its owner's alone."""
+    try:
+        if os.fstat(file).st_mode & 0o077:
+            os.fchmod(file, MODE)
+    except OSError as fault:
+        raise Refusal(f"{path}: {reason(fault)}") from fault
+
+
+def is_named(file: int, path: str) -> bool:
+    """Whether the name still stands for the open file: another door may have put it aside."""
+    try:
+        return os.path.samestat(os.fstat(file), os.stat(path))
+    except FileNotFoundError:
+        return False
+
+
+def stands(file: int, path: str, size: int) -> bool:
+    """Whether the name still stands for the open file, and the file has what was written and no more."""
+    try:
+        named = os.stat(path)
+        return named.st_size == size and os.path.samestat(named, os.fstat(file))
+    except OSError:
+        return False
+
+
+def cut(file: int, size: int, path: str) -> None:
+    """Shortens the file to its whole records; a failure ends the door."""
+    try:
+        os.ftruncate(file, size)
+        os.fsync(file)
+    except OSError as fault:
+        raise Refusal(f"{path}: {reason(fault)}: what is on the disk is not known", 1) from fault
+
+
+def synced_folder(path: str) -> None:
+    """The names in the file's folder are on the disk."""
+    try:
+        folder = os.open(os.path.dirname(os.path.realpath(path)), os.O_RDONLY | os.O_DIRECTORY | os.O_CLOEXEC)
+        try:
+            os.fsync(folder)
+        finally:
+            os.close(folder)
+    except OSError as fault:
+        raise refusal(fault, f"the folder of {path}", 1) from fault
+
+
+def dated() -> str:
+    return time.strftime("%Y-%m-%dT%H%M%S")
+
+
+def free(name: str) -> str:
+    """This name, or one with a number after it, that no file has."""
+    at = 1
+    while os.path.lexists(name if at == 1 else f"{name}-{at}"):
+        at += 1
+    return name if at == 1 else f"{name}-{at}"
+
+
+def copied(file: int, begin: int, end: int, to: int) -> None:
+    """Copies octets of a file to another one, and waits until they are on the disk."""
+    while begin < end:
+        octets = os.pread(file, min(CHUNK, end - begin), begin)
+        begin += os.write(to, octets)
+    os.fsync(to)
+
+
+def kept_aside(file: int, begin: int, end: int, path: str) -> str:
+    """A new file beside this one that has some of its octets, on the disk: its name."""
+    name = ""
+    try:
+        name = free(f"{path}{CUT}{dated()}")
+        made = os.open(name, os.O_WRONLY | os.O_CREAT | os.O_EXCL | os.O_CLOEXEC, MODE)
+        try:
+            copied(file, begin, end, made)
+        except OSError:
+            os.unlink(name)
+            raise
+        finally:
+            os.close(made)
+    except OSError as fault:
+        raise NotKept(f"{path}: what is cut away cannot be put aside: {fault.strerror}", 1) from fault
+    synced_folder(path)
+    return name
+
+
+def octets_aside(path: str) -> int:
+    """How many octets were cut from the file of this name, as far as they lie beside it."""
+    folder, name = os.path.split(os.path.abspath(path))
+    with os.scandir(folder) as entries:
+        return sum(entry.stat().st_size for entry in entries if entry.name.startswith(name + CUT))
+
+
+def put_aside(path: str, begin: Callable[[int], None]) -> tuple[int, str]:
+    """A new file, begun, in the place of the one of this name, which is kept under another. At each moment there is a
+    file of this name, so that a centre's numbers are never begun again."""
+    return replaced(path, free(f"{path}.{dated()}"), begin)
+
+
+def written_anew(path: str, begin: Callable[[int], None]) -> tuple[int, str]:
+    """The same for a journal of form 1, which is kept as it was; where that has such a name already it has no other."""
+    aside = path + OLDER
+    is_kept = os.path.lexists(aside) and os.path.samestat(os.lstat(aside), os.stat(path))
+    return replaced(path, aside if is_kept else free(aside), begin)
+
+
+def replaced(path: str, aside: str, begin: Callable[[int], None]) -> tuple[int, str]:
+    """The new file, and the name under which the old one is kept, which stays in its place where the disk refuses. The
+    folder is not synced yet."""
+    made, file = path + NEW, -1
+    try:
+        if os.path.lexists(made):
+            os.unlink(made)
+        file = opened(made)
+        begin(file)
+        if not os.path.lexists(aside):
+            os.link(path, aside)
+        os.rename(made, path)
+    except (OSError, Refusal) as fault:
+        if file >= 0:
+            os.close(file)
+        raise NotKept(str(fault) if isinstance(fault, Refusal) else reason(fault), 2) from fault
+    return file, aside

@@ -1,0 +1,81 @@
+"""A line an event: with the time, the peer, and what was said in words."""
+
+import datetime
+import json
+import os
+import stat
+
+from wisangub.refusal import Refusal, reason, say
+from wisangub.snmp.datagrams import fields_of
+from wisangub.snmp.mib import Mib
+
+from .files import MODE
+from .sockets import Address, named
+
+
+def file_of(path: str) -> int:
+    """The file that is written to at its end; `-` is standard output."""
+    if path == "-":
+        return 1
+    try:
+        file = os.open(path, os.O_WRONLY | os.O_CREAT | os.O_APPEND | os.O_CLOEXEC | os.O_NOCTTY, MODE)
+        if stat.S_ISREG(os.fstat(file).st_mode):
+            os.fchmod(file, MODE)
+    except OSError as fault:
+        raise Refusal(reason(fault)) from fault
+    return file
+
+
+class Log:
+    """Where events are told, as text or as JSON. A log that cannot be written leaves events out, and says so once."""
+
+    def __init__(self, path: str, is_json: bool) -> None:
+        self.path, self.file, self.is_json, self.mib = path, file_of(path), is_json, Mib.read()
+        self.left_out = 0
+        self.is_torn = self.is_given_up = False
+
+    def datagram(self, event: str, peer: Address, octets: bytes) -> None:
+        """A datagram that came or went."""
+        self.event(event, peer, fields_of(self.mib, octets))
+
+    def event(self, event: str, peer: Address | None = None, fields: dict[str, object] | None = None) -> None:
+        """An event of any kind, in one line."""
+        time = datetime.datetime.now(datetime.timezone.utc).isoformat(timespec="milliseconds").replace("+00:00", "Z")
+        told: dict[str, object] = {"time": time, "peer": named(peer) if peer else "", "event": event, **(fields or {})}
+        self.write(json.dumps(told) if self.is_json else line_of(told))
+
+    def write(self, line: str) -> None:
+        """A line, in one write, after a newline where the last one was written in part."""
+        if self.is_given_up:
+            return
+        octets = b"\n" * self.is_torn + line.encode("utf-8", "backslashreplace") + b"\n"
+        try:
+            written = os.write(self.file, octets)
+        except OSError as fault:
+            if not self.left_out:
+                say(f"the log {self.path} is not written: {fault.strerror}")
+            self.left_out += 1
+            self.is_given_up = self.path == "-" and isinstance(fault, BrokenPipeError)
+            return
+        self.is_torn = written < len(octets)
+        if self.left_out and not self.is_torn:
+            say(f"the log {self.path} is written again, without {self.left_out} events")
+            self.left_out = 0
+
+
+def line_of(told: dict[str, object]) -> str:
+    """An event as a line: values alone where they come first, then each with its name."""
+    words = [str(told["time"]), str(told["peer"]) or "-", str(told["event"])]
+    for name, value in told.items():
+        if name == "bindings" and isinstance(value, list):
+            words += [f"{one['name']}={one['value']}" if one["value"] else one["name"] for one in value]
+        elif name == "kind":
+            words.append(str(value))
+        elif name not in ("time", "peer", "event"):
+            words.append(f"{name} {shown(str(value))}")
+    return " ".join(words)
+
+
+def shown(word: str) -> str:
+    """A word of a log's line: what is not printable in its escapes."""
+    return "".join(c if c.isprintable() else f"\\x{ord(c):02x}" for c in word)

@@ -1,0 +1,121 @@
+"""What a journal's file has: whose it is, how far it is whole, and the moment of its last record."""
+
+from dataclasses import dataclass, replace
+from typing import Iterator
+
+from wisangub.refusal import Refusal
+
+from . import damage, known, older, records
+from .clock import Moment
+from .damage import End
+from .records import FORM, SECTOR, Extent, Head, Octets, Unknown
+
+ANEW = "--fresh begins anew"
+ACCEPT = "--accept-damage goes on once from there, and puts the rest aside"
+ABOVE = "--fresh begins above all numbers that it may have used"
+
+
+@dataclass
+class Found:
+    """`size` octets of `length` are kept, of records up to the one before `number`; `since` is the SINCE of the last.
+    `last` is the moment of the last record, its seconds since the clock counted in."""
+
+    head: Head
+    length: int
+    size: int
+    number: int
+    since: int
+    last: Moment | None
+
+    def lines(self, text: Octets) -> Iterator[list[bytes]]:
+        """The lines that were handed over, many at a time."""
+        if self.head.form != FORM:
+            return older.lines_of(text, self.size)
+        return records.lines_of(text, text.find(b"\n", 0, self.size) + 1, self.size)
+
+
+def read(path: str, text: Octets, wanted: Head, accepts: bool) -> Found | None:
+    """What the file of this journal has; None where that is nothing yet. Refuses what is another's, and damage that is
+    not accepted."""
+    first = first_of(text)
+    if first is None and is_begun(text, wanted):
+        return None
+    head = compared(path, first, wanted)
+    extent = extent_of(path, text, head)
+    end = damage.end_of(text, extent) if head.form == FORM else damage.end_of_older(text, extent.size)
+    if end is End.DAMAGED and (not accepts or head.end == "centre"):
+        how = ABOVE if head.end == "centre" else ACCEPT
+        raise Refusal(
+            f"{path}: damaged at octet {extent.size}: what stands there is no record as a door wrote it ({how})"
+        )
+    kept, last = started(text, extent.size)
+    number = records.number_at(text, kept) if kept < extent.size and head.form == FORM else extent.number
+    return Found(head, len(text), kept, number, min(extent.since, number), last)
+
+
+def first_of(text: Octets) -> bytes | None:
+    """The line of the first record; None where that is not whole."""
+    octets = text[: text.find(b"\n") + 1]
+    if older.is_older(text):
+        return octets[: -older.SUMMED - 1] if octets and older.whole(octets) else None
+    parts = records.parts_of(octets[:-1], 1)
+    return parts[0] if parts else None
+
+
+def is_begun(text: Octets, wanted: Head) -> bool:
+    """Whether a file without a whole record is what a door leaves that was killed at the first one."""
+    octets = text[:SECTOR].rstrip(b"\0")
+    begun = [records.record(replace(wanted, form=FORM).line(), 1, 1), replace(wanted, form=1).line() + b" #"]
+    is_like = begun[0].startswith(octets) or begun[1].startswith(octets) or octets.startswith(begun[1])
+    return len(text) < SECTOR and b"\n" not in octets and len(octets) < len(begun[0]) and is_like
+
+
+def compared(path: str, first: bytes | None, wanted: Head) -> Head:
+    """What the journal is of; a journal of something else is refused by what differs."""
+    found = Head.of(first) if first is not None else None
+    if found is None:
+        raise Refusal(f"{path} is no journal: its first record is not whole")
+    if found.end != wanted.end:
+        raise Refusal(f"{path}: its end is {found.end}, and this door's {wanted.end}")
+    for name, has, asked in (
+        ("form", found.form, found.form if found.form == 1 else FORM),
+        ("rules", found.rules, wanted.rules),
+    ):
+        if has != asked:
+            raise Refusal(f"{path}: its {name} is {has}, and this door's {asked} ({ANEW})")
+    if found.digest != wanted.digest:
+        raise Refusal(f"{path} is the journal of another description ({ANEW})")
+    return found
+
+
+def extent_of(path: str, text: Octets, head: Head) -> Extent:
+    """How far the file is whole; a whole record with a line that its end does not know is refused by name."""
+    is_known = known.of(head.end)
+    try:
+        if head.form == FORM:
+            return records.whole(text, is_known)
+        size, number, at = older.whole(text), 1, 0
+        for lines in older.every_line(text, size):
+            records.look(at, number, lines, is_known, older.SUMMED + 1)
+            at, number = at + sum(map(len, lines)) + (older.SUMMED + 1) * len(lines), number + len(lines)
+        return Extent(size, number, number)
+    except Unknown as fault:
+        raise Refusal(f"{path}: {fault}: no {head.end} knows this line ({ANEW})") from fault
+
+
+def started(text: Octets, size: int) -> tuple[int, Moment | None]:
+    """The length of the records up to a start that was not finished, and the moment of the last of them."""
+    start = text.rfind(b"\nstart ", 0, size) + 1
+    while (clock := text.rfind(b"\nclock ", 0, size) + 1) < start:
+        size, start = start, text.rfind(b"\nstart ", 0, start) + 1
+    if not start:
+        return size, None
+    at = text.find(b"\n", clock) + 1
+    moment = Moment.of(text[start : text.find(b"\n", start)], text[clock:at])
+    return size, moment.later(sum(seconds_of(line) for line in text[at:size].split(b"\n")))
+
+
+def seconds_of(octets: bytes) -> int:
+    """The seconds that a record counts."""
+    words = octets.split(b" ", 2)
+    return int(words[1]) if words[0] == b"ticks" and words[1].isdigit() else int(words[0] == b"tick")

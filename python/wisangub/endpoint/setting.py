@@ -1,0 +1,109 @@
+"""What both doors do on their way: options, a journal of a description, and a co-process that is where the journal left
+it."""
+
+import argparse
+import dataclasses
+import os
+
+from wisangub.process.coprocess import CoProcess
+from wisangub.process.places import SIGNTOOL
+from wisangub.refusal import Refusal, say
+
+from .files import octets_aside, opened
+from .journal import Journal
+from .log import Log
+from .reading import first_of
+from .records import SECTOR, SHORTEST, Head
+
+MOST_NUMBER = 2**31 - 1  # of a request
+
+
+def options(about: str | None) -> argparse.ArgumentParser:
+    """The options that both doors have."""
+    words = argparse.ArgumentParser(description=about, formatter_class=argparse.RawDescriptionHelpFormatter)
+    words.add_argument("--signtool", default=str(SIGNTOOL), metavar="PATH", help="the program that answers lines")
+    words.add_argument("--sign", metavar="FILE", help="the description of the sign, as in signs/; else the bench sign")
+    words.add_argument(
+        "--journal", metavar="FILE", help="what is handed over is kept here, over the end of the process"
+    )
+    words.add_argument("--fresh", action="store_true", help="puts the journal's file aside and begins anew")
+    words.add_argument("--need-journal", action="store_true", help="ends where the disk takes nothing at a start")
+    words.add_argument("--log", metavar="FILE", help="a line an event is written here; - is standard output")
+    words.add_argument("--json", action="store_true", help="the log's lines are JSON")
+    return words
+
+
+def checked(asked: argparse.Namespace) -> None:
+    """Refuses names without a character, and options that go with none that is there."""
+    for name in ("signtool", "sign", "journal", "log", "host"):
+        if getattr(asked, name, None) == "":
+            raise Refusal(f"--{name} has no name")
+    for option in ("fresh", "accept-damage", "need-journal"):
+        if getattr(asked, option.replace("-", "_"), False) and not asked.journal:
+            raise Refusal(f"--{option} is of a --journal FILE")
+    if asked.json and not asked.log:
+        raise Refusal("--json is of a --log FILE")
+    for what, other in (("journal", asked.journal), ("description", asked.sign)):
+        if asked.log and other and is_same(asked.log, other):
+            raise Refusal(f"{asked.log} cannot be the log and the {what}")
+
+
+def is_same(one: str, other: str) -> bool:
+    """Whether two names are of one file."""
+    try:
+        return os.path.samefile(one, other)
+    except OSError:
+        return os.path.realpath(one) == os.path.realpath(other)
+
+
+def log_of(asked: argparse.Namespace) -> Log | None:
+    return Log(asked.log, asked.json) if asked.log else None
+
+
+def number_above(path: str, file: int, end: str, aside: int = 0) -> int | None:
+    """A number above all that the centre of a journal used: each of its records sent at most one request of a new
+    number, and none is shorter than `tick`; the octets that were cut from it and lie aside count too. None of a sign's,
+    and of a file whose first record was never finished."""
+    text, size = os.pread(file, SECTOR, 0), os.fstat(file).st_size
+    line = first_of(text)
+    found = Head.of(line) if line is not None else None
+    if found is None and (size >= SECTOR or text.strip(b"\0")):
+        raise Refusal(
+            f"{path} is no journal: it is not put aside"
+            + (", and --first says no number above its own" if end == "centre" else "")
+        )
+    if found is not None and found.end != end:
+        raise Refusal(f"{path} is the journal of a {found.end}: it is not put aside")
+    if found is None or found.first is None:
+        return None
+    above = found.first + (size + aside) // SHORTEST
+    if above > MOST_NUMBER:
+        raise Refusal(f"{path}: no number of a request is left above those that it may have used")
+    return above
+
+
+def journal_of(asked: argparse.Namespace, head: Head) -> Journal:
+    """The journal that is asked for."""
+    if not asked.fresh or not os.path.lexists(asked.journal):
+        accepts = getattr(asked, "accept_damage", False)
+        return Journal.opened(asked.journal, head, accepts, is_patient=not asked.need_journal)
+    old = opened(asked.journal)
+    above = number_above(asked.journal, old, head.end, octets_aside(asked.journal))
+    if above is not None and head.first is not None:
+        head = dataclasses.replace(head, first=max(above, head.first))
+    journal = Journal.fresh(asked.journal, head)
+    os.close(old)
+    return journal
+
+
+def begun(asked: argparse.Namespace, end: str, text: bytes | None, journal: Journal | None) -> CoProcess:
+    """The co-process of this description, where the lines of the journal left it."""
+    process = CoProcess(asked.signtool, [end], text)
+    process.begin(b"state" if end == "sign" else b"status last", asked.sign or asked.signtool)
+    if journal is not None:
+        if end == "sign" and process.hand([b"ticks 0"]) != [b"ok"]:
+            raise Refusal(f"{asked.signtool} has no line `ticks`, which a journal needs")
+        process.replay(journal.lines())
+    else:
+        say("nothing is kept: no --journal")
+    return process

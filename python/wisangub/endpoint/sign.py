@@ -1,0 +1,91 @@
+"""A sign on a UDP port: a door between a socket and `signtool sign`.
+
+    wisangub-sign [--port 1161] [--host 127.0.0.1 | --listen HOST:PORT] [--signtool PATH] [--sign FILE] [--journal FILE [--fresh]
+        [--accept-damage] [--need-journal] [--down power|process] [--most-recorded N]] [--log FILE|- [--json]]
+        [--no-ticks] [--lose N] [--quiet]
+
+Each datagram goes to the sign as a line and its reply back to where it came from; each second is a tick. With a journal
+the sign goes on where it was (docs/JOURNAL.md); what the time without a process was, a loss of power or seconds, is
+told by the kernel's boot id, or by --down. A journal that is damaged is refused; with --accept-damage the sign goes on
+from what is whole of it. Where the disk cannot be written it goes on from what is there, answers no SET, and says each
+minute and by its exit status 1 what the next start will not know; with --need-journal it does not start. Of the writing
+community --most-recorded N datagrams a second are recorded, 50 where nothing is said. With --lose N every N-th datagram
+to the sign is lost. What the sign accepts is printed. It ends at an interrupt or a SIGTERM, and at a second one or
+before it is announced at once.
+"""
+
+import wisangub.endpoint.interrupts  # noqa: F401, before all else
+
+import argparse
+import sys
+
+from wisangub.process import description
+from wisangub.refusal import Refusal, status_of, tell
+
+from .clock import Moment, running
+from .keeper import Keeper
+from .limit import MOST_RECORDED, Limit
+from .records import Head
+from .setting import MOST_NUMBER, begun, checked, journal_of, log_of, options
+from .sign_door import Heard, SignDoor
+from .sockets import Waiting, bound, host_and_port, named
+
+
+def asked_for() -> argparse.Namespace:
+    """The options, as far as they go together."""
+    words = options(__doc__)
+    words.add_argument("--host", default="127.0.0.1", help="an IPv4 or IPv6 address, or a name")
+    words.add_argument("--port", type=int, default=1161)
+    words.add_argument("--listen", metavar="HOST:PORT", help="both in one; an IPv6 address stands in brackets")
+    words.add_argument("--accept-damage", action="store_true", help="goes on, and puts the rest aside")
+    words.add_argument("--down", choices=("power", "process"), help="what the time without a process was")
+    words.add_argument(
+        "--most-recorded", type=int, default=MOST_RECORDED, metavar="N", help="of the writing community, in a second"
+    )
+    words.add_argument("--no-ticks", action="store_true")
+    words.add_argument("--lose", type=int, default=0, metavar="N")
+    words.add_argument("--quiet", action="store_true")
+    asked = words.parse_args()
+    checked(asked)
+    if asked.listen is not None:
+        asked.host, asked.port = host_and_port(asked.listen)
+    if asked.down and not asked.journal:
+        raise Refusal("--down is of a --journal FILE")
+    if not 1 <= asked.most_recorded <= MOST_NUMBER:
+        raise Refusal(f"--most-recorded {asked.most_recorded} is no number of datagrams: 1 to {MOST_NUMBER}")
+    if asked.lose < 0:
+        raise Refusal(f"--lose {asked.lose} is no number of datagrams")
+    return asked
+
+
+def main() -> int:
+    asked = asked_for()
+    log, text = log_of(asked), description.read(asked.sign)
+    with bound(asked.host, asked.port) as door:
+        journal = journal_of(asked, Head("sign", description.digest(text))) if asked.journal else None
+        sign = begun(asked, "sign", text, journal)
+        keeper = Keeper(journal) if journal else None
+        up = running()
+        lines = keeper.start(Moment.at(up), asked.down, is_patient=not asked.need_journal) if keeper else []
+        if lines:
+            sign.hand(lines)
+        at, waiting = door.getsockname(), Waiting()
+        if log:
+            log.event("start", at, {"down": b", ".join(lines).decode()} if lines else {})
+        if not asked.quiet:
+            tell(f"a sign at {named(at if ':' in at[0] else (asked.host, at[1]))}")
+        who, limit = description.communities_of(text), Limit[Heard](asked.most_recorded)
+        served = SignDoor(sign, door, keeper, log, up, asked.lose, asked.quiet, who, limit)
+        is_kept = served.serve(waiting, not asked.no_ticks)
+    sign.end()
+    if log:
+        log.event("end")
+    return 0 if is_kept else 1
+
+
+def run() -> int:
+    return status_of(main)
+
+
+if __name__ == "__main__":
+    sys.exit(run())

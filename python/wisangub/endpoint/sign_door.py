@@ -1,0 +1,153 @@
+"""A sign behind a UDP port: what waits is recorded, handed over and answered, many datagrams at a time."""
+
+import socket
+from binascii import hexlify, unhexlify
+
+from wisangub.process.coprocess import CoProcess
+from wisangub.refusal import Refusal, reason, say, tell
+
+from .clock import running
+from .keeper import Keeper
+from .limit import Limit
+from .log import Log
+from .sockets import MOST_DATAGRAM, Address, Waiting, received
+from .sorts import Sort, sort_of
+
+AT_ONCE = 16  # datagrams that are recorded with one sync, and handed over together
+AT_ONCE_TICKS = 1000  # seconds that are handed over together
+Heard = tuple[bytes, Address]
+Sorted = tuple[Heard, Sort]
+Communities = tuple[bytes, bytes]  # the reader's and the writer's
+
+
+def line_of(octets: bytes) -> bytes:
+    """The line that hands a datagram over."""
+    return b"datagram " + (hexlify(octets) or b"-")
+
+
+class SignDoor:
+    """`lose`: every so many datagrams one is lost, 0 for none. Without a keeper nothing is kept. `up` is the moment up
+    to which the sign was told the time. With a keeper the communities are known, and a limit."""
+
+    def __init__(
+        self,
+        sign: CoProcess,
+        door: socket.socket,
+        keeper: Keeper | None,
+        log: Log | None,
+        up: float,
+        lose: int = 0,
+        is_quiet: bool = False,
+        communities: Communities = (b"", b""),
+        limit: Limit[Heard] | None = None,
+    ) -> None:
+        self.sign, self.door, self.keeper, self.log = sign, door, keeper, log
+        self.communities, self.limit = communities, limit or Limit()
+        self.up, self.lose, self.is_quiet, self.count = up, lose, is_quiet, 0
+
+    def serve(self, waiting: Waiting, has_ticks: bool) -> bool:
+        """Until it is stopped. Seconds that have passed go before datagrams that wait. Whether all is recorded that
+        should be."""
+        while not waiting.is_stopped:
+            left = self.up + 1 - running() if has_ticks else None
+            if left is not None and left <= 0:
+                self.tick()
+                continue
+            times = [one for one in (left, self.limit.wait(running())) if one is not None]
+            is_there = waiting.until([self.door.fileno()], min(times, default=None))
+            if (is_there or self.limit.wait(running()) == 0.0) and not (has_ticks and running() >= self.up + 1):
+                self.answer(self.waiting_datagrams())
+        if has_ticks:
+            self.tick()
+        return self.keeper is None or self.keeper.end(self.up if has_ticks else running())
+
+    def tick(self) -> None:
+        """Hands over the seconds that have passed."""
+        while (seconds := min(int(running() - self.up), AT_ONCE_TICKS)) > 0:
+            self.sign.hand([b"tick"] * seconds)
+            self.up += seconds
+            if self.keeper:
+                self.keeper.tick(seconds, self.up)
+
+    def waiting_datagrams(self) -> list[Heard]:
+        """What waits, at most so many at once; one that is longer than this profile's counts as lost."""
+        found: list[Heard] = []
+        while len(found) < AT_ONCE and (one := received(self.door)) is not None:
+            self.count += 1
+            if self.lose and self.count % self.lose == 0 or len(one[0]) > MOST_DATAGRAM:
+                if self.log:
+                    self.log.event("lost", one[1], {"octets": len(one[0])})
+                continue
+            found.append(one)
+        return found
+
+    def answer(self, heard: list[Heard]) -> None:
+        """Records what may change the sign, hands all over, and sends the replies in order. What the disk refuses is
+        not handed over."""
+        some = self.sorted(heard)
+        changing = [one for one, sort in some if sort is Sort.CHANGING] if self.keeper else []
+        if self.keeper and changing and not self.keeper.keep([line_of(octets) for octets, _ in changing]):
+            some = self.without(some)
+        if self.log:
+            for (octets, sender), _ in some:
+                self.log.datagram("in", sender, octets)
+        answers = self.sign.hand([line_of(octets) for (octets, _), _ in some]) if some else []
+        answered = [one[1] for one, answer in zip(some, answers) if self.is_answered(one, answer)]
+        if self.keeper and answered:
+            self.keeper.heard(by_kept=Sort.CHANGING in answered)
+
+    def sorted(self, heard: list[Heard]) -> list[Sorted]:
+        """What is handed over now: what waited for its second, and what is heard, but for what has to wait or is
+        dropped. Without a keeper it is all the same."""
+        if self.keeper is None:
+            return [(one, Sort.CHANGING) for one in heard]
+        now = running()
+        some = [(one, Sort.CHANGING) for one in self.limit.due(now, AT_ONCE)]
+        for one in heard:
+            sort, dropped = sort_of(one[0], *self.communities), self.limit.dropped
+            if sort is not Sort.CHANGING or self.limit.lets(one, now):
+                some.append((one, sort))
+            elif self.log and self.limit.dropped > dropped:
+                self.log.event("too many", one[1], {"octets": len(one[0]), "dropped": self.limit.dropped})
+        return some
+
+    def without(self, some: list[Sorted]) -> list[Sorted]:
+        """What need not be recorded, since the rest cannot be."""
+        for (octets, sender), sort in some:
+            if self.log and sort is Sort.CHANGING:
+                self.log.event("not recorded", sender, {"octets": len(octets)})
+        return [one for one in some if one[1] is not Sort.CHANGING]
+
+    def is_answered(self, one: Sorted, answer: bytes) -> bool:
+        """Sends a reply, where there is one. A change that is not recorded would not be there after a start: its reply
+        is not sent, and the door ends."""
+        (_, sender), sort = one
+        if sort is Sort.UNANSWERED and answer != b"dropped" or sort is Sort.HEARD and answer.startswith(b"accepted"):
+            raise Refusal("the program answered what no sign answers: it is not recorded", 1)
+        return self.reply(answer, sender)
+
+    def reply(self, answer: bytes, sender: Address) -> bool:
+        """Sends a reply, where there is one, and says what was accepted."""
+        word, _, rest = answer.partition(b" ")
+        if word not in (b"reply", b"accepted"):
+            if self.log:
+                self.log.event(answer.decode("latin-1"), sender)
+            return False
+        if word == b"accepted":
+            code, _, rest = rest.partition(b" ")
+            self.accepted(code.decode(), sender)
+        octets = unhexlify(rest)
+        try:
+            self.door.sendto(octets, sender)
+        except OSError as fault:
+            say(f"a reply is lost: {reason(fault)}")
+        if self.log:
+            self.log.datagram("out", sender, octets)
+        return True
+
+    def accepted(self, code: str, sender: Address) -> None:
+        """Tells of an activation."""
+        if not self.is_quiet:
+            tell(f"accepted {code}")
+        if self.log:
+            self.log.event("accepted", sender, {"code": code})

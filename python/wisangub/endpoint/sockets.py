@@ -1,0 +1,133 @@
+"""UDP addresses of either family, and sockets over them."""
+
+import re
+import select
+import signal
+import socket
+from typing import Any, Callable
+
+from wisangub.refusal import Refusal
+
+MOST_DATAGRAM = 1472  # octets of a datagram of this profile
+MOST_FAULTS = 100  # of earlier datagrams, that are passed over at once
+MOST_WAIT = 86_400.0  # seconds that are waited for at once
+Address = tuple[Any, ...]
+
+
+def named(address: Address) -> str:
+    """HOST:PORT, an IPv6 host in brackets, with its interface where it is of one alone."""
+    host, port = address[:2]
+    if len(address) == 4 and address[3] and "%" not in host:
+        host += f"%{interface(address[3])}"
+    return f"[{host}]:{port}" if ":" in host else f"{host}:{port}"
+
+
+def interface(number: int) -> str:
+    """The name of an interface, its number where it has none any more."""
+    try:
+        return socket.if_indextoname(number)
+    except OSError:
+        return str(number)
+
+
+def host_and_port(words: str) -> tuple[str, int]:
+    """Of `HOST:PORT` or `[ADDRESS]:PORT`."""
+    found = re.fullmatch(r"\[([^\[\]]+)\]:([0-9]{1,5})|([^:\[\]]+):([0-9]{1,5})", words)
+    port = int(found[2] or found[4]) if found else 0
+    if not found or not 1 <= port <= 65535:
+        raise Refusal(f"{words!r} is no HOST:PORT (an IPv6 address stands in brackets, and a port is 1 to 65535)")
+    return found[1] or found[3], port
+
+
+def resolved(host: str, port: int) -> tuple[int, Address]:
+    """The family and the address of a host's name or address, of IPv4 where a name has both."""
+    try:
+        found = min(socket.getaddrinfo(host, port, type=socket.SOCK_DGRAM), key=lambda one: one[0] != socket.AF_INET)
+    except (OSError, UnicodeError) as fault:
+        raise Refusal(f"{host}: {getattr(fault, 'strerror', None) or 'no such host'}") from fault
+    return found[0], found[4]
+
+
+def bound(host: str, port: int) -> socket.socket:
+    """A socket at this address."""
+    if not 0 <= port <= 65535:
+        raise Refusal(f"{port} is no port: 0 to 65535")
+    family, address = resolved(host, port)
+    made = socket.socket(family, socket.SOCK_DGRAM)
+    try:
+        made.bind(address)
+    except OSError as fault:
+        raise Refusal(f"{named(address)}: {fault.strerror}") from fault
+    return made
+
+
+def connected(host: str, port: int) -> socket.socket:
+    """A socket that sends to this address, and takes datagrams from it alone."""
+    family, address = resolved(host, port)
+    made = socket.socket(family, socket.SOCK_DGRAM)
+    try:
+        made.connect(address)
+    except OSError as fault:
+        raise Refusal(f"{named(address)}: {fault.strerror}") from fault
+    return made
+
+
+def received(door: socket.socket) -> tuple[bytes, Address] | None:
+    """A datagram that waits, with its sender; None where none does. What an earlier datagram met on its way, such as a
+    machine that is off, is no datagram."""
+    for _ in range(MOST_FAULTS):
+        try:
+            return door.recvfrom(MOST_DATAGRAM + 1, socket.MSG_DONTWAIT)
+        except (BlockingIOError, TimeoutError):
+            return None
+        except OSError:
+            continue
+    return None
+
+
+def sent(door: socket.socket, octets: bytes) -> OSError | None:
+    """Sends a datagram to the socket's peer: why it is lost, or None. What an earlier datagram met on its way is told
+    by the first call after it, and is no fault of this one."""
+    fault: OSError | None = None
+    for _ in range(2):
+        try:
+            door.send(octets)
+            return None
+        except OSError as found:
+            fault = found
+    return fault
+
+
+class Waiting:
+    """Waits for a file or a socket, and for an interrupt or a SIGTERM, which is seen between two steps and never within
+    one. The next one ends the process at once, as a kill does."""
+
+    def __init__(self) -> None:
+        self.is_stopped = False
+        self.files: list[int] = []  # that were waited for last, by this poll
+        self.woken, self.waker = socket.socketpair()
+        self.waker.setblocking(False)
+        self.ready = self.poll_of([])
+        signal.set_wakeup_fd(self.waker.fileno(), warn_on_full_buffer=False)
+        stop: Callable[..., None] = self.stop
+        for number in (signal.SIGINT, signal.SIGTERM):
+            signal.signal(number, stop)
+
+    def stop(self, *_: Any) -> None:
+        self.is_stopped = True
+        for number in (signal.SIGINT, signal.SIGTERM):
+            signal.signal(number, signal.SIG_DFL)
+
+    def poll_of(self, files: list[int]) -> "select.poll":
+        """What waits for these files, and for a signal."""
+        ready = select.poll()
+        for file in (*files, self.woken.fileno()):
+            ready.register(file, select.POLLIN)
+        return ready
+
+    def until(self, files: list[int], seconds: float | None) -> list[int]:
+        """Which of these files can be read, after at most so many seconds."""
+        if files != self.files:
+            self.files, self.ready = list(files), self.poll_of(files)
+        found = self.ready.poll(None if seconds is None else 1000 * min(max(0.0, seconds), MOST_WAIT))
+        return [] if self.is_stopped else [file for file, _ in found if file in files]

@@ -1,0 +1,162 @@
+"""A co-process that answers each line by lines: `signtool sign` or `signtool centre`."""
+
+import os
+import select
+import subprocess
+from typing import Iterable, NoReturn, Sequence
+
+from wisangub.refusal import Refusal, reason
+
+WAIT = 10  # milliseconds, after which answers are read though the process takes nothing
+PATIENCE = 60_000  # milliseconds that a program may take to its first answer
+ENDS = (b"ok", b"dropped", b"bad line")
+ENDING_WORDS = (b"reply", b"accepted", b"send", b"refused")
+FIRST_WORDS = (b"shown", b"idle", b"busy")  # of what is asked first
+HOW = " (tools/build.py builds the program; --signtool model/signtool is the model in its place)"
+REFUSED = (b"read", b"too long", b"memory")  # what stands in place of a description's answers, with `line N`
+
+
+def is_last(answer: bytes) -> bool:
+    """Whether a line is the last one of an answer."""
+    return answer in ENDS or answer.split(b" ")[0] in ENDING_WORDS
+
+
+class CoProcess:
+    """The process, and what it answered that was not read yet."""
+
+    def __init__(self, program: str, words: Sequence[str], description: bytes | None = None) -> None:
+        call = [program, *words] + (["--sign"] if description is not None else [])
+        try:
+            self.process = subprocess.Popen(
+                call, stdin=subprocess.PIPE, stdout=subprocess.PIPE, bufsize=0, process_group=0
+            )
+        except OSError as fault:
+            why = reason(fault) if fault.filename != program else fault.strerror
+            raise Refusal(f"{program}: {why}{HOW if isinstance(fault, FileNotFoundError) else ''}") from fault
+        assert self.process.stdin is not None and self.process.stdout is not None
+        self.input, self.output = self.process.stdin.fileno(), self.process.stdout.fileno()
+        os.set_blocking(self.input, False)
+        self.room, self.answers = select.poll(), select.poll()
+        self.room.register(self.input, select.POLLOUT)
+        self.answers.register(self.output, select.POLLIN)
+        self.program, self.left = program, b""
+        self.description = description or b""
+
+    def write(self, octets: bytes) -> None:
+        """Hands octets over whole. Where the process takes no more, it is room for more that is waited for, and its
+        answers are read meanwhile, since else both pipes fill."""
+        left = memoryview(octets)
+        while left:
+            left = left[self.taken(left) :]
+            if left:
+                self.room.poll(WAIT)
+                while self.answers.poll(0):
+                    self.read()
+
+    def taken(self, octets: memoryview) -> int:
+        """How many octets the process takes now."""
+        try:
+            return os.write(self.input, octets)
+        except BlockingIOError:
+            return 0
+        except BrokenPipeError:
+            self.died()
+
+    def read(self) -> None:
+        """Takes up what the process answered, and waits for it."""
+        more = os.read(self.output, 1 << 17)
+        if not more:
+            self.died()
+        self.left += more
+
+    def died(self) -> NoReturn:
+        """Says how the process ended. What it answered last, if it is no answer to a line, is why."""
+        words = self.left.decode("latin-1").strip()
+        try:
+            status = self.process.wait(5)
+        except subprocess.TimeoutExpired:
+            status = None
+        how = f"by signal {-status}" if status is not None and status < 0 else f"with status {status}"
+        raise Refusal(f"the co-process ended {how}{': ' + words if words else ''}", 1)
+
+    def lines(self, count: int) -> list[bytes]:
+        """The next lines that it answers."""
+        while self.left.count(b"\n") < count:
+            self.read()
+        *lines, self.left = self.left.split(b"\n", count)
+        return lines
+
+    def until(self, last: bytes) -> list[bytes]:
+        """The next lines that it answers, at least one, without the one after them that is `last`."""
+        while (end := self.left.find(b"\n" + last + b"\n")) < 0:
+            more = os.read(self.output, 1 << 17)
+            if not more:
+                self.died()
+            self.left += more
+        lines, self.left = self.left[:end].split(b"\n"), self.left[end + len(last) + 2 :]
+        return lines
+
+    def hand(self, lines: list[bytes]) -> list[bytes]:
+        """The answers to lines that are each answered by one line; they are handed over at once."""
+        self.write(b"\n".join(lines) + b"\n")
+        return self.lines(len(lines))
+
+    def ask(self, line: bytes) -> list[bytes]:
+        """The whole answer to a line."""
+        self.write(line + b"\n")
+        while not (self.left.endswith(b"\n") and is_last(self.left[self.left.rfind(b"\n", 0, -1) + 1 : -1])):
+            self.read()
+        answer, self.left = self.left[:-1].split(b"\n"), b""
+        return answer
+
+    def send(self, line: str) -> list[str]:
+        """The whole answer to a line, as text."""
+        return [answer.decode("latin-1") for answer in self.ask(line.encode())]
+
+    def begin(self, line: bytes, name: str) -> None:
+        """Hands the description over, and asks for something that changes nothing: refuses what is not taken, and a
+        program that is another one."""
+        try:
+            self.write(self.description + line + b"\n")
+            if not self.answers.poll(PATIENCE):
+                raise Refusal("it does not answer")
+            answer = self.lines(1)[0]
+        except Refusal as refused:
+            self.process.kill()
+            raise Refusal(f"{name}: {refused}") from refused
+        if answer.startswith(b"line ") or answer in REFUSED:
+            self.end()  # what it says of the line comes first
+            raise Refusal(f"{name}: {answer.decode()}: no description of a sign")
+        if answer.split(b" ")[0] not in FIRST_WORDS:
+            self.process.kill()
+            raise Refusal(f"{self.program} does not answer as signtool does")
+        while not is_last(answer):
+            answer = self.lines(1)[0]
+
+    def replay(self, chunks: Iterable[list[bytes]]) -> int:
+        """Hands recorded lines over, each of which is answered by one line, and throws the answers away: how many."""
+        counted = answered = 0
+        for lines in chunks:
+            if lines:
+                counted += len(lines)
+                self.write(b"\n".join(lines) + b"\n")
+                answered += self.thrown_away()
+        while answered < counted:
+            self.read()
+            answered += self.thrown_away()
+        return counted
+
+    def thrown_away(self) -> int:
+        """How many answers there were."""
+        count, self.left = self.left.count(b"\n"), b""
+        return count
+
+    def end(self) -> None:
+        """Ends its input, and waits for its end."""
+        assert self.process.stdin is not None
+        self.process.stdin.close()
+        try:
+            self.process.wait(10)
+        except subprocess.TimeoutExpired:
+            self.process.kill()
+            self.process.wait()

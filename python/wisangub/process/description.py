@@ -1,0 +1,55 @@
+"""The description of a sign, as a door hands it to a co-process."""
+
+import hashlib
+import re
+
+from model.text import BENCH
+from wisangub.refusal import Refusal, reason
+
+FIRST = re.compile(rb"^first ([0-9]{1,10})(?=\r?$)", re.MULTILINE)
+
+COMMUNITIES = re.compile(rb"^communities ([^ \n]+) ([^ \n]+?)\r?$", re.MULTILINE)
+
+
+def read(path: str | None) -> bytes | None:
+    """The lines up to and with the first `end` of a file; None for the bench sign."""
+    if path is None:
+        return None
+    try:
+        with open(path, "rb") as file:
+            text = file.read(1 << 21)
+    except OSError as fault:
+        raise Refusal(reason(fault)) from fault
+    ended = re.search(rb"^end(\r?\n|\Z)", text, re.MULTILINE)
+    if ended is None:
+        raise Refusal(f"{path}: line {len(text.splitlines()) + 1}: there is no line `end`")
+    after = [line for line in text[ended.end() :].split(b"\n") if line.rstrip(b"\r") and not line.startswith(b"#")]
+    if after:
+        raise Refusal(f"{path}: after its line `end` there is more: no description of a sign")
+    return text[: ended.end()].rstrip(b"\r\n") + b"\n"
+
+
+def digest(text: bytes | None) -> str:
+    """The SHA-256 of a description; the bench sign has the word `bench`."""
+    return "bench" if text is None else hashlib.sha256(text).hexdigest()
+
+
+def communities_of(text: bytes | None) -> tuple[bytes, bytes]:
+    """Who reads, and who reads and writes."""
+    found = COMMUNITIES.search(BENCH if text is None else text)
+    if found is None:
+        raise Refusal("the description has no line `communities`")
+    return found[1], found[2]
+
+
+def first_of(text: bytes | None) -> int:
+    """The number of the centre's first request; 1 where the description does not say it."""
+    found = FIRST.search(BENCH if text is None else text)
+    return int(found[1]) if found else 1
+
+
+def with_first(text: bytes | None, first: int) -> bytes | None:
+    """The description with another first number; the bench sign is described where it has to be."""
+    if first == first_of(text):
+        return text
+    return FIRST.sub(b"first %d" % first, BENCH if text is None else text, count=1)

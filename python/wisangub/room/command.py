@@ -1,0 +1,98 @@
+"""Asks for a command to a sign, and tells how it ended: wisangub-control command --database WHERE SIGN LINE
+
+LINE is a command of a centre as in a script: `publish ..`, `blank ..`, `activate ..`; or `publish-text 3 1 "LANE
+CLOSED[nl]1 KM" "me" 0 0 100 65535 255 192.0.2.1`, with its text and its owner as they are read. SIGN is the name of a
+sign that a worker has entered. A worker carries it out after the sign's earlier ones. The exit status is 0 where it
+ended accepted.
+"""
+
+import argparse
+import contextlib
+import getpass
+import sys
+import time
+
+from wisangub.endpoint.endings import explained, is_in_error
+from wisangub.endpoint.texts import published
+from wisangub.process.places import called
+from wisangub.refusal import Refusal, say, status_of, tell
+from wisangub.room.store.database import Failed
+from wisangub.room.store.store import Store, whole
+from wisangub.room.worker.program import seconds
+from wisangub.room.worker.session import is_command
+
+from . import start
+from .store import database
+
+LOOK = 0.1  # seconds from one look for the end to the next
+PATIENCE = 3.0  # seconds that are waited for what a sign says of its row
+
+
+def line_of(words: str) -> str:
+    """The centre's line for an operator's."""
+    line = published(words) if words.split(" ")[0] == "publish-text" else words
+    if not is_command(line):
+        raise Refusal("bad line: a command is a line publish-text .., publish .., blank .. or activate ..")
+    return line
+
+
+def row_of(store: Store, name: str) -> int:
+    """The sign's row."""
+    rows = store.run("SELECT id FROM signs WHERE name = ?", name)
+    if not rows:
+        raise Refusal(f"there is no sign {name!r}: a worker enters those of its fleet")
+    return whole(rows[0][0])
+
+
+def waited(store: Store, command: int, wait: float) -> str | None:
+    """How the command ended; None where it did not in time, or the database did not say so."""
+    ends = time.monotonic() + wait
+    while True:
+        with contextlib.suppress(Failed):  # it goes on while the database's server starts again
+            if (how := store.how(command)) is not None:
+                return how
+        if time.monotonic() >= ends:
+            return None
+        time.sleep(LOOK)
+
+
+def explain(store: Store, command: int, how: str) -> None:
+    """Says of a command that failed at which step that was, and what the sign said of it or what may be the cause."""
+    said, ends = "", time.monotonic() + PATIENCE
+    with contextlib.suppress(Failed):
+        while is_in_error(how) and not (said := store.why(command)) and time.monotonic() < ends:
+            time.sleep(LOOK)
+        address = store.run("SELECT address FROM signs WHERE id = (SELECT sign FROM commands WHERE id = ?)", command)
+        if words := explained(how, str(address[0][0]), said):
+            say(words)
+
+
+def main() -> int:
+    words = argparse.ArgumentParser(
+        prog=called("wisangub-control command"),
+        description=__doc__,
+        formatter_class=argparse.RawDescriptionHelpFormatter,
+    )
+    words.add_argument("--database", required=True, metavar="WHERE", help=database.WHERE)
+    words.add_argument("--who", default=getpass.getuser(), metavar="NAME", help="who asks; else the user")
+    words.add_argument("--wait", type=seconds, default=120.0, metavar="SECONDS", help="how long its end is waited for")
+    words.add_argument("sign", metavar="SIGN")
+    words.add_argument("line", metavar="LINE")
+    asked = words.parse_args()
+    if database.is_url(asked.database):
+        start.needed("wisangub.room.command", "psycopg")
+    line = line_of(asked.line)
+    store = Store(database.opened(asked.database, may_create=False))
+    try:
+        command = store.ask(row_of(store, asked.sign), asked.who, line)
+    except Failed as fault:
+        raise Refusal(f"the database: {fault}: whether it was asked for is not known", 1) from fault
+    how = waited(store, command, asked.wait)
+    tell(how if how is not None else f"command {command} has not ended after {asked.wait:g} seconds; it goes on")
+    if how is not None:
+        explain(store, command, how)
+    return 0 if how == "accepted" else 1
+
+
+if __name__ == "__main__":
+    sys.exit(status_of(main))

@@ -1,0 +1,136 @@
+"""The whole on one machine: three signs and the control room: wisangub-control demo [--listen 127.0.0.1:8080]
+
+It starts the signs of signs/fleet.toml, or of another fleet of this machine's, by wisangub-sign, and the control
+room over a database in a folder that is made for it, with a user of each role, whose password is printed. An interrupt
+ends all of it, and the folder goes.
+"""
+
+import argparse
+import contextlib
+import pathlib
+import secrets
+import signal
+import subprocess
+import sys
+import tempfile
+import tomllib
+from typing import Iterator
+
+from wisangub.endpoint.sockets import host_and_port
+from wisangub.process.places import SIGNTOOL, TOP, called, environment
+from wisangub.refusal import Refusal, status_of, tell
+from wisangub.room.store.users import Role
+
+from . import fleet, start
+from .serve import LISTEN
+from .store import database, users
+
+FLEET = TOP / "signs/fleet.toml"
+SILENCE = 2.0  # seconds in which a sign that cannot begin ends
+
+
+def entries(path: pathlib.Path) -> list[tuple[str, int, pathlib.Path]]:
+    """The name, the port and the description of each sign of a fleet."""
+    fleet.read(path)  # which says what is not in order
+    held = tomllib.loads(path.read_text(encoding="utf-8"))["sign"]
+    return [(one["name"], host_and_port(one["address"])[1], path.parent / one["description"]) for one in held]
+
+
+@contextlib.contextmanager
+def ended(processes: list[subprocess.Popen[bytes]]) -> Iterator[None]:
+    """Whatever happens, the processes end."""
+    try:
+        yield
+    finally:
+        for process in reversed(processes):
+            process.terminate()
+        for process in processes:
+            try:
+                process.wait(20)
+            except subprocess.TimeoutExpired:
+                process.kill()
+                process.wait()
+
+
+def begun(words: list[str]) -> subprocess.Popen[bytes]:
+    """A process of this Python, in a group of its own, so that an interrupt comes to this one alone."""
+    return subprocess.Popen(
+        [sys.executable, "-m", *words], env=environment(), cwd=TOP, stdin=subprocess.DEVNULL, process_group=0
+    )
+
+
+def begin_signs(path: pathlib.Path, program: str, running: list[subprocess.Popen[bytes]]) -> None:
+    """The signs are among what runs; refused where one does not stand."""
+    found = entries(path)
+    for _, port, description in found:
+        running.append(
+            begun(
+                [
+                    "wisangub.endpoint.sign",
+                    "--signtool",
+                    program,
+                    "--sign",
+                    str(description),
+                    "--port",
+                    str(port),
+                    "--quiet",
+                ]
+            )
+        )
+    with contextlib.suppress(subprocess.TimeoutExpired):
+        running[-1].wait(SILENCE)
+    dead = [entry[0] for entry, process in zip(found, running) if process.poll() is not None]
+    if dead:
+        raise Refusal(f"no sign stands for {', '.join(dead)}: is its port in use?", 1)
+
+
+def enter(where: str) -> None:
+    """A user of each role, with a password that is printed."""
+    held = database.opened(where)
+    for role in Role:
+        password = secrets.token_urlsafe(9)
+        users.add(held, role.word, role, password, "the demonstration")
+        tell(f"log in as {role.word} with {password}")
+    held.close()
+
+
+def main() -> int:
+    words = argparse.ArgumentParser(
+        prog=called("wisangub-control demo"),
+        description=__doc__,
+        formatter_class=argparse.RawDescriptionHelpFormatter,
+    )
+    words.add_argument("--listen", default=LISTEN, metavar="HOST:PORT")
+    words.add_argument("--fleet", type=pathlib.Path, default=FLEET, metavar="FILE")
+    words.add_argument("--signtool", default=str(SIGNTOOL), metavar="PATH")
+    asked = words.parse_args()
+    start.needed("wisangub.room.demo", "aiohttp", "jinja2")
+    signal.signal(signal.SIGTERM, signal.default_int_handler)
+    path, running = asked.fleet.resolve(), list[subprocess.Popen[bytes]]()
+    with tempfile.TemporaryDirectory(prefix="control-") as folder:
+        where = str(pathlib.Path(folder) / "room.sqlite")
+        with contextlib.suppress(KeyboardInterrupt), ended(running):
+            begin_signs(path, asked.signtool, running)
+            enter(where)
+            running.append(
+                begun(
+                    [
+                        "wisangub.room",
+                        "--fleet",
+                        str(path),
+                        "--database",
+                        where,
+                        "--listen",
+                        asked.listen,
+                        "--signtool",
+                        asked.signtool,
+                    ]
+                )
+            )
+            running[-1].wait()
+            raise Refusal("the control room ended by itself", 1)
+    return 0
+
+
+if __name__ == "__main__":
+    sys.exit(status_of(main))

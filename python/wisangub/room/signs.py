@@ -1,0 +1,70 @@
+"""The signs of the database: wisangub-control signs --database WHERE  list | rename OLD NEW
+
+    list                each sign's name and address
+    rename OLD NEW      another name, for a sign that has another one in the fleet: it keeps its numbers, lines and ledger
+
+A sign is told by its name. A worker that begins with another name for it finds the address taken, and does not begin.
+Workers that go on meanwhile drive the sign under the name that they began with. A change stands in the audit.
+"""
+
+import argparse
+import getpass
+import sys
+
+from wisangub.process.places import called
+from wisangub.refusal import Refusal, status_of, tell
+from wisangub.room.store.database import Database, Failed, Taken
+from wisangub.room.store.users import note
+
+from . import fleet, start
+from .store import database
+
+
+def rename(held: Database, old: str, new: str, who: str) -> None:
+    """The sign has another name."""
+    if not fleet.is_name(new):
+        raise Refusal(fleet.NAMES)
+    try:
+        with held.transaction():
+            if not held.run("UPDATE signs SET name = ? WHERE name = ? RETURNING id", new, old):
+                raise Refusal(f"there is no sign {old!r}")
+            note(held, who, f"sign {old}: its name is {new}")
+    except Taken:
+        raise Refusal(f"there is a sign {new!r} already") from None
+
+
+def arguments() -> argparse.ArgumentParser:
+    words = argparse.ArgumentParser(
+        prog=called("wisangub-control signs"),
+        description=__doc__,
+        formatter_class=argparse.RawDescriptionHelpFormatter,
+    )
+    words.add_argument("--database", required=True, metavar="WHERE", help=database.WHERE)
+    calls = words.add_subparsers(dest="call", required=True, metavar="CALL")
+    calls.add_parser("list")
+    call = calls.add_parser("rename")
+    call.add_argument("old", metavar="OLD")
+    call.add_argument("new", metavar="NEW")
+    return words
+
+
+def main() -> int:
+    asked = arguments().parse_args()
+    if database.is_url(asked.database):
+        start.needed("wisangub.room.signs", "psycopg")
+    held = database.opened(asked.database, may_create=False)
+    try:
+        if asked.call == "rename":
+            rename(held, asked.old, asked.new, f"{getpass.getuser()} at the machine")
+        else:
+            for name, address in held.run("SELECT name, address FROM signs ORDER BY id"):
+                tell(f"{name} {address}")
+    except Failed as fault:
+        raise Refusal(f"the database: {fault}", 1) from fault
+    finally:
+        held.close()
+    return 0
+
+
+if __name__ == "__main__":
+    sys.exit(status_of(main))

@@ -1,0 +1,131 @@
+"""A connection to a database behind a small interface: values in, rows out, transactions, the database's clock.
+
+How SQL is written, so that SQLite and PostgreSQL both take it:
+
+- `?` stands for a value and for nothing else; a text in quotes holds no `?` and no `{clock}`. `{clock}` is the
+  database's time, in seconds since 1970. No other clock is written into a table.
+- Types are TEXT, BIGINT, DOUBLE PRECISION, and `{key}` for a column `id` that numbers its rows (in migrations). Truth is
+  0 or 1, octets are pairs of hexadecimal digits. A text holds no character of number 0.
+- `INSERT .. ON CONFLICT .. DO UPDATE`, `RETURNING` and partial indexes are there in both. `LIKE` differs (case), and a
+  sum of BIGINT is written `CAST(sum(a) AS BIGINT)`.
+- A migration is `python/wisangub/room/store/migrations/NNN_name.sql`: comments are lines of their own, a statement ends with `;` at a line's
+  end.
+- PostgreSQL runs a transaction as "read committed", so others may write between two of its statements: what was looked
+  at is looked at again by the statement that writes (`UPDATE .. WHERE .. RETURNING`), or a key decides, or
+  `transaction(is_alone=True)` keeps out all others that are alone.
+
+A connection that was lost is made anew by the statement after the one that failed; nothing is run a second time by
+itself.
+"""
+
+import contextlib
+import threading
+from typing import Iterator, Sequence
+
+from wisangub.refusal import Refusal
+
+PATIENCE = 10.0  # seconds that a transaction waits for another one's end
+Value = str | int | float | None
+Row = tuple[Value, ...]
+
+
+class Taken(Exception):
+    """A key or a check refused it."""
+
+
+class Failed(Exception):
+    """The database did not do it, or it is not known whether it did."""
+
+
+class Away(Failed):
+    """The database cannot be had now, and may be later; it is not known whether it did what was under way."""
+
+
+class NotYet(Refusal):
+    """A database that cannot be had as a program begins, and may be later: who does not wait ends with these words."""
+
+
+class Database:
+    """What both have. It may be used by many threads: they take turns, a transaction is a turn."""
+
+    clock = ""  # seconds since 1970 as an expression of SQL
+    key = ""  # the type of a column that numbers its table's rows
+    lock = ""  # at the end of a SELECT: its rows are this transaction's, in their order, until it ends
+    skip = ""  # the same, without those that are another one's now
+
+    def __init__(self) -> None:
+        self.turn = threading.RLock()
+        self.is_within = self.is_spoilt = False
+
+    def run(self, sql: str, *values: Value) -> list[Row]:
+        """The rows of a statement, in which each `?` stands for a value, {clock} for the database's time; {lock}
+        and {skip} as above. Outside a transaction it is one by itself: what it wrote is on the disk when it returns."""
+        with self.turn, self.watched():
+            return self.rows(self.own(sql), values)
+
+    def run_all(self, sql: str, values: Sequence[Row]) -> int:
+        """Runs a statement once for each row of values, within a transaction: how many rows it changed in all."""
+        assert self.is_within
+        with self.turn, self.watched():
+            return self.changed(self.own(sql), values)
+
+    def own(self, sql: str) -> str:
+        """The statement in this database's words."""
+        return sql.replace("{clock}", self.clock).replace("{lock}", self.lock).replace("{skip}", self.skip)
+
+    @contextlib.contextmanager
+    def watched(self) -> Iterator[None]:
+        """A transaction in which a statement failed comes to nothing."""
+        try:
+            yield
+        except (Taken, Failed):
+            self.is_spoilt = True
+            raise
+
+    def rows(self, sql: str, values: Row) -> list[Row]:
+        """The rows of a statement of this database."""
+        raise NotImplementedError
+
+    def changed(self, sql: str, values: Sequence[Row]) -> int:
+        """How many rows a statement of this database changed, run for each of these."""
+        raise NotImplementedError
+
+    @contextlib.contextmanager
+    def transaction(self, is_alone: bool = False) -> Iterator[None]:
+        """All of what is run within it happens, or none of it, where something is raised; it is on the disk when the
+        block has ended. Of those that are alone, one is under way at a time."""
+        with self.turn:
+            assert not self.is_within, "a transaction stands within no other one"
+            self.begin(is_alone)
+            self.is_within, self.is_spoilt = True, False
+            try:
+                yield
+                if self.is_spoilt:
+                    raise Failed("a statement of this transaction failed before")
+                self.commit()
+            except BaseException:
+                self.roll_back()
+                raise
+            finally:
+                self.is_within = False
+
+    def begin(self, is_alone: bool) -> None:
+        raise NotImplementedError
+
+    def commit(self) -> None:
+        raise NotImplementedError
+
+    def roll_back(self) -> None:
+        """Nothing of the transaction happens. It raises nothing: a connection that is lost has no transaction."""
+        raise NotImplementedError
+
+    def mark(self) -> str:
+        """Differs from an earlier mark where something was written since, by whomever; now and then where not."""
+        raise NotImplementedError
+
+    def has_table(self, name: str) -> bool:
+        """Whether there is a table of this name."""
+        raise NotImplementedError
+
+    def close(self) -> None:
+        raise NotImplementedError

@@ -1,0 +1,271 @@
+"""What the pages ask the database for: signs and commands. python/wisangub/room/store/past.py has what was before."""
+
+import functools
+import json
+from dataclasses import dataclass
+
+from .database import Database, Row, Value
+from .reading_store import SLACK
+
+SIGNS = """
+SELECT signs.id, signs.name, signs.place, signs.address, signs.poll,
+       last.at, last.heard, last.fault, said.shown, said.minutes, said.at, said.heard, signs.still
+FROM signs
+LEFT JOIN readings AS last ON last.sign = signs.id
+     AND last.number = (SELECT MIN(number) FROM readings WHERE sign = signs.id)
+LEFT JOIN readings AS said ON said.sign = signs.id
+     AND said.number = (SELECT MIN(number) FROM readings WHERE sign = signs.id AND shown IS NOT NULL)
+"""
+COMMANDS = (
+    "SELECT commands.id, commands.sign, signs.name, commands.who, commands.at, commands.line, commands.number,"
+    " commands.ended, commands.how, commands.step, commands.why, signs.address FROM commands JOIN signs ON signs.id = commands.sign"
+)
+
+
+def whole(value: Value) -> int:
+    assert isinstance(value, (int, float))
+    return int(value)
+
+
+def time_of(value: Value) -> float:
+    assert isinstance(value, (int, float))
+    return float(value)
+
+
+def time_or_none(value: Value) -> float | None:
+    return None if value is None else time_of(value)
+
+
+def text_or_none(value: Value) -> str | None:
+    return None if value is None else str(value)
+
+
+def number_of(held: dict[str, object], word: str) -> int | None:
+    """A number that a sign said; None for whatever else it said."""
+    found = held.get(word)
+    return found if isinstance(found, int) else None
+
+
+def octets_of(held: dict[str, object], word: str) -> bytes:
+    """Octets that a sign said, which are kept as digits; none for whatever else it said."""
+    found = held.get(word)
+    try:
+        return bytes.fromhex(found) if isinstance(found, str) else b""
+    except ValueError:
+        return b""
+
+
+@dataclass(frozen=True)
+class Shown:
+    """What a sign said that it shows."""
+
+    mode: int | None
+    source: bytes
+    requester: bytes
+    text: bytes
+    owner: bytes
+    beacon: int | None
+    pixel: int | None
+    priority: int | None
+
+    @staticmethod
+    @functools.lru_cache(8192)
+    def of(words: str) -> "Shown":
+        held = json.loads(words)
+        return Shown(
+            number_of(held, "mode"),
+            octets_of(held, "source"),
+            octets_of(held, "requester"),
+            octets_of(held, "text"),
+            octets_of(held, "owner"),
+            number_of(held, "beacon"),
+            number_of(held, "pixel"),
+            number_of(held, "priority"),
+        )
+
+
+@dataclass(frozen=True)
+class SignView:
+    """A sign, what it said last and when: `fault` is why it says nothing now, since `fault_at`; `still` why it is neither
+    driven nor read."""
+
+    id: int
+    name: str
+    place: str
+    address: str
+    poll: float
+    fault: str | None = None
+    fault_at: float | None = None
+    shown: Shown | None = None
+    minutes: int | None = None
+    since: float | None = None
+    heard: float | None = None
+    still: str | None = None
+
+    def is_stale(self, now: float) -> bool:
+        """Whether what it said last is older than three readings would be, or was heard at a time to come: then the
+        clock jumped, and how old it is is not known."""
+        return self.heard is None or now - self.heard > max(15.0, 3 * self.poll + 5) or self.heard > now + SLACK
+
+
+def sign_view(row: Row) -> SignView:
+    fault = text_or_none(row[7])
+    return SignView(
+        whole(row[0]),
+        str(row[1]),
+        str(row[2]),
+        str(row[3]),
+        time_of(row[4]),
+        fault,
+        time_or_none(row[5]) if fault is not None else None,
+        None if row[8] is None else Shown.of(str(row[8])),
+        None if row[9] is None else whole(row[9]),
+        time_or_none(row[10]),
+        time_or_none(row[11]),
+        text_or_none(row[12]),
+    )
+
+
+def signs(held: Database) -> list[SignView]:
+    """All signs in the order of their numbers."""
+    return [sign_view(row) for row in held.run(f"{SIGNS} ORDER BY signs.id")]
+
+
+def sign(held: Database, number: int) -> SignView | None:
+    rows = held.run(f"{SIGNS} WHERE signs.id = ?", number)
+    return sign_view(rows[0]) if rows else None
+
+
+@dataclass(frozen=True)
+class CommandView:
+    """A command: `number` is that of its line once it was begun, `step` where it is, `how` how it ended, and `why` what
+    the sign said of that."""
+
+    id: int
+    sign: int
+    sign_name: str
+    who: str
+    at: float
+    line: str
+    number: int | None
+    ended: float | None
+    how: str | None
+    step: int | None = None
+    why: str | None = None
+    address: str = ""
+
+
+def command_view(row: Row) -> CommandView:
+    return CommandView(
+        whole(row[0]),
+        whole(row[1]),
+        str(row[2]),
+        str(row[3]),
+        time_of(row[4]),
+        str(row[5]),
+        None if row[6] is None else whole(row[6]),
+        time_or_none(row[7]),
+        text_or_none(row[8]),
+        None if row[9] is None else whole(row[9]),
+        text_or_none(row[10]),
+        str(row[11]),
+    )
+
+
+@dataclass(frozen=True)
+class Wanted:
+    """Which commands are looked for, the newest first; `before` is a number that they are below."""
+
+    sign: int | None = None
+    who: str = ""
+    outcome: str = ""
+    before: int | None = None
+    most: int = 50
+
+    def where(self) -> tuple[str, list[Value]]:
+        parts: list[str] = []
+        values: list[Value] = []
+        for part, value in (
+            ("commands.sign = ?", self.sign),
+            ("commands.who = ?", self.who or None),
+            ("commands.id < ?", self.before),
+        ):
+            if value is not None:
+                parts.append(part)
+                values.append(value)
+        outcome = {
+            "accepted": "commands.how = 'accepted'",
+            "open": "commands.how IS NULL",
+            "failed": "commands.how <> 'accepted'",
+        }.get(self.outcome)
+        parts += [outcome] if outcome else []
+        return (" WHERE " + " AND ".join(parts) if parts else ""), values
+
+
+def commands(held: Database, wanted: Wanted) -> list[CommandView]:
+    where, values = wanted.where()
+    return list(
+        map(command_view, held.run(f"{COMMANDS}{where} ORDER BY commands.id DESC LIMIT ?", *values, wanted.most))
+    )
+
+
+def command(held: Database, number: int) -> CommandView | None:
+    rows = held.run(f"{COMMANDS} WHERE commands.id = ?", number)
+    return command_view(rows[0]) if rows else None
+
+
+def under_way(held: Database) -> list[CommandView]:
+    """Commands that have not ended."""
+    return list(map(command_view, held.run(f"{COMMANDS} WHERE commands.how IS NULL ORDER BY commands.id")))
+
+
+def now(held: Database) -> float:
+    """The database's time."""
+    return time_of(held.run("SELECT {clock}")[0][0])
+
+
+@dataclass(frozen=True)
+class RowView:
+    """A row of a sign's message table, as it was last read."""
+
+    memory: int
+    number: int
+    status: int
+    heard: float
+    text: bytes
+    owner: bytes
+    checksum: int
+    priority: int
+
+
+@dataclass(frozen=True)
+class TableView:
+    """The rows that are in use; when the table was last asked for, and whether it is about to be read."""
+
+    rows: list[RowView]
+    asked: float
+    is_wanted: bool
+
+
+def table(held: Database, number: int) -> TableView:
+    rows = []
+    for memory, at, status, kept, heard in held.run(
+        "SELECT memory, number, status, held, heard FROM messages WHERE sign = ? AND status <> 1"
+        " AND held IS NOT NULL ORDER BY memory, number",
+        number,
+    ):
+        cells = json.loads(str(kept))
+        rows.append(
+            RowView(
+                whole(memory),
+                whole(at),
+                whole(status),
+                time_of(heard),
+                octets_of(cells, "text"),
+                octets_of(cells, "owner"),
+                number_of(cells, "checksum") or 0,
+                number_of(cells, "priority") or 0,
+            )
+        )
+    asked, wanted = held.run("SELECT tabled, wanted FROM signs WHERE id = ?", number)[0]
+    return TableView(rows, time_of(asked), bool(wanted))

@@ -1,0 +1,31 @@
+"""Waits for a database that cannot be had now: its server starts, or another program keeps it."""
+
+from typing import Callable, TypeVar
+
+from wisangub.endpoint.sockets import Waiting
+from wisangub.refusal import Refusal, say
+from wisangub.room.store.database import Away, Failed, NotYet, Taken
+
+AGAIN = 1.0  # seconds from one try to the next
+Answer = TypeVar("Answer")
+
+
+def waited(waiting: Waiting, begin: Callable[[], Answer]) -> Answer | None:
+    """What begins over a database, as soon as that can be had; None where it was stopped before. A database that is not
+    in order is not waited for."""
+    said = ""
+    while not waiting.is_stopped:
+        try:
+            begun = begin()
+        except (Away, NotYet) as away:
+            if str(away) != said:
+                said = str(away)
+                say(f"{said}: it is waited for")
+            waiting.until([], AGAIN)
+        except (Failed, Taken) as fault:
+            raise Refusal(f"the database: {fault}", 1) from fault
+        else:
+            if said:
+                say("the database answers")
+            return begun
+    return None

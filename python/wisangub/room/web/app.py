@@ -1,0 +1,138 @@
+"""The application: which page answers what, and who may."""
+
+import asyncio
+import contextlib
+import logging
+from dataclasses import dataclass
+from functools import partial
+from typing import AsyncIterator, Awaitable, Callable
+
+from aiohttp import web
+
+from wisangub.room.store.database import Failed, Taken
+from wisangub.room.store.users import Role
+
+from . import compose, log_pages, logins, people, picture_pages, record_pages, send, sign_in, sign_pages, wall
+from .events import Hub, events
+from .room import HERE, ROOM, Room, room_of
+from .security import prepare
+
+Handler = Callable[[web.Request], Awaitable[web.StreamResponse]]
+MOST_BODY = 64 * 1024
+LOG = logging.getLogger("control")
+READER, OPERATOR, ADMINISTRATOR = Role.READER, Role.OPERATOR, Role.ADMINISTRATOR
+
+
+@dataclass(frozen=True)
+class Route:
+    """An address; without a role it is open to all, and looks at its own token."""
+
+    method: str
+    path: str
+    handler: Handler
+    role: Role | None = READER
+
+
+ROUTES = (
+    Route("GET", "/login", sign_in.form, None),
+    Route("POST", "/login", sign_in.log_in, None),
+    Route("POST", "/logout", sign_in.log_out),
+    Route("GET", "/account", people.account),
+    Route("POST", "/account", people.own_password),
+    Route("GET", "/", wall.wall),
+    Route("GET", "/events", events),
+    Route("GET", r"/pictures/{face:[0-9a-f]{16}}/{text:-|(?:[0-9a-f]{2})+}.svg", picture_pages.picture),
+    Route("GET", r"/signs/{sign:\d{1,9}}", sign_pages.overview),
+    Route("GET", r"/signs/{sign:\d{1,9}}/table", sign_pages.table),
+    Route("POST", r"/signs/{sign:\d{1,9}}/table", sign_pages.read_table),
+    Route("GET", r"/signs/{sign:\d{1,9}}/ledger", record_pages.ledger),
+    Route("GET", r"/signs/{sign:\d{1,9}}/shown", record_pages.shown),
+    Route("GET", r"/signs/{sign:\d{1,9}}/log", log_pages.log),
+    Route("GET", "/history", record_pages.history),
+    Route("GET", r"/batches/{batch:\d{1,9}}", send.batch),
+    Route("GET", "/compose", compose.form, OPERATOR),
+    Route("POST", "/compose", compose.confirm, OPERATOR),
+    Route("POST", "/look", compose.look, OPERATOR),
+    Route("GET", "/blank", compose.blank, OPERATOR),
+    Route("GET", "/show", compose.row, OPERATOR),
+    Route("POST", "/send", send.send, OPERATOR),
+    Route("POST", r"/commands/{command:\d{1,9}}/withdraw", send.withdraw, OPERATOR),
+    Route("GET", "/users", people.users_page, ADMINISTRATOR),
+    Route("POST", "/users", people.change, ADMINISTRATOR),
+    Route("GET", "/audit", record_pages.audit, ADMINISTRATOR),
+)
+
+
+def refused(request: web.Request, status: int, words: str) -> web.Response:
+    """A page that says why there is no other."""
+    if request.path == "/look":
+        return web.json_response({"error": words}, status=status)
+    return room_of(request).page(request, "error.html", status=status, status_code=status, why=words)
+
+
+@web.middleware
+async def faults(request: web.Request, handler: Handler) -> web.StreamResponse:
+    """What went wrong, in words."""
+    try:
+        return await handler(request)
+    except web.HTTPRedirection:
+        raise
+    except web.HTTPException as fault:
+        words = fault.text if fault.text and not fault.text.startswith(str(fault.status)) else fault.reason
+        return refused(request, fault.status, words)
+    except (Failed, Taken):
+        return refused(request, 503, "The database does not answer. What was asked for may not have been done.")
+    except Exception:
+        LOG.exception("a page failed: %s %s", request.method, request.match_info.route.resource)
+        return refused(request, 500, "Something went wrong here. The service's log says what.")
+
+
+@web.middleware
+async def guard(request: web.Request, handler: Handler) -> web.StreamResponse:
+    """Lets through who may; a request that changes something has to come from a page of ours."""
+    roles: dict[Handler, Role | None] = request.app["roles"]
+    role = roles.get(request.match_info.handler)
+    if request.match_info.handler not in roles or role is None:
+        return await handler(request)
+    room = room_of(request)
+    cookie = room.seal.get(request, "login")
+    visitor = await room.connections.run(partial(logins.find, cookie=cookie)) if cookie else None
+    if visitor is None:
+        if request.method != "GET" or request.path == "/events":
+            raise web.HTTPUnauthorized(text="You are not logged in, or your log-in has ended.")
+        raise web.HTTPSeeOther(sign_in.address(request))
+    request["visitor"] = visitor
+    if visitor.role < role:
+        raise web.HTTPForbidden(text=f"This is for {role.word}s: you are logged in as a {visitor.role.word}.")
+    if request.method != "GET" and not await room.seal.is_own(request, visitor.login):
+        raise web.HTTPForbidden(text="This request did not come from a page of this service, so nothing was done.")
+    return await handler(request)
+
+
+async def hub_running(app: web.Application) -> AsyncIterator[None]:
+    """The hub looks for changes as long as the application stands."""
+    task = asyncio.create_task(app["hub"].run())
+    yield
+    task.cancel()
+    with contextlib.suppress(asyncio.CancelledError):
+        await task
+    app["hub"].close()
+
+
+async def end_streams(app: web.Application) -> None:
+    """Ends what would keep the service from ending."""
+    app["hub"].end_streams()
+
+
+def application(room: Room) -> web.Application:
+    """The pages of a room."""
+    app = web.Application(middlewares=[faults, guard], client_max_size=MOST_BODY)
+    app[ROOM], app["hub"] = room, Hub(room)
+    app["roles"] = {route.handler: route.role for route in ROUTES}
+    for route in ROUTES:
+        app.router.add_route(route.method, route.path, route.handler)
+    app.router.add_static("/static", HERE / "static")
+    app.on_response_prepare.append(prepare)
+    app.on_shutdown.append(end_streams)
+    app.cleanup_ctx.append(hub_running)
+    return app

@@ -1,0 +1,229 @@
+"""Composing: a text with its picture on each face, its fault at its place, and the confirmation."""
+
+import dataclasses
+import json
+import secrets
+from dataclasses import dataclass
+from functools import partial
+from typing import Any
+
+from aiohttp import web
+
+from wisangub.room.store import views
+from wisangub.room.store.database import Database
+from wisangub.room.store.views import SignView
+
+from . import draft as drafts
+from .draft import Draft
+from .faces import Face
+from .pictures import Picture
+from .record_pages import number_of
+from .room import Room, plain_of, room_of
+from .words import asked, text_of
+
+MOST_SIGNS = 1000
+
+
+@dataclass(frozen=True)
+class Look:
+    """A text on the signs of one face: where its picture is, or its fault; before, at and after the fault's place."""
+
+    face: Face
+    names: tuple[str, ...]
+    src: str | None
+    why: str = ""
+    offset: int | None = None
+    marked: tuple[str, str, str] = ("", "", "")
+
+
+def marked(text: str, offset: int) -> tuple[str, str, str]:
+    """The text before, at and after a place: a whole tag, or one character."""
+    end = text.find("]", offset) + 1 if text[offset : offset + 1] == "[" else offset + 1
+    if text[offset : offset + 2] == "[[" or not end:
+        end = offset + 1
+    return text[:offset], text[offset:end], text[end:]
+
+
+async def looks(room: Room, signs: tuple[int, ...], text: str) -> list[Look]:
+    """The text on each face of the signs."""
+    of: dict[str, list[int]] = {}
+    for row in signs:
+        of.setdefault(room.faces[row].key, []).append(row)
+    fault = drafts.text_fault(text)
+    made = []
+    for key, rows in of.items():
+        face, names = room.by_key[key], tuple(room.signs[row].name for row in rows)
+        octets = text.encode("latin-1", "replace")
+        found = Picture(None, fault[1], fault[0]) if fault else await room.pictures.of(face, octets)
+        if found.is_good:
+            made.append(Look(face, names, f"/pictures/{key}/{octets.hex() or '-'}.svg"))
+        else:
+            offset = found.offset
+            made.append(
+                Look(face, names, None, found.why, offset, marked(text, offset) if offset is not None else ("", "", ""))
+            )
+    return made
+
+
+async def look(request: web.Request) -> web.Response:
+    """What the page asks for while a text is written."""
+    room = room_of(request)
+    try:
+        held: Any = json.loads(await request.text())
+        text = drafts.joined(str(held["text"]))[:4096]
+        signs = tuple(row for row in map(int, held["signs"][:MOST_SIGNS]) if row in room.signs)
+    except (ValueError, KeyError, TypeError):
+        raise web.HTTPBadRequest(text="This is no text and list of signs.") from None
+    found = await looks(room, signs, text)
+    return web.json_response(
+        {
+            "octets": len(text),
+            "looks": [
+                {
+                    "face": one.face.key,
+                    "names": list(one.names),
+                    "src": one.src,
+                    "why": one.why,
+                    "offset": one.offset,
+                    "marked": one.marked,
+                    "alt": plain_of(text.encode("latin-1", "replace")),
+                    "width": one.face.width,
+                    "height": one.face.height,
+                }
+                for one in found
+            ],
+        }
+    )
+
+
+def choice(room: Room) -> list[tuple[str, int]]:
+    return [(sign.name, row) for row, sign in room.signs.items()]
+
+
+async def answer(request: web.Request, draft: Draft, status: int = 200) -> web.Response:
+    """The form, with the looks that the text has now."""
+    room = room_of(request)
+    found = await looks(room, draft.signs, draft.text) if draft.text and draft.signs else []
+    now = await room.connections.run(views.now)
+    faces = [room.faces[row] for row in draft.signs] or list(room.faces.values())
+    return room.page(
+        request,
+        "compose.html",
+        status=status,
+        draft=draft,
+        looks=found,
+        signs=choice(room),
+        now=now,
+        most={memory: min(face.most(memory) for face in faces) for memory in (3, 4)},
+        has_beacon=all(face.has_beacon for face in faces),
+        has_pixel=all(face.has_pixel for face in faces),
+        fonts=sorted(set.intersection(*(set(face.fonts) for face in faces))),
+        permanent=faces[0].permanent if len({face.key for face in faces}) == 1 else (),
+    )
+
+
+async def form(request: web.Request) -> web.Response:
+    """The form, for the signs of the address; with the text of an earlier command, where it names one."""
+    room = room_of(request)
+    draft = drafts.read(request.query, room.faces)
+    again = number_of(request, "again")
+    command = await room.connections.run(partial(views.command, number=again)) if again is not None else None
+    if command is not None and (old := asked(command.line)).kind == "publish":
+        draft = dataclasses.replace(
+            draft,
+            signs=draft.signs or tuple({command.sign} & set(room.signs)),
+            text=text_of(old.text),
+            memory=old.memory,
+            number=old.number,
+            beacon=old.beacon,
+            pixel=old.pixel,
+            run=old.run,
+            priority=old.priority,
+            minutes=old.minutes,
+        )
+    return await answer(request, dataclasses.replace(draft, faults={}))
+
+
+@dataclass(frozen=True)
+class Line:
+    """A sign of a confirmation: what it is to show, what it showed last, and why it may refuse."""
+
+    sign: SignView
+    picture: str | None
+    before: str | None
+    warning: str
+
+
+def warning(sign: SignView, draft: Draft, now: float) -> str:
+    """Why a sign may not do it."""
+    if sign.still:
+        return f"It stands still: {sign.still}."
+    if sign.fault or sign.is_stale(now):
+        return "It does not answer at present."
+    shown = sign.shown.priority if sign.shown else None
+    if shown is not None and draft.priority < shown:
+        return f"It will refuse this: what it shows has priority {shown}, and the activation has {draft.priority}."
+    return ""
+
+
+def lines(room: Room, held: Database, draft: Draft, text: bytes) -> tuple[list[Line], float]:
+    found = [views.sign(held, row) for row in draft.signs]
+    now = views.now(held)
+    return [
+        Line(
+            sign,
+            room.picture(sign.id, text),
+            room.picture(sign.id, sign.shown.text) if sign.shown else None,
+            warning(sign, draft, now),
+        )
+        for sign in found
+        if sign is not None
+    ], now
+
+
+async def confirmation(request: web.Request, draft: Draft, text: bytes) -> web.Response:
+    """The last page before it is asked for."""
+    room = room_of(request)
+    found, now = await room.connections.run(lambda held: lines(room, held, draft, text))
+    return room.page(
+        request,
+        "confirm.html",
+        draft=draft,
+        lines=found,
+        now=now,
+        shown_text=text_of(text),
+        confirmation=secrets.token_urlsafe(18),
+    )
+
+
+async def confirm(request: web.Request) -> web.Response:
+    room = room_of(request)
+    fields = await request.post()
+    draft = drafts.read(fields, room.faces)
+    if draft.faults or fields.get("do") == "back":
+        return await answer(request, draft, 422 if draft.faults else 200)
+    if any(one.src is None for one in await looks(room, draft.signs, draft.text)):
+        return await answer(request, draft, 422)
+    return await confirmation(request, draft, draft.octets)
+
+
+async def blank(request: web.Request) -> web.Response:
+    """The confirmation of showing nothing."""
+    draft = drafts.read(request.query, room_of(request).faces, "blank")
+    if "sign" in draft.faults:
+        raise web.HTTPBadRequest(text=draft.faults["sign"])
+    return await confirmation(request, draft, b"")
+
+
+async def row(request: web.Request) -> web.Response:
+    """The confirmation of showing a row that the sign has, as its table was last read."""
+    room = room_of(request)
+    draft = drafts.read(request.query, room.faces, "activate")
+    if draft.faults or len(draft.signs) != 1:
+        raise web.HTTPBadRequest(text="This is no row of one sign.")
+    last = await room.connections.run(lambda held: views.table(held, draft.signs[0]))
+    found = [one for one in last.rows if (one.memory, one.number) == (draft.memory, draft.number)]
+    if not found or found[0].status != 4:
+        raise web.HTTPNotFound(text="The sign's table, as it was last read, has no valid message there.")
+    draft = dataclasses.replace(draft, checksum=found[0].checksum)
+    return await confirmation(request, draft, found[0].text)

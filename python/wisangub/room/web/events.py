@@ -1,0 +1,166 @@
+"""Server-sent events: parts of pages that have changed, as they change."""
+
+import asyncio
+import json
+import re
+import time
+from typing import Callable
+
+from aiohttp import web
+
+from wisangub.room.store import views
+from wisangub.room.store.database import Database, Failed, Taken
+
+from . import logins, send, sign_pages, wall
+from .connections import Connections
+from .room import Room, room_of, visitor_of
+
+VIEW = re.compile(r"wall|(sign|table|batch)/(\d{1,9})")
+MOST_STREAMS, MOST_OF_ONE = 400, 12
+SILENCE = 15.0  # seconds after which a line says that the stream is there, and the log-in is looked at
+AGES = 5.0  # seconds after which what was said may be too old, though nothing was written
+JUMP = 2.0  # seconds by which the database's clock has to be elsewhere
+MOST_WAITING = 20  # events that a browser has not taken; then it has to begin anew
+Parts = dict[str, str]
+OF = {"sign": sign_pages.parts, "table": sign_pages.table_parts, "batch": send.parts}
+
+
+class Stream:
+    """A browser that listens to a view."""
+
+    def __init__(self, view: str, request: web.Request) -> None:
+        self.view, self.request, self.login = view, request, visitor_of(request).login
+        self.looked = time.monotonic()  # when the log-in was found to stand
+        self.queue: asyncio.Queue[Parts | None] = asyncio.Queue(MOST_WAITING)
+
+    @property
+    def is_gone(self) -> bool:
+        """Whether the browser has let go; what waits for an event does not know it yet."""
+        return self.request.transport is None
+
+    def put(self, parts: Parts | None) -> None:
+        """Hands an event over; a browser that takes none is let go."""
+        if self.queue.full():
+            while not self.queue.empty():
+                self.queue.get_nowait()
+            parts = None
+        self.queue.put_nowait(parts)
+
+
+class Hub:
+    """Looks for what has changed as long as somebody listens, once for all."""
+
+    def __init__(self, room: Room) -> None:
+        self.room = room
+        self.streams: set[Stream] = set()
+        self.connections = Connections(room.settings.database, 1)  # a mark is of one connection
+        self.last: dict[str, Parts] = {}
+        self.mark, self.looked = "", 0.0
+        self.clock: float | None = None  # the database's time, less this machine's since it was started
+
+    def made(self, view: str) -> Callable[[Database], Parts]:
+        """How the parts of a view are made."""
+        found = VIEW.fullmatch(view)
+        assert found is not None
+        if found[1] is None:
+            return lambda held: wall.parts(self.room, held)
+        of, row = OF[found[1]], int(found[2])
+        return lambda held: of(self.room, held, row)
+
+    async def run(self) -> None:
+        """For ever."""
+        while True:
+            await asyncio.sleep(self.room.settings.look)
+            if self.streams:
+                try:
+                    await self.look()
+                except (Failed, Taken):
+                    self.mark = ""
+
+    async def tell_time(self) -> None:
+        """Tells all pages the database's time where its clock has jumped: ages are by it."""
+        now = await self.connections.run(views.now)
+        clock, before = now - time.monotonic(), self.clock
+        if before is None or abs(clock - before) > JUMP:
+            self.clock = clock
+            for stream in self.streams if before is not None else ():
+                stream.put({"now": str(now)})
+
+    async def look(self) -> None:
+        """What has changed goes to those who listen to it."""
+        await self.tell_time()
+        mark, now = await self.connections.run(lambda held: held.mark()), time.monotonic()
+        views = {stream.view for stream in self.streams}
+        is_new = mark != self.mark or now - self.looked > AGES
+        self.last = {view: parts for view, parts in self.last.items() if view in views}
+        for view in views:
+            if not is_new and view in self.last:
+                continue
+            parts = await self.connections.run(self.made(view))
+            before = self.last.get(view, {})
+            changed = {name: html for name, html in parts.items() if before.get(name) != html}
+            self.last[view] = parts
+            for stream in self.streams:
+                if changed and stream.view == view:
+                    stream.put(changed)
+        self.mark, self.looked = mark, now if is_new else self.looked
+
+    def enter(self, stream: Stream) -> None:
+        """A new stream; it is told all that is known of its view first."""
+        self.streams = {one for one in self.streams if not one.is_gone}
+        of_one = sum(one.login == stream.login for one in self.streams)
+        if len(self.streams) >= MOST_STREAMS or of_one >= MOST_OF_ONE:
+            raise web.HTTPServiceUnavailable(text="Too many pages listen.")
+        if stream.view in self.last:
+            stream.put(self.last[stream.view])
+        self.streams.add(stream)
+
+    def end_streams(self) -> None:
+        for stream in self.streams:
+            stream.put(None)
+
+    def close(self) -> None:
+        self.end_streams()
+        self.connections.close()
+
+
+def hub_of(request: web.Request) -> Hub:
+    found: Hub = request.app["hub"]
+    return found
+
+
+async def events(request: web.Request) -> web.StreamResponse:
+    """A stream of a view, as long as the log-in stands."""
+    room, view = room_of(request), request.query.get("view", "")
+    found = VIEW.fullmatch(view)
+    if found is None or found[1] in ("sign", "table") and int(found[2]) not in room.signs:
+        raise web.HTTPNotFound(text="There is no such view.")
+    stream = Stream(view, request)
+    hub_of(request).enter(stream)
+    answer = web.StreamResponse(headers={"Content-Type": "text/event-stream", "X-Accel-Buffering": "no"})
+    try:
+        await answer.prepare(request)
+        await answer.write(b"retry: 3000\n\n")
+        while (words := await told(room, stream)) is not None:
+            await answer.write(words)
+    except (ConnectionError, Failed, Taken):
+        pass  # where the database does not answer the stream ends: the browser asks for another one
+    finally:
+        hub_of(request).streams.discard(stream)
+    return answer
+
+
+async def told(room: Room, stream: Stream) -> bytes | None:
+    """The next event, or after a silence a line that says nothing; None where the stream ends. Whatever happens on the
+    view, the log-in is looked at again before it was taken for granted for longer than a silence."""
+    try:
+        parts = await asyncio.wait_for(stream.queue.get(), SILENCE)
+        words = None if parts is None else f"data: {json.dumps(parts)}\n\n".encode()
+    except asyncio.TimeoutError:
+        words = b": here\n\n"
+    now = time.monotonic()
+    if words is not None and now - stream.looked >= SILENCE:
+        if await room.connections.run(lambda held: logins.find(held, stream.login)) is None:
+            return None
+        stream.looked = now
+    return words

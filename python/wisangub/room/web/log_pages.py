@@ -1,0 +1,104 @@
+"""The log of a sign's datagrams, decoded, without communities."""
+
+from dataclasses import dataclass
+from typing import Any
+
+from aiohttp import web
+
+from wisangub.room.fleet import Sign
+from wisangub.room.store import views
+from wisangub.room.store.database import Database
+from wisangub.room.store.views import SignView
+from wisangub.snmp.datagrams import fields_of
+from wisangub.snmp.mib import Mib
+
+from .faces import Face
+from .record_pages import number_of
+from .replay import Handed, Replay
+from .room import room_of, sign_of
+from .words import Asked, asked
+
+MOST = 60  # lines of a page
+HIDDEN = "(a community)"
+
+
+@dataclass(frozen=True)
+class Entry:
+    """An event of a sign's centre: a command, a tick, a datagram that came, or one that went out for it."""
+
+    number: int
+    at: float
+    kind: str
+    asked: Asked | None = None
+    fields: dict[str, Any] | None = None
+    size: int = 0
+
+
+def told(mib: Mib, octets: bytes, communities: tuple[bytes, ...]) -> dict[str, Any]:
+    """What a datagram says; its community, and whatever else spells one, is left out."""
+    fields = fields_of(mib, octets)
+    fields.pop("community", None)
+    words = {word for community in communities for word in (community.decode("latin-1"), community.hex())}
+    bindings = fields.get("bindings")
+    if isinstance(bindings, list):
+        for one in bindings:
+            if any(word in str(one["value"]) for word in words):
+                one["value"] = HIDDEN
+    return fields
+
+
+def entries(mib: Mib, sign: Sign, face: Face, handed: Handed) -> list[Entry]:
+    """The events of a line."""
+    words = handed.line.split(" ")
+    communities = (sign.reader, face.writer)
+    made = []
+    if words[0] == "datagram":
+        octets = bytes.fromhex(words[1]) if words[1] != "-" else b""
+        made.append(Entry(handed.number, handed.at, "from", fields=told(mib, octets, communities), size=len(octets)))
+    elif words[0] in ("tick", "journal"):
+        made.append(Entry(handed.number, handed.at, words[0]))
+    else:
+        made.append(Entry(handed.number, handed.at, "command", asked=asked(handed.line)))
+    if handed.sent is not None:
+        made.append(
+            Entry(handed.number, handed.at, "to", fields=told(mib, handed.sent, communities), size=len(handed.sent))
+        )
+    return made
+
+
+def centre_of(held: Database, row: int, before: int | None) -> list[tuple[int, str, float]]:
+    """The lines of the centre that had the line before a number, up to it; of the last centre for none."""
+    below = before if before is not None else 2**62
+    begun = held.run(
+        "SELECT MAX(number) FROM lines WHERE sign = ? AND number < ? AND substr(line, 1, 8) = 'journal '", row, below
+    )
+    first = begun[0][0] if begun and begun[0][0] is not None else 1
+    rows = held.run(
+        "SELECT number, line, at FROM lines WHERE sign = ? AND number >= ? AND number < ? ORDER BY number",
+        row,
+        first,
+        below,
+    )
+    return [(views.whole(one[0]), str(one[1]), views.time_of(one[2])) for one in rows]
+
+
+async def log(request: web.Request) -> web.Response:
+    room, row, before = room_of(request), sign_of(request), number_of(request, "before")
+
+    def found(held: Database) -> tuple[SignView | None, list[Entry], float]:
+        face, lines = room.faces[row], centre_of(held, row, before)
+        handed = list(Replay(face).hand(lines))[-MOST:]
+        said = [one for line in handed for one in entries(room.mib, room.signs[row], face, line)]
+        return views.sign(held, row), said, views.now(held)
+
+    sign, said, now = await room.connections.run(found)
+    first = said[0].number if said else 1
+    return room.page(
+        request,
+        "log.html",
+        sign=sign,
+        entries=list(reversed(said)),
+        now=now,
+        tab="log",
+        before=first if first > 1 else None,
+    )

@@ -1,0 +1,95 @@
+"""Log-ins in the database: how many may fail, which stand, and when they end."""
+
+import hashlib
+import secrets
+from dataclasses import dataclass
+
+from wisangub.room.store.database import Database
+from wisangub.room.store.reading_store import SLACK
+from wisangub.room.store.users import Role, note
+
+LASTS = 12 * 3600  # seconds of a log-in: a shift
+WINDOW = 300  # seconds in which failed log-ins are counted
+MOST_OF_BOTH, MOST_OF_ADDRESS, MOST_OF_NAME = 5, 30, 50
+KEPT = 86_400  # seconds that a failed log-in is kept
+
+
+@dataclass(frozen=True)
+class Visitor:
+    """Who asks: a user by a log-in."""
+
+    name: str
+    role: Role
+    login: str
+
+    @property
+    def may_command(self) -> bool:
+        return self.role >= Role.OPERATOR
+
+    @property
+    def may_administer(self) -> bool:
+        return self.role >= Role.ADMINISTRATOR
+
+
+def hidden(word: str) -> str:
+    """The digest of what is not to be read in the database."""
+    return hashlib.sha256(word.encode()).hexdigest()
+
+
+def attempt(held: Database, name: str, address: str) -> int | None:
+    """The number of an attempt, which counts as failed until it is taken back; None where there were too many. Each is
+    counted before its password is looked at, so that many at once are no way around."""
+    since = "at > {clock} - ?"
+    counts = (
+        ("name = ? AND address = ?", (hidden(name), address), MOST_OF_BOTH),
+        ("address = ?", (address,), MOST_OF_ADDRESS),
+        ("name = ?", (hidden(name),), MOST_OF_NAME),
+    )
+    with held.transaction(is_alone=True):
+        held.run(
+            "DELETE FROM failed_logins WHERE at < {clock} - ? OR at > {clock} + ?", KEPT, SLACK
+        )  # the clock jumped
+        for where, values, most in counts:
+            found = held.run(f"SELECT count(*) FROM failed_logins WHERE {where} AND {since}", *values, WINDOW)
+            if int(found[0][0] or 0) >= most:
+                return None
+        rows = held.run(
+            "INSERT INTO failed_logins (at, name, address) VALUES ({clock}, ?, ?) RETURNING id", hidden(name), address
+        )
+        return int(rows[0][0] or 0)
+
+
+def failed(held: Database, name: str, address: str) -> None:
+    """The audit of a log-in with a wrong password; a name that is nobody's may be a password, and is not kept."""
+    if held.run("SELECT name FROM users WHERE name = ?", name):
+        note(held, name, f"a log-in failed, from {address}")
+
+
+def begin(held: Database, name: str, address: str) -> str:
+    """A log-in: what its cookie says. The user's failed ones from this address are forgotten."""
+    made = secrets.token_urlsafe(24)
+    with held.transaction():
+        held.run("DELETE FROM failed_logins WHERE name = ? AND address = ?", hidden(name), address)
+        held.run("INSERT INTO logins (id, name, address, begun) VALUES (?, ?, ?, {clock})", hidden(made), name, address)
+        note(held, name, f"logged in, from {address}")
+    return made
+
+
+def find(held: Database, cookie: str) -> Visitor | None:
+    """Who a cookie is of, where its log-in has not ended. One that begins at a time to come has: the clock jumped."""
+    rows = held.run(
+        "SELECT users.name, users.role FROM logins JOIN users ON users.name = logins.name"
+        " WHERE logins.id = ? AND logins.ended IS NULL AND logins.begun > {clock} - ?"
+        " AND logins.begun <= {clock} + ? AND users.disabled = 0",
+        hidden(cookie),
+        LASTS,
+        SLACK,
+    )
+    return Visitor(str(rows[0][0]), Role.of(str(rows[0][1])), cookie) if rows else None
+
+
+def end(held: Database, visitor: Visitor) -> None:
+    """Logs out."""
+    with held.transaction():
+        held.run("UPDATE logins SET ended = {clock} WHERE id = ? AND ended IS NULL", hidden(visitor.login))
+        note(held, visitor.name, "logged out")

@@ -1,0 +1,75 @@
+"""Users, their roles and passwords."""
+
+import asyncio
+
+from aiohttp import web
+
+from wisangub.refusal import Refusal
+from wisangub.room.store import users
+from wisangub.room.store.database import Database
+from wisangub.room.store.users import Role
+
+from . import sign_in
+from .room import room_of, visitor_of
+
+
+async def shown(request: web.Request, said: str = "", status: int = 200) -> web.Response:
+    room = room_of(request)
+    found = await room.connections.run(users.users)
+    return room.page(request, "users.html", status=status, users=found, roles=list(Role), said=said)
+
+
+async def users_page(request: web.Request) -> web.Response:
+    return await shown(request)
+
+
+async def change(request: web.Request) -> web.Response:
+    """Adds a user, or gives one another role, another password, or another state."""
+    room, who = room_of(request), visitor_of(request).name
+    fields = {key: str(value) for key, value in (await request.post()).items()}
+    name, do = fields.get("name", "").strip(), fields.get("do", "")
+
+    def done(held: Database) -> str:
+        if do == "add":
+            users.add(held, name, Role.of(fields.get("role", "")), fields.get("password", ""), who)
+            return f"{name} was added."
+        if do == "role":
+            users.change_role(held, name, Role.of(fields.get("role", "")), who)
+            return f"{name} has another role."
+        if do == "password":
+            users.change_password(held, name, fields.get("password", ""), who)
+            return f"{name} has another password."
+        if do in ("disable", "enable"):
+            users.disable(held, name, do == "disable", who)
+            return f"{name} may {'no longer' if do == 'disable' else 'now'} log in."
+        raise Refusal("nothing was asked for")
+
+    try:
+        return await shown(request, await room.connections.run(done))
+    except Refusal as refused:
+        return await shown(request, f"Nothing was changed: {refused}.", 422)
+
+
+def account_page(request: web.Request, said: str = "", status: int = 200) -> web.Response:
+    return room_of(request).page(request, "account.html", status=status, said=said)
+
+
+async def account(request: web.Request) -> web.Response:
+    return account_page(request)
+
+
+async def own_password(request: web.Request) -> web.StreamResponse:
+    """Another password for who asks; he has to log in again."""
+    room, visitor = room_of(request), visitor_of(request)
+    fields = await request.post()
+    old, new, again = (str(fields.get(key, "")) for key in ("old", "new", "again"))
+    await asyncio.sleep(0.5)  # a guess takes time
+    if not await sign_in.is_right(room, visitor.name, old):
+        return account_page(request, "Nothing was changed: the present password is another one.", 403)
+    if new != again:
+        return account_page(request, "Nothing was changed: the two new passwords differ.", 422)
+    try:
+        await room.connections.run(lambda held: users.change_password(held, visitor.name, new, visitor.name))
+    except Refusal as refused:
+        return account_page(request, f"Nothing was changed: {refused}.", 422)
+    raise web.HTTPSeeOther("/login")

@@ -1,0 +1,90 @@
+"""What was: commands, the ledger, what a sign showed, the audit."""
+
+from aiohttp import web
+
+from wisangub.endpoint.texts import ended
+from wisangub.room.store import past, views
+from wisangub.room.store.database import Database
+from wisangub.room.store.views import SignView, Wanted
+
+from . import words
+from .room import Room, room_of, sign_of
+
+OUTCOMES = ("accepted", "failed", "open")
+MOST = 50
+
+
+def number_of(request: web.Request, key: str) -> int | None:
+    """A number of the query."""
+    word = request.query.get(key, "")
+    return int(word) if word.isascii() and word.isdecimal() and len(word) < 12 else None
+
+
+async def history(request: web.Request) -> web.Response:
+    room = room_of(request)
+    outcome, who = request.query.get("outcome", ""), request.query.get("who", "")
+    wanted = Wanted(
+        number_of(request, "sign"),
+        who if who.isprintable() else "",
+        outcome if outcome in OUTCOMES else "",
+        number_of(request, "before"),
+        MOST,
+    )
+
+    def found(held: Database) -> tuple[list[views.CommandView], list[str], float]:
+        return views.commands(held, wanted), past.people(held), views.now(held)
+
+    rows, people, now = await room.connections.run(found)
+    signs = sorted((sign.name, row) for row, sign in room.signs.items())
+    return room.page(
+        request, "history.html", rows=rows, people=people, now=now, wanted=wanted, signs=signs, is_last=len(rows) < MOST
+    )
+
+
+def code_words(code: str) -> dict[str, str]:
+    """What an activation code says."""
+    octets = bytes.fromhex(code)
+    return {
+        "row": words.source_word(octets[3:8]),
+        "minutes": words.minutes_word(int.from_bytes(octets[:2], "big")),
+        "priority": str(octets[2]),
+        "by": words.address_word(octets[8:]),
+    }
+
+
+def outcome_word(room: Room, outcome: str) -> str:
+    """An outcome, its error-status with its word."""
+    return ended(room.mib, f"ledger 0 - {outcome}").removeprefix("ledger 0 - ")
+
+
+async def ledger(request: web.Request) -> web.Response:
+    room, row = room_of(request), sign_of(request)
+
+    def found(held: Database) -> tuple[SignView | None, list[tuple[int, str, str, float]], float]:
+        return views.sign(held, row), past.ledger(held, row), views.now(held)
+
+    sign, rows, now = await room.connections.run(found)
+    entries = [(number, code_words(code), outcome_word(room, outcome), at) for number, code, outcome, at in rows]
+    return room.page(request, "ledger.html", sign=sign, entries=entries, now=now, tab="ledger")
+
+
+async def shown(request: web.Request) -> web.Response:
+    room, row = room_of(request), sign_of(request)
+
+    def found(held: Database) -> tuple[SignView | None, list[past.ReadingView], float]:
+        return views.sign(held, row), past.readings(held, row), views.now(held)
+
+    sign, rows, now = await room.connections.run(found)
+    said = [(one, room.picture(row, one.shown.text) if one.shown else None) for one in rows]
+    return room.page(request, "shown.html", sign=sign, rows=said, now=now, tab="shown")
+
+
+async def audit(request: web.Request) -> web.Response:
+    room, before = room_of(request), number_of(request, "before")
+
+    def found(held: Database) -> tuple[list[tuple[int, float, str, str]], float]:
+        return past.audit(held, before), views.now(held)
+
+    rows, now = await room.connections.run(found)
+    lines = [(number, at, who, words.audit_words(what)) for number, at, who, what in rows]
+    return room.page(request, "audit.html", lines=lines, now=now)

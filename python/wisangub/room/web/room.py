@@ -1,0 +1,136 @@
+"""What all pages share: the fleet, the database's connections, pictures, clock, templates, and who asks."""
+
+import functools
+import pathlib
+from typing import Any, Hashable
+
+import jinja2
+from aiohttp import web
+from markupsafe import Markup
+
+from model import multi
+from wisangub.endpoint.endings import with_step
+from wisangub.room.fleet import Sign
+from wisangub.room.store.store import Store
+from wisangub.snmp.mib import Mib
+
+from . import words
+from .connections import Connections
+from .faces import Face, face_of
+from .logins import Visitor
+from .pictures import Pictures
+from .progress import because, states
+from .security import Seal, key_of
+from .settings import Settings
+
+HERE = pathlib.Path(__file__).resolve().parent
+MOST_CARDS = 8192  # that are kept as HTML, of 800 octets each
+
+
+def plain_of(text: bytes) -> str:
+    """A text without its tags: lines apart by a stroke, pages by two."""
+    apart = {"new line": " / ", "new page": " // "}
+    found, _ = multi.items(text)
+    said = [chr(item[1]) if item[0] == "character" else apart.get(item[0], "") for item, _ in found]
+    return "".join(said).strip(" /") or "nothing"
+
+
+class Room:
+    """One service."""
+
+    def __init__(self, settings: Settings, signs: list[Sign]) -> None:
+        self.settings = settings
+        self.connections = Connections(settings.database, settings.threads)
+        held = self.connections.held()
+        rows = {sign.name: row for row, sign in Store(held).enter(signs).items()}
+        self.signs = {rows[sign.name]: sign for sign in signs}  # in the fleet's order
+        self.faces = {row: face_of(sign) for row, sign in self.signs.items()}
+        self.by_key = {face.key: face for face in self.faces.values()}
+        self.seal = Seal(key_of(held), settings.is_behind_tls)
+        self.connections.let_go()
+        self.pictures = Pictures(settings.program)
+        self.mib = Mib.read()
+        self.clock = words.Clock(settings.zone)
+        self.templates = self.environment()
+        self.card = functools.lru_cache(MOST_CARDS)(self.made_card)
+
+    def environment(self) -> jinja2.Environment:
+        """Templates, which escape all that is put into them."""
+        made = jinja2.Environment(
+            loader=jinja2.FileSystemLoader(HERE / "templates"),
+            autoescape=True,
+            undefined=jinja2.StrictUndefined,
+            trim_blocks=True,
+            lstrip_blocks=True,
+        )
+        made.globals.update(
+            room=self,
+            clock=self.clock,
+            words=words,
+            plain_of=plain_of,
+            text_of=words.text_of,
+            asked=words.asked,
+            states=states,
+            because=because,
+            with_step=with_step,
+        )
+        return made
+
+    # ---- pages
+
+    def html(self, template: str, /, **values: Any) -> str:
+        return self.templates.get_template(template).render(**values)
+
+    def part(self, name: str, macro: str, *values: Any) -> str:
+        """A part of a page, as an event sends it."""
+        made: str = str(getattr(self.templates.get_template(name).module, macro)(*values)).strip()
+        return made
+
+    def made_card(self, card: Hashable, age: str = "") -> Markup:
+        """A card of the wall, with its age in words or else the time. `card` keeps it: few change within a second."""
+        return Markup(self.part("parts.html", "card", card, age))
+
+    def page(self, request: web.Request, template: str, /, status: int = 200, **values: Any) -> web.Response:
+        """A whole page for who asks."""
+        visitor: Visitor | None = request.get("visitor")
+        token = self.seal.token(visitor.login) if visitor else ""
+        text = self.html(
+            template, visitor=visitor, token=token, path=request.path, **{"now": None, "view": "", **values}
+        )
+        return web.Response(text=text, content_type="text/html", charset="utf-8", status=status)
+
+    # ---- what pages ask for
+
+    def face(self, row: int) -> Face | None:
+        """A sign's face; None for one of another fleet."""
+        return self.faces.get(row)
+
+    def picture(self, row: int, text: bytes) -> str | None:
+        """Where the picture of a text on a sign is."""
+        face = self.faces.get(row)
+        return f"/pictures/{face.key}/{text.hex() or '-'}.svg" if face else None
+
+    def close(self) -> None:
+        self.connections.close()
+
+
+ROOM = "room"
+
+
+def room_of(request: web.Request) -> Room:
+    found: Room = request.app[ROOM]
+    return found
+
+
+def visitor_of(request: web.Request) -> Visitor:
+    """Who asks; pages that want nobody do not call it."""
+    found: Visitor = request["visitor"]
+    return found
+
+
+def sign_of(request: web.Request) -> int:
+    """The sign that the address names."""
+    row = int(request.match_info["sign"])
+    if row not in room_of(request).signs:
+        raise web.HTTPNotFound(text="There is no such sign in the fleet.")
+    return row

@@ -1,0 +1,106 @@
+"""Headers of every answer, signed cookies, and the tokens of forms."""
+
+import hashlib
+import hmac
+import secrets
+from urllib.parse import urlsplit
+
+from aiohttp import web
+
+from wisangub.room.store.database import Database, Taken
+
+POLICY = (
+    "default-src 'none'; script-src 'self'; style-src 'self'; img-src 'self'; connect-src 'self';"
+    " form-action 'self'; frame-ancestors 'none'; base-uri 'none'"
+)
+HEADERS = {
+    "Content-Security-Policy": POLICY,
+    "X-Content-Type-Options": "nosniff",
+    "X-Frame-Options": "DENY",
+    "Referrer-Policy": "same-origin",
+    "Cross-Origin-Opener-Policy": "same-origin",
+    "Cross-Origin-Resource-Policy": "same-origin",
+    "Permissions-Policy": "camera=(), microphone=(), geolocation=()",
+}
+FIELD, HEADER = "token", "X-Token"
+
+
+async def prepare(_: web.Request, response: web.StreamResponse) -> None:
+    """The headers of every answer; what is not said to be kept is kept nowhere."""
+    response.headers.update(HEADERS)
+    response.headers["Server"] = "control"
+    response.headers.setdefault("Cache-Control", "no-store")
+
+
+def key_of(held: Database, name: str = "cookies") -> bytes:
+    """The key of the signatures, made once for all processes of the database."""
+    rows = held.run("SELECT value FROM keys WHERE name = ?", name)
+    if not rows:
+        try:
+            held.run("INSERT INTO keys (name, value) VALUES (?, ?)", name, secrets.token_hex(32))
+        except Taken:
+            pass
+        rows = held.run("SELECT value FROM keys WHERE name = ?", name)
+    return bytes.fromhex(str(rows[0][0]))
+
+
+class Seal:
+    """What is signed with the key: cookies, and the tokens that belong to a cookie."""
+
+    def __init__(self, key: bytes, is_behind_tls: bool) -> None:
+        self.key, self.is_secure = key, is_behind_tls
+        self.prefix = "__Host-" if is_behind_tls else ""
+
+    def sum(self, use: str, value: str) -> str:
+        return hmac.new(self.key, f"{use} {value}".encode(), hashlib.sha256).hexdigest()
+
+    def set(self, response: web.StreamResponse, name: str, value: str, seconds: int) -> None:
+        """A cookie with its signature: no script reads it, and no other site sends it."""
+        response.set_cookie(
+            self.prefix + name,
+            f"{value}.{self.sum(name, value)}",
+            max_age=seconds,
+            path="/",
+            httponly=True,
+            samesite="Strict",
+            secure=self.is_secure,
+        )
+
+    def get(self, request: web.Request, name: str) -> str | None:
+        """What a cookie says, if it was signed here."""
+        value, dot, found = request.cookies.get(self.prefix + name, "").rpartition(".")
+        is_signed = bool(dot) and hmac.compare_digest(found.encode(), self.sum(name, value).encode())
+        return value if is_signed else None
+
+    def drop(self, response: web.StreamResponse, name: str) -> None:
+        """Has the browser forget a cookie, in the words that it was set with: else it is not taken for that one."""
+        response.set_cookie(
+            self.prefix + name, "", max_age=0, path="/", httponly=True, samesite="Strict", secure=self.is_secure
+        )
+
+    def token(self, of: str) -> str:
+        """The token of the forms of a cookie."""
+        return self.sum("form", of)
+
+    async def is_own(self, request: web.Request, of: str) -> bool:
+        """Whether a request comes from a page of ours that this cookie's holder was shown."""
+        found = request.headers.get(HEADER)
+        if found is None:
+            held = (await request.post()).get(FIELD, "")
+            found = held if isinstance(held, str) else ""
+        return is_same_site(request) and hmac.compare_digest(found.encode(), self.token(of).encode())
+
+
+def is_same_site(request: web.Request) -> bool:
+    """Whether the browser does not say that another site's page asks."""
+    origin = request.headers.get("Origin")
+    if origin is not None and urlsplit(origin).netloc != request.host:
+        return False
+    return request.headers.get("Sec-Fetch-Site", "same-origin") in ("same-origin", "none")
+
+
+def address_of(request: web.Request, is_behind_tls: bool) -> str:
+    """Where a request came from. The proxy's word is the last of X-Forwarded-For; what is before it the client's."""
+    if is_behind_tls and (told := request.headers.get("X-Forwarded-For", "").split(",")[-1].strip()):
+        return told
+    return request.remote or "-"

@@ -1,0 +1,140 @@
+"""Asking for what was confirmed, and how it goes on."""
+
+import socket
+from dataclasses import dataclass
+
+from aiohttp import web
+
+from wisangub.endpoint.sockets import connected
+from wisangub.refusal import Refusal
+from wisangub.room.fleet import Sign
+from wisangub.room.store import past, views
+from wisangub.room.store.database import Database, Taken
+from wisangub.room.store.past import Batch
+from wisangub.room.store.store import Store
+from wisangub.room.store.users import note
+
+from . import compose
+from . import draft as drafts
+from .draft import KINDS, Draft
+from .logins import Visitor
+from .room import Room, room_of, visitor_of
+from .words import asked
+
+NOWHERE = "0.0.0.0"
+MOST_CONFIRMATION = 64
+
+
+def own_address(sign: Sign) -> str:
+    """This machine's address towards a sign, as an activation names it; 0.0.0.0 where it is of IPv6."""
+    try:
+        with connected(sign.host, sign.port) as door:
+            return str(door.getsockname()[0]) if door.family == socket.AF_INET else NOWHERE
+    except (Refusal, OSError):
+        return NOWHERE
+
+
+def ask(held: Database, visitor: Visitor, lines: list[tuple[int, str, str]], confirmation: str) -> int:
+    """All commands of a confirmation, or none: the number of what was asked. One that is there already counts once."""
+    try:
+        with held.transaction():
+            what = asked(lines[0][2]).what
+            rows = held.run(
+                "INSERT INTO batches (confirmation, who, at, what) VALUES (?, ?, {clock}, ?) RETURNING id",
+                confirmation,
+                visitor.name,
+                what,
+            )
+            batch = int(rows[0][0] or 0)
+            for sign, name, line in lines:
+                found = held.run(
+                    "INSERT INTO commands (sign, who, at, line) VALUES (?, ?, {clock}, ?) RETURNING id",
+                    sign,
+                    visitor.name,
+                    line,
+                )
+                held.run("INSERT INTO batch_commands (batch, command) VALUES (?, ?)", batch, found[0][0])
+                held.run("INSERT INTO audit (at, who, what) VALUES ({clock}, ?, ?)", visitor.name, f"{name}: {line}")
+            return batch
+    except Taken:
+        rows = held.run("SELECT id FROM batches WHERE confirmation = ? AND who = ?", confirmation, visitor.name)
+        if not rows:
+            raise
+        return int(rows[0][0] or 0)
+
+
+async def is_drawn(room: Room, draft: Draft) -> bool:
+    """Whether the text of a publication fits on all its signs."""
+    if draft.kind != "publish":
+        return True
+    return all(one.src is not None for one in await compose.looks(room, draft.signs, draft.text))
+
+
+async def send(request: web.Request) -> web.StreamResponse:
+    room, visitor = room_of(request), visitor_of(request)
+    fields = await request.post()
+    kind, confirmation = str(fields.get("kind", "")), str(fields.get("confirmation", ""))
+    if kind not in KINDS or not 16 <= len(confirmation) <= MOST_CONFIRMATION:
+        raise web.HTTPBadRequest(text="This was not confirmed.")
+    draft = drafts.read(fields, room.faces, kind)
+    if draft.faults:
+        raise web.HTTPUnprocessableEntity(text=" ".join(draft.faults.values()))
+    if not await is_drawn(room, draft):
+        return await compose.answer(request, draft, 422)
+
+    def done(held: Database) -> int:
+        signs = [(row, room.signs[row]) for row in draft.signs]
+        lines = [(row, sign.name, draft.line(visitor.name, own_address(sign))) for row, sign in signs]
+        return ask(held, visitor, lines, confirmation)
+
+    raise web.HTTPSeeOther(f"/batches/{await room.connections.run(done)}")
+
+
+@dataclass(frozen=True)
+class Part:
+    """A command of what was asked, and the picture of what it is to show."""
+
+    command: views.CommandView
+    picture: str | None
+
+
+def parts_of(room: Room, held: Database, number: int) -> tuple[Batch | None, list[Part], float]:
+    found = past.batch(held, number)
+    made = []
+    for command in found.commands if found else []:
+        line = asked(command.line)
+        picture = room.picture(command.sign, line.text) if line.kind in ("publish", "blank") else None
+        made.append(Part(command, picture))
+    return found, made, views.now(held)
+
+
+async def batch(request: web.Request) -> web.Response:
+    room, number = room_of(request), int(request.match_info["batch"])
+    found, made, now = await room.connections.run(lambda held: parts_of(room, held, number))
+    if found is None:
+        raise web.HTTPNotFound(text="Nothing of this number was asked for.")
+    return room.page(request, "batch.html", batch=found, parts=made, now=now, view=f"batch/{number}")
+
+
+def parts(room: Room, held: Database, number: int) -> dict[str, str]:
+    """What an event may replace."""
+    _, made, _ = parts_of(room, held, number)
+    return {f"command-{one.command.id}": room.part("parts.html", "part", one) for one in made} | {
+        "summary": room.part("parts.html", "summary", made)
+    }
+
+
+async def withdraw(request: web.Request) -> web.StreamResponse:
+    """Ends a command that waits for its turn; one that was begun goes on."""
+    room, visitor, number = room_of(request), visitor_of(request), int(request.match_info["command"])
+
+    def done(held: Database) -> bool:
+        command = views.command(held, number)
+        if command is None or not Store(held).withdraw(number, f"withdrawn by {visitor.name}"):
+            return False
+        note(held, visitor.name, f"{command.sign_name}: command {number} is withdrawn")
+        return True
+
+    if not await room.connections.run(done):
+        raise web.HTTPConflict(text="This command was begun, or has ended: it cannot be withdrawn.")
+    raise web.HTTPSeeOther("/history?outcome=open")

@@ -1,0 +1,32 @@
+"""What a service is told when it starts."""
+
+import datetime
+import zoneinfo
+from dataclasses import dataclass
+
+from wisangub.process.places import SIGNTOOL
+from wisangub.refusal import Refusal
+
+
+@dataclass(frozen=True)
+class Settings:
+    """`is_behind_tls`: a proxy on this machine ends TLS, so cookies are Secure and the client's address is the one that
+    the proxy tells. `zone`: the one that times are shown in; else the machine's. `look`: seconds between two looks into
+    the database for what has changed."""
+
+    database: str
+    program: str = str(SIGNTOOL)
+    is_behind_tls: bool = False
+    zone: datetime.tzinfo | None = None
+    look: float = 0.5
+    threads: int = 4
+
+
+def zone_of(name: str | None) -> datetime.tzinfo | None:
+    """The zone of a name such as Europe/Berlin."""
+    if name is None:
+        return None
+    try:
+        return zoneinfo.ZoneInfo(name)
+    except (zoneinfo.ZoneInfoNotFoundError, ValueError, OSError) as fault:
+        raise Refusal(f"{name!r} is no time zone of this machine: Europe/Berlin is one") from fault

@@ -1,0 +1,78 @@
+"""A sign: what it shows and why, its commands, and its message table."""
+
+from dataclasses import dataclass
+
+from aiohttp import web
+
+from wisangub.room.store import views
+from wisangub.room.store.database import Database
+from wisangub.room.store.store import Store
+from wisangub.room.store.views import CommandView, SignView, TableView, Wanted
+
+from .room import Room, room_of, sign_of
+
+FEW = 8
+
+
+@dataclass(frozen=True)
+class Overview:
+    """What the page of a sign says."""
+
+    sign: SignView
+    picture: str | None
+    is_stale: bool
+    commands: list[CommandView]
+    now: float
+
+
+def overviewed(room: Room, held: Database, row: int) -> Overview:
+    sign = views.sign(held, row)
+    assert sign is not None
+    now = views.now(held)
+    commands = views.commands(held, Wanted(sign=row, most=FEW))
+    picture = room.picture(row, sign.shown.text) if sign.shown else None
+    return Overview(sign, picture, sign.is_stale(now), commands, now)
+
+
+async def overview(request: web.Request) -> web.Response:
+    room, row = room_of(request), sign_of(request)
+    found = await room.connections.run(lambda held: overviewed(room, held, row))
+    return room.page(
+        request,
+        "sign.html",
+        it=found,
+        sign=found.sign,
+        now=found.now,
+        face=room.faces[row],
+        tab="overview",
+        view=f"sign/{row}",
+    )
+
+
+def parts(room: Room, held: Database, row: int) -> dict[str, str]:
+    """What an event may replace."""
+    found = overviewed(room, held, row)
+    return {"shown": room.part("parts.html", "shown", found), "commands": room.part("parts.html", "commands", found)}
+
+
+async def table(request: web.Request) -> web.Response:
+    room, row = room_of(request), sign_of(request)
+
+    def found(held: Database) -> tuple[SignView | None, TableView, float]:
+        return views.sign(held, row), views.table(held, row), views.now(held)
+
+    sign, held, now = await room.connections.run(found)
+    return room.page(request, "table.html", sign=sign, table=held, now=now, tab="table", view=f"table/{row}")
+
+
+def table_parts(room: Room, held: Database, row: int) -> dict[str, str]:
+    """What an event may replace."""
+    sign = views.sign(held, row)
+    return {"table": room.part("parts.html", "table", sign, views.table(held, row))}
+
+
+async def read_table(request: web.Request) -> web.StreamResponse:
+    """Has a worker read the table before its time."""
+    room, row = room_of(request), sign_of(request)
+    await room.connections.run(lambda held: Store(held).want_table(row))
+    raise web.HTTPSeeOther(f"/signs/{row}/table")

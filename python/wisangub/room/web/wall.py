@@ -1,0 +1,72 @@
+"""The fleet as a wall of lit signs."""
+
+from dataclasses import dataclass
+
+from aiohttp import web
+
+from wisangub.room.store import views
+from wisangub.room.store.database import Database
+from wisangub.room.store.views import CommandView, SignView
+
+from .progress import Step, states
+from .room import Room, room_of
+
+WIDE = 160  # columns of a matrix that takes two places
+
+
+@dataclass(frozen=True)
+class Card:
+    """A sign of the wall; the command that is under way, with its step."""
+
+    sign: SignView
+    picture: str | None
+    is_stale: bool
+    command: CommandView | None
+    step: Step | None
+    waiting: int
+    is_wide: bool
+
+    @property
+    def is_lit(self) -> bool:
+        """Whether it shows a text, as far as it was heard lately."""
+        return self.state in ("lit", "busy") and self.sign.shown is not None and bool(self.sign.shown.text)
+
+    @property
+    def state(self) -> str:
+        """In a word, for the filter."""
+        if self.sign.still or self.sign.fault or self.is_stale:
+            return "silent"
+        return "busy" if self.command else "lit" if self.sign.shown and self.sign.shown.text else "blank"
+
+
+def card(room: Room, sign: SignView, now: float, open_: list[CommandView]) -> Card:
+    picture = room.picture(sign.id, sign.shown.text) if sign.shown else None
+    command = next((one for one in open_ if one.number is not None), open_[0] if open_ else None)
+    step = next((one for one in states(command) if one.state == "now"), None) if command else None
+    return Card(sign, picture, sign.is_stale(now), command, step, len(open_), room.faces[sign.id].width > WIDE)
+
+
+def cards(room: Room, held: Database) -> tuple[list[Card], float]:
+    """All signs of the fleet, and the database's time."""
+    open_ = views.under_way(held)
+    of: dict[int, list[CommandView]] = {}
+    for command in open_:
+        of.setdefault(command.sign, []).append(command)
+    known = {sign.id: sign for sign in views.signs(held)}
+    now = views.now(held)  # after what it is compared with
+    found = [known[row] for row in room.signs if row in known]
+    return [card(room, sign, now, of.get(sign.id, [])) for sign in found], now
+
+
+async def wall(request: web.Request) -> web.Response:
+    room = room_of(request)
+    found, now = await room.connections.run(lambda held: cards(room, held))
+    return room.page(request, "wall.html", cards=found, now=now, view="wall")
+
+
+def parts(room: Room, held: Database) -> dict[str, str]:
+    """What an event may replace: each card."""
+    found, _ = cards(room, held)
+    return {f"sign-{one.sign.id}": room.card(one) for one in found} | {
+        "counts": room.part("parts.html", "counts", found)
+    }

@@ -1,0 +1,1 @@
+"""A worker: it drives the signs that have commands, and reads all."""

@@ -1,0 +1,73 @@
+"""A worker: drives the signs that have commands, and reads all: wisangub-control worker --fleet FILE --database WHERE
+
+It leases a sign, has a centre carry on where the sign's lines left it, and lets it go when there is nothing to do. As
+many workers as wanted stand over one database, with PostgreSQL on as many machines. It waits for a database that does
+not answer. It ends at an interrupt or a SIGTERM; what was under way is carried on by the next one.
+"""
+
+import argparse
+import sys
+
+from wisangub.endpoint.sockets import Waiting
+from wisangub.process.places import SIGNTOOL, called
+from wisangub.refusal import status_of, tell
+from wisangub.room import fleet, start
+from wisangub.room.store import database
+from wisangub.room.store.store import Store
+from wisangub.room.waits import waited
+
+from .rounds import Pace, Worker
+
+__all__ = ["Pace", "Worker", "arguments", "seconds"]
+
+
+def seconds(word: str) -> float:
+    """A time above 0."""
+    found = float(word)
+    if not 0 < found < float("inf"):
+        raise ValueError
+    return found
+
+
+def arguments() -> argparse.ArgumentParser:
+    words = argparse.ArgumentParser(
+        prog=called("wisangub-control worker"),
+        description=__doc__,
+        formatter_class=argparse.RawDescriptionHelpFormatter,
+    )
+    words.add_argument("--fleet", required=True, metavar="FILE", help="the signs, as in signs/fleet.toml")
+    words.add_argument("--database", required=True, metavar="WHERE", help=database.WHERE)
+    words.add_argument("--create", action="store_true", help=database.CREATE)
+    words.add_argument("--signtool", default=str(SIGNTOOL), metavar="PATH")
+    words.add_argument("--tick", type=seconds, default=Pace.tick, metavar="SECONDS", help="from tick to tick")
+    words.add_argument(
+        "--lease",
+        type=seconds,
+        default=Pace.lease,
+        metavar="SECONDS",
+        help="after which another worker goes on where this one fell silent",
+    )
+    return words
+
+
+def main() -> int:
+    asked = arguments().parse_args()
+    if database.is_url(asked.database):
+        start.needed("wisangub.room.worker.program", "psycopg")
+    signs, waiting = fleet.read(asked.fleet), Waiting()
+    fleet.tell_open(signs)
+
+    def begun() -> Worker:
+        store = Store(database.opened(asked.database, asked.create))
+        return Worker(store, store.enter(signs), asked.signtool, Pace(asked.tick, asked.lease), waiting)
+
+    worker = waited(waiting, begun)
+    if worker is not None:
+        tell(f"a worker of {len(signs)} signs")
+        worker.run()
+        worker.store.database.close()
+    return 0
+
+
+if __name__ == "__main__":
+    sys.exit(status_of(main))

@@ -1,0 +1,62 @@
+"""What the signs show: each sign is asked whenever its time has come."""
+
+import json
+from functools import partial
+
+from wisangub.endpoint.asking import Name, Values
+from wisangub.room.fleet import Sign
+from wisangub.room.store.reading_store import Said
+from wisangub.room.store.store import Store
+from wisangub.snmp.mib import Mib
+
+from .gets import Gets
+
+MINUTES = "minutes"
+CELL, SCALAR = (5, 1), (0,)
+OBJECTS = {
+    "source": ("dmsMsgTableSource", SCALAR),
+    "mode": ("dmsMsgSourceMode", SCALAR),
+    "requester": ("dmsMsgRequesterID", SCALAR),
+    MINUTES: ("dmsMessageTimeRemaining", SCALAR),
+    "text": ("dmsMessageMultiString", CELL),
+    "owner": ("dmsMessageOwner", CELL),
+    "beacon": ("dmsMessageBeacon", CELL),
+    "pixel": ("dmsMessagePixelService", CELL),
+    "priority": ("dmsMessageRunTimePriority", CELL),
+}
+
+
+def names(mib: Mib) -> dict[str, Name]:
+    """The names of the objects that are asked for."""
+    places = {object_: name for name, object_ in mib.objects.items()}
+    return {word: (*places[object_], *instance) for word, (object_, instance) in OBJECTS.items()}
+
+
+class Readings:
+    """The Gets for what is shown; at most `most` Gets of all kinds wait at a time."""
+
+    def __init__(self, store: Store, signs: dict[int, Sign], gets: Gets, mib: Mib, most: int) -> None:
+        self.store, self.signs, self.gets, self.most = store, signs, gets, most
+        self.asked = names(mib)
+        self.said: list[Said] = []
+
+    def begin(self) -> None:
+        """Sends a Get to each sign whose reading is due; a sign of another fleet is let be."""
+        room = max(0, self.most - len(self.gets.waiting))
+        due = [row for row in self.store.to_read() if row in self.signs][:room]
+        for row, number in self.store.due(due):
+            self.gets.begin(self.signs[row], number, list(self.asked.values()), partial(self.end, row, number))
+
+    def end(self, row: int, number: int, values: Values | str) -> None:
+        """What came of it: the minutes that are left and what is shown, or why there is none of it."""
+        if isinstance(values, str):
+            self.said.append(Said(row, number, fault=values))
+            return
+        held = dict(zip(self.asked, values))
+        minutes = held.pop(MINUTES)
+        self.said.append(Said(row, number, minutes if isinstance(minutes, int) else None, json.dumps(held)))
+
+    def keep(self) -> None:
+        """Puts what was said since the last time into the database."""
+        said, self.said = self.said, []
+        self.store.read(said)

@@ -1,0 +1,218 @@
+"""What a worker does, round after round: leases, lines, readings. python/wisangub/room/worker/program.py is the program."""
+
+import os
+import secrets
+import socket
+import time
+from dataclasses import dataclass
+
+from wisangub.endpoint.sockets import Waiting
+from wisangub.refusal import Refusal, say
+from wisangub.room.addresses import AGAIN
+from wisangub.room.fleet import Sign
+from wisangub.room.store.database import Failed, Taken
+from wisangub.room.store.store import Store
+from wisangub.snmp.mib import Mib
+
+from .carry import Offer, carry
+from .gets import Gets
+from .readings import Readings
+from .session import Lost, Session
+from .tables import Tables
+from .verdicts import Verdicts
+from .where import Where
+
+BEGUN_AT_ONCE = 16  # sessions that are begun in one round, so that those that stand are not kept waiting
+
+
+@dataclass(frozen=True)
+class Pace:
+    """Seconds from tick to tick, of a lease, from one look for work to the next; signs driven at once, and readings;
+    seconds from one lookup of a name to the next."""
+
+    tick: float = 1.0
+    lease: float = 10.0
+    look: float = 0.2
+    most: int = 200
+    again: float = AGAIN
+
+
+class Worker:
+    """Sessions by the rows of their signs, and when each one's next tick is due."""
+
+    def __init__(self, store: Store, signs: dict[int, Sign], program: str, pace: Pace, waiting: Waiting) -> None:
+        self.store, self.program, self.pace, self.waiting = store, program, pace, waiting
+        self.where = Where(store, signs, pace.again)
+        self.where.look()
+        self.signs = self.where.signs  # that do not stand still
+        self.name = f"{socket.gethostname()}:{os.getpid()}:{secrets.token_hex(4)}"
+        self.mib = Mib.read()
+        self.gets = Gets()
+        self.readings = Readings(store, self.signs, self.gets, self.mib, pace.most)
+        self.tables = Tables(store, self.signs, self.gets, self.mib)
+        self.verdicts = Verdicts(store, self.signs, self.gets, self.mib, program)
+        self.sessions: dict[int, Session] = {}
+        self.ticks: dict[int, float] = {}
+        self.to_release: set[int] = set()
+        self.fault = ""  # what the database said last, which is said once
+        self.next_look = self.next_renewal = 0.0
+
+    def run(self) -> None:
+        """Until it is stopped."""
+        while not self.waiting.is_stopped:
+            self.guarded_round()
+        for row in list(self.sessions):
+            self.drop(row)
+        try:
+            self.release()
+        except (Failed, Taken) as fault:
+            say(f"the database: {fault}")
+        self.gets.close()
+        self.where.close()
+
+    def guarded_round(self) -> None:
+        """A round; a database that does not answer is asked again later."""
+        try:
+            self.round()
+            if self.fault:
+                say("the database answers again")
+            self.fault = ""
+        except (Failed, Taken) as fault:
+            if str(fault) != self.fault:
+                say(f"the database: {fault}")
+            self.fault = str(fault)
+            self.waiting.until([], self.pace.look)
+
+    def round(self) -> None:
+        """What is due, what is heard, and the next commands."""
+        now = time.monotonic()
+        if now >= self.next_renewal:
+            self.next_renewal = now + self.pace.lease / 3
+            self.renew()
+        if now >= self.next_look:
+            self.next_look = now + self.pace.look
+            self.look()
+        self.wait()
+        self.carry()
+
+    def look(self) -> None:
+        """Readings, tables and verdicts, and signs that have work."""
+        self.readings.keep()
+        self.tables.keep()
+        self.verdicts.keep()
+        self.move()
+        self.readings.begin()
+        self.tables.begin()
+        self.verdicts.begin()
+        self.gets.again()
+        self.lease()
+
+    # ---- lines
+
+    def wait(self) -> None:
+        """Until something is due or heard."""
+        now = time.monotonic()
+        doors = [
+            session.door.fileno() for session in self.sessions.values() if session.is_busy and session.ready_at <= now
+        ]
+        due = [self.next_look, self.next_renewal]
+        for row, session in self.sessions.items():
+            if session.ready_at > now or not session.is_busy:
+                due.append(session.ready_at)
+            due.append(max(self.ticks[row], session.ready_at))
+        for file in self.waiting.until([*doors, *self.gets.waiting], max(0.0, min(due) - now)):
+            if file in self.gets.waiting:
+                self.gets.heard(file)
+
+    def carry(self) -> None:
+        """The next line of each sign that has one; a sign without work is let go."""
+        offers: list[Offer] = []
+        now = time.monotonic()
+        for row, session in list(self.sessions.items()):
+            if session.ready_at > now:
+                continue
+            line = session.offer(now >= self.ticks[row])
+            if line is not None:
+                offers.append((session, line))
+                self.tick_later(row, line.text, now)
+            elif not session.is_busy:
+                self.drop(row)
+        if offers:
+            self.carried(offers)
+        self.release()
+
+    def tick_later(self, row: int, line: bytes, now: float) -> None:
+        """The next tick is one after the last, or after the line that a command begins with; ticks that were missed do
+        not come in a row."""
+        if line == b"tick":
+            self.ticks[row] = max(self.ticks[row] + self.pace.tick, now + self.pace.tick / 2)
+        elif not self.sessions[row].is_busy:
+            self.ticks[row] = now + self.pace.tick
+
+    def carried(self, offers: list[Offer]) -> None:
+        """Carries lines; where it is not known what the database did, their lines say where the next worker goes
+        on."""
+        try:
+            carry(self.store, self.name, offers, self.dropped)
+            for session, _ in offers:
+                self.verdicts.want(session.row, session.taken_in_error())
+        except (Failed, Taken):
+            for session, _ in offers:
+                self.drop(session.row)
+            raise
+
+    def dropped(self, session: Session, fault: Exception | None) -> None:
+        """A session that is no more: where something failed, its lease keeps others from it for a while."""
+        if fault is not None:
+            say(f"{session.sign.name}: {fault}")
+        self.drop(session.row, is_released=fault is None)
+
+    # ---- leases
+
+    def move(self) -> None:
+        """Lets signs go that stand still from now on, or are at another address: they begin again where they are."""
+        for row in self.where.look():
+            self.drop(row)
+
+    def lease(self) -> None:
+        """Takes signs that have work and that nobody drives; looks again soon where there are more of them."""
+        room = min(BEGUN_AT_ONCE, self.pace.most - len(self.sessions))
+        free = [row for row in self.store.with_work() if row in self.signs and row not in self.sessions]
+        leased = self.store.lease(free[: max(0, room)], self.name, self.pace.lease)
+        for row in sorted(leased):
+            self.begin(row)
+        if len(free) > room and room > 0 and leased:
+            self.next_look = 0.0
+
+    def begin(self, row: int) -> None:
+        """A session where the sign's lines left it. A sign that cannot be begun is kept from all until its lease
+        ends."""
+        try:
+            session = Session(self.store, row, self.signs[row], self.name, self.program, self.mib)
+            self.sessions[row], self.ticks[row] = session, time.monotonic() + self.pace.tick
+            self.verdicts.want(row, session.taken_in_error())
+        except Lost:
+            self.to_release.add(row)
+        except (Refusal, Failed, Taken, OSError) as fault:
+            say(f"{self.signs[row].name}: {fault}")
+
+    def renew(self) -> None:
+        """Lets signs go whose lease ran out, and keeps the others."""
+        kept = self.store.renew(list(self.sessions), self.name, self.pace.lease)
+        for row in set(self.sessions) - kept:
+            self.drop(row)
+
+    def drop(self, row: int, is_released: bool = True) -> None:
+        """Ends a session; its lines stay, and another worker may go on at once, or when the lease ends."""
+        session = self.sessions.pop(row, None)
+        self.ticks.pop(row, None)
+        if session is not None:
+            session.close()
+        if is_released:
+            self.to_release.add(row)
+
+    def release(self) -> None:
+        """Lets signs go, all at once; again later where the database did not do it."""
+        rows = sorted(self.to_release - set(self.sessions))
+        self.store.release(rows, self.name)
+        self.to_release.clear()

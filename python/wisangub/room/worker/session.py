@@ -1,0 +1,207 @@
+"""A sign that is driven: a centre's co-process where the sign's lines left it, a socket, and the next line's number."""
+
+import dataclasses
+import socket
+import time
+
+from wisangub.endpoint.centre_door import COMMANDS
+from wisangub.endpoint.commands import MOST_LINE
+from wisangub.endpoint.endings import is_in_error
+from wisangub.endpoint.records import Head
+from wisangub.endpoint.sockets import connected, received, sent
+from wisangub.endpoint.texts import ended
+from wisangub.process import description
+from wisangub.process.coprocess import CoProcess
+from wisangub.refusal import Refusal, reason, say
+from wisangub.room.fleet import Sign
+from wisangub.room.store.address_store import above
+from wisangub.room.store.store import Command, Line, News, Store
+from wisangub.snmp.mib import Mib
+
+from .steps import Steps
+
+MOST_LINES = 1000  # of a centre; one that is idle after more gives way to a new one
+MOST_LATE = 1000  # datagrams that came while no job was under way and are let go at once
+PACE = 0.01  # seconds from one line of a sign to the next at least: python/wisangub/room/store/backup.py counts on it
+CHANGED = "failed: the sign's description changed while it was under way"
+RESTORED = (
+    "unknown: the sign's numbers began anew, since the database was restored from a copy or the sign has an"
+    " address that another one had, while it was under way"
+)
+
+
+class Lost(Exception):
+    """The line's number is taken: another worker drives this sign."""
+
+
+def is_command(line: str) -> bool:
+    """Whether it is one line, and begins as a command of a centre does; the centre judges the rest."""
+    is_plain = line.isascii() and not set(line) & {"\n", "\r", "\0"}
+    return is_plain and line.split(" ")[0] in COMMANDS and len(line) <= MOST_LINE
+
+
+class Session:
+    """From a lease on until there is nothing to do. A line is offered, inserted under its number by whoever has the
+    session, handed over, and answered: python/wisangub/room/worker/carry.py has the order."""
+
+    command: Command | None = None
+    out: bytes | None = None
+    is_busy = is_ticked = False
+    in_error: Command | None = None  # that ended since the sign found its row in error
+
+    def __init__(self, store: Store, row: int, sign: Sign, worker: str, program: str, mib: Mib) -> None:
+        self.store, self.row, self.sign, self.worker, self.program, self.mib = store, row, sign, worker, program, mib
+        self.ledger: set[str] = set()
+        self.steps = Steps(mib)
+        self.ready_at = time.monotonic() + PACE
+        self.head, begun_at, lines = self.centre()
+        self.number, self.count = begun_at + 1 + len(lines), len(lines)
+        self.process = self.started()
+        try:
+            self.door = connected(sign.host, sign.port)
+            self.go_on(lines)
+        except BaseException:
+            self.close()
+            raise
+
+    # ---- a centre
+
+    def centre(self) -> tuple[Head, int, list[bytes]]:
+        """Which centre goes on, the number of the line that says so, and the lines that it was handed. The first one
+        begins with the fleet's number; another description, other rules, or a database that was restored from a copy
+        want another centre, above all numbers of the one before."""
+        first, least, lines = self.store.lines(self.row)
+        head = Head("centre", self.sign.digest, max(self.sign.first, least))
+        if not lines:
+            return self.begun_anew(head, first, "")
+        found = Head.of(lines[0])
+        if found is None or found.first is None:
+            raise Refusal(f"{self.sign.name}: line {first} is no beginning of a centre")
+        if dataclasses.replace(head, first=found.first) == found and found.first >= least:
+            return found, first, lines[1:]
+        number = max(above(found, len(lines) - 1), self.sign.first, least)
+        why = RESTORED if found.first < least else CHANGED
+        return self.begun_anew(dataclasses.replace(head, first=number), first + len(lines), why)
+
+    def begun_anew(self, head: Head, number: int, why: str) -> tuple[Head, int, list[bytes]]:
+        """A centre without lines; what was under way with one before it is over."""
+        if not self.store.replace(Line(self.row, number, head.line(), is_first=True), self.worker, why):
+            raise Lost
+        return head, number, []
+
+    def started(self) -> CoProcess:
+        """The co-process of the head."""
+        assert self.head.first is not None
+        process = CoProcess(self.program, ["centre"], description.with_first(self.sign.text, self.head.first))
+        try:
+            process.begin(b"status last", self.sign.name)
+        except BaseException:
+            process.end()
+            raise
+        return process
+
+    def go_on(self, lines: list[bytes]) -> None:
+        """Where the lines left it. Nothing of it goes out; the last answer tells whether a command was refused."""
+        begun = self.store.begun(self.row)
+        if begun is not None and begun[1] >= self.number:
+            raise Lost  # it was begun after the lines were read
+        self.command = begun[0] if begun else None
+        self.process.replay([lines[:-1]])
+        is_of_command = begun is not None and begun[1] == self.number - 1
+        self.process.write(b"".join(line + b"\n" for line in (*lines[-1:], b"status")))
+        answer = self.process.lines(1)[0] if lines else b""
+        news = self.look(answer.decode("latin-1") if is_of_command else "")
+        if news.is_some:
+            self.store.keep([news])
+
+    # ---- lines
+
+    def offer(self, is_due: bool) -> Line | None:
+        """The line that is next: a tick that is due, a datagram that waits, or the next command where no job is under
+        way; None where there is none. After a tick a datagram that waits comes before the next one, so that a worker
+        that is slow takes no reply for a silence."""
+        if not self.is_busy:
+            return self.beginning()
+        heard = received(self.door) if self.is_ticked or not is_due else None
+        self.is_ticked = heard is None and is_due
+        if heard is not None:
+            return Line(self.row, self.number, b"datagram " + (heard[0].hex().encode() or b"-"))
+        return Line(self.row, self.number, b"tick") if is_due else None
+
+    def beginning(self) -> Line | None:
+        """The next command, or before it a new centre, above all numbers, where the lines of this one grew long."""
+        while (command := self.store.next(self.row)) is not None:
+            if is_command(command.line):
+                break
+            self.store.end(command.id, "bad line")
+        if command is None:
+            return None
+        if self.count >= MOST_LINES:
+            head = dataclasses.replace(self.head, first=above(self.head, self.count))
+            return Line(self.row, self.number, head.line(), is_first=True)
+        for _ in range(MOST_LATE):  # what comes while no job is under way answers nothing
+            if received(self.door) is None:
+                break
+        self.command = command
+        return Line(self.row, self.number, command.line.encode(), command.id)
+
+    def hand(self, line: Line) -> None:
+        """Hands over a line that is in the database under its number."""
+        self.ready_at = time.monotonic() + PACE
+        self.number, self.count = line.number + 1, self.count + 1
+        if line.command is not None:
+            self.steps = Steps(self.mib)
+        if line.is_first:
+            head = Head.of(line.text)
+            assert head is not None
+            self.process.end()
+            self.head, self.count, self.ledger = head, 0, set()
+            self.process = self.started()
+            self.process.write(b"status\n")
+        else:
+            self.process.write(line.text + b"\nstatus\n")
+
+    def answered(self, line: Line) -> News:
+        """What came of the line."""
+        answer = b"" if line.is_first else self.process.lines(1)[0]
+        self.out = bytes.fromhex(answer[5:].decode()) if answer.startswith(b"send ") else None
+        self.steps.see(self.out)
+        return self.look(answer.decode("latin-1"))
+
+    def look(self, answer: str) -> News:
+        """What is new in the ledger, and how a command ended: from the answer to a `status` that was handed over."""
+        is_busy, last, *ledger = [line.decode("latin-1") for line in self.process.until(b"ok")]
+        self.is_busy = is_busy == "busy"
+        news = News(self.row, [line for line in ledger if line not in self.ledger])
+        self.ledger = set(ledger)
+        if self.command is not None and not self.is_busy:
+            is_refused = answer.split(" ")[0] in ("refused", "bad")
+            news.command = self.command.id
+            news.how = answer if is_refused else ended(self.mib, last).removeprefix("last ")
+            self.in_error = self.command if is_in_error(news.how) else self.in_error
+            self.command = None
+        return news
+
+    def step(self) -> tuple[int, int] | None:
+        """The step that the command has come to, and the command, where it is another than before."""
+        step = self.steps.taken()
+        return None if step is None or self.command is None else (step, self.command.id)
+
+    def taken_in_error(self) -> Command | None:
+        """The command of whose row the sign can say what is wrong, once."""
+        command, self.in_error = self.in_error, None
+        return command
+
+    def send(self) -> None:
+        """What goes out for the last line, to the sign."""
+        octets, self.out = self.out, None
+        fault = None if octets is None else sent(self.door, octets)
+        if fault is not None:
+            say(f"{self.sign.name}: a request is lost: {reason(fault)}")
+
+    def close(self) -> None:
+        """Ends the co-process. The lines stay."""
+        self.process.end()
+        door: socket.socket | None = getattr(self, "door", None)
+        if door is not None:
+            door.close()

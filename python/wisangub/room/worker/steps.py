@@ -1,0 +1,41 @@
+"""The step of the profile (docs/PROFILE.md, "Commands") that a job is at, from the requests that go out."""
+
+from model import wire
+from wisangub.snmp.mib import Mib
+
+MODIFY, VALIDATE = 6, 7  # that are written to dmsMessageStatus
+FIRST_STATUS, SECOND_STATUS = 2, 5  # the steps that ask for it
+
+
+class Steps:
+    """The last step, and whether it is another than was taken away."""
+
+    def __init__(self, mib: Mib) -> None:
+        self.mib = mib
+        self.step = 0  # where no request was seen yet
+        self.is_new = False
+
+    def see(self, octets: bytes | None) -> None:
+        """A request went out, or nothing."""
+        message = None if octets is None else wire.spelled(octets)
+        if message is None or not message.bindings:
+            return
+        step = self.of(message)
+        self.is_new = self.is_new or step != self.step
+        self.step = step
+
+    def of(self, message: wire.Message) -> int:
+        """The step whose request it is; that of the last one where it is none of them."""
+        object_ = self.mib.split(message.bindings[0][0])[0]
+        if message.kind == wire.SET and len(message.bindings) > 1:
+            return 3
+        if object_ == "dmsMessageStatus" and message.kind == wire.SET:
+            return {MODIFY: 1, VALIDATE: 4}.get(message.bindings[0][1][1], self.step)
+        if object_ == "dmsMessageStatus" and self.step:
+            return FIRST_STATUS if self.step in (1, FIRST_STATUS) else SECOND_STATUS
+        return {"dmsMessageCRC": 6, "dmsActivateMessage": 7, "dmsActivateMsgError": 8}.get(object_, self.step)
+
+    def taken(self) -> int | None:
+        """The step, where it is new since it was taken."""
+        is_new, self.is_new = self.is_new, False
+        return self.step if is_new else None

@@ -1,0 +1,127 @@
+"""The rows of the signs' tables: the status of each, and what those hold that are in use."""
+
+import json
+import re
+import time
+from functools import partial
+
+from wisangub.endpoint.asking import Name, Values
+from wisangub.room.fleet import Sign
+from wisangub.room.store.reading_store import RowSaid
+from wisangub.room.store.store import Store
+from wisangub.snmp.mib import Mib
+
+from .gets import Gets
+
+EVERY = 600.0  # seconds from one reading of a sign's table to the next, where nobody wants it before
+LOOK = 1.0  # seconds from one look for tables that are due to the next
+STATUSES = 30  # rows whose status one Get asks for, so that its reply fits a datagram
+NOT_USED = 1
+MOST = 20  # signs whose tables are read at a time
+STATUS = "dmsMessageStatus"
+CELLS = {
+    "text": "dmsMessageMultiString",
+    "owner": "dmsMessageOwner",
+    "checksum": "dmsMessageCRC",
+    "beacon": "dmsMessageBeacon",
+    "pixel": "dmsMessagePixelService",
+    "priority": "dmsMessageRunTimePriority",
+}
+ROWS = re.compile(rb"^rows ([0-9]+) ([0-9]+)\r?$", re.MULTILINE)
+PERMANENT = re.compile(rb"^permanent ", re.MULTILINE)
+Place = tuple[int, int]  # memory and number
+
+
+def places(sign: Sign) -> list[Place]:
+    """The rows that the description gives the sign: permanent (2), changeable (3) and volatile (4) ones."""
+    found = ROWS.search(sign.text)
+    changeable, volatile = (int(found[1]), int(found[2])) if found else (0, 0)
+    counts = {2: len(PERMANENT.findall(sign.text)), 3: changeable, 4: volatile}
+    return [(memory, number) for memory, count in counts.items() for number in range(1, count + 1)]
+
+
+class Pass:
+    """One reading of one sign's table, a Get after the other."""
+
+    def __init__(self, tables: "Tables", row: int, sign: Sign) -> None:
+        self.tables, self.row, self.sign = tables, row, sign
+        self.to_ask = places(sign)
+        self.used: list[tuple[Place, int]] = []
+
+    @property
+    def is_done(self) -> bool:
+        return not self.to_ask and not self.used
+
+    def go_on(self, number: int) -> None:
+        """The next Get: for the statuses first, then for the rows that are in use."""
+        if self.to_ask:
+            asked, self.to_ask = self.to_ask[:STATUSES], self.to_ask[STATUSES:]
+            names = [(*self.tables.status, *place) for place in asked]
+            self.ask(number, names, partial(self.statuses, asked))
+        else:
+            place, status = self.used.pop(0)
+            names = [(*column, *place) for column in self.tables.columns.values()]
+            self.ask(number, names, partial(self.held, place, status))
+
+    def ask(self, number: int, names: list[Name], take: "partial[None]") -> None:
+        self.tables.gets.begin(self.sign, number, names, partial(self.end, take, number))
+
+    def end(self, take: "partial[None]", number: int, values: Values | str) -> None:
+        """A sign that does not answer is asked again at the next time; else its table is read on."""
+        if isinstance(values, str):
+            self.tables.going.discard(self.row)
+            return
+        take(number, values)
+        self.tables.ready.append(self)
+
+    def statuses(self, asked: list[Place], number: int, values: Values) -> None:
+        for place, status in zip(asked, values):
+            if isinstance(status, int) and status != NOT_USED:
+                self.used.append((place, status))
+            elif isinstance(status, int):
+                self.tables.said.append(RowSaid(self.row, *place, number, status, None))
+
+    def held(self, place: Place, status: int, number: int, values: Values) -> None:
+        cells = json.dumps(dict(zip(self.tables.columns, values)))
+        self.tables.said.append(RowSaid(self.row, *place, number, status, cells))
+
+
+class Tables:
+    """The tables that are being read."""
+
+    def __init__(self, store: Store, signs: dict[int, Sign], gets: Gets, mib: Mib) -> None:
+        self.store, self.signs, self.gets = store, signs, gets
+        named = {object_: name for name, object_ in mib.objects.items()}
+        self.status = named[STATUS]
+        self.columns = {word: named[object_] for word, object_ in CELLS.items()}
+        self.going: set[int] = set()
+        self.ready: list[Pass] = []
+        self.said: list[RowSaid] = []
+        self.next_look = 0.0
+
+    def begin(self) -> None:
+        """Begins those that are due, and has those go on that heard something."""
+        now = time.monotonic()
+        free = [row for row in self.signs if row not in self.going] if now >= self.next_look else []
+        self.next_look = now + LOOK if free else self.next_look
+        for row in self.store.tables_due(free, EVERY, MOST - len(self.going)):
+            self.going.add(row)
+            self.ready.append(Pass(self, row, self.signs[row]))
+        self.go_on()
+
+    def go_on(self) -> None:
+        """The next Get of each that heard something; a reading that ended or cannot go on is let go."""
+        ready, self.ready = self.ready, []
+        for one in ready:
+            self.going.discard(one.row)
+        more = [one for one in ready if not one.is_done and self.signs.get(one.row) is one.sign]
+        numbers = self.store.numbers([one.row for one in more])
+        for one in more:
+            if one.row in numbers:
+                self.going.add(one.row)
+                one.go_on(numbers[one.row])
+
+    def keep(self) -> None:
+        """Puts what was said since the last time into the database."""
+        said, self.said = self.said, []
+        self.store.read_rows(said)

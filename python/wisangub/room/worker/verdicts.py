@@ -1,0 +1,50 @@
+"""What signs found wrong with messages: each is asked after a command of it ended with its row in error."""
+
+from functools import partial
+
+from wisangub.endpoint import verdict
+from wisangub.endpoint.asking import Values
+from wisangub.room.fleet import Sign
+from wisangub.room.store.store import Command, Store
+from wisangub.snmp.mib import Mib
+
+from .gets import Gets
+
+
+class Verdicts:
+    """The Gets for what was found, one of a sign at a time."""
+
+    def __init__(self, store: Store, signs: dict[int, Sign], gets: Gets, mib: Mib, program: str) -> None:
+        self.store, self.signs, self.gets, self.mib, self.program = store, signs, gets, mib, program
+        self.asked = verdict.names(mib)
+        self.to_ask: list[tuple[int, Command]] = []
+        self.said: list[tuple[int, str]] = []
+
+    def want(self, row: int, command: Command | None) -> None:
+        """Has the sign asked, where a command of it ended so."""
+        if command is not None:
+            self.to_ask.append((row, command))
+
+    def begin(self) -> None:
+        """Sends a Get to each sign that is to be asked; a sign that is no more is let be."""
+        if not self.to_ask:
+            return
+        first = dict(reversed(self.to_ask))
+        numbers = self.store.numbers([row for row in first if row in self.signs])
+        self.to_ask = [(row, command) for row, command in self.to_ask if command != first[row] and row in numbers]
+        for row, number in numbers.items():
+            end = partial(self.end, self.signs[row], first[row])
+            self.gets.begin(self.signs[row], number, self.asked, end)
+
+    def end(self, sign: Sign, command: Command, values: Values | str) -> None:
+        """What came of it; where the sign said nothing, nothing is said."""
+        words = (
+            "" if isinstance(values, str) else verdict.words(self.mib, values, command.line, self.program, sign.text)
+        )
+        if words:
+            self.said.append((command.id, words))
+
+    def keep(self) -> None:
+        """Puts what was said since the last time into the database."""
+        said, self.said = self.said, []
+        self.store.because(said)

@@ -1,0 +1,55 @@
+"""Where each sign of a worker is now: what its address resolves to, and that it is this sign's alone. A sign without an
+address, or with one that another sign has, stands still: it is neither driven nor read, and the wall says why."""
+
+import dataclasses
+import time
+
+from wisangub.refusal import say
+from wisangub.room.addresses import Addresses, Found
+from wisangub.room.fleet import Sign
+from wisangub.room.store.store import Store
+
+
+class Where:
+    """`signs` are those that do not stand still, each with the address that it is spoken to at."""
+
+    def __init__(self, store: Store, fleet: dict[int, Sign], again: float) -> None:
+        self.store, self.fleet, self.again = store, fleet, again
+        self.addresses = Addresses([(sign.host, sign.port) for sign in fleet.values()], again).wait()
+        self.signs: dict[int, Sign] = {}
+        self.known: dict[int, Found] = {}
+        self.still: dict[int, str] = {}
+        self.next_look = 0.0
+
+    def look(self) -> set[int]:
+        """Takes addresses that resolved anew, and those that another sign had, once it has them no more: the signs that
+        stand still from now on, or are elsewhere."""
+        found = {row: self.addresses.of((sign.host, sign.port)) for row, sign in self.fleet.items()}
+        now = time.monotonic()
+        is_due = now >= self.next_look
+        to_take = [row for row in found if found[row] != self.known.get(row) or is_due and row in self.still]
+        if not to_take:
+            return set()
+        self.next_look = now + self.again
+        with self.store.database.transaction(is_alone=True):
+            still = self.store.placed(
+                {row: (found[row].every | {self.fleet[row].address}, found[row].fault) for row in to_take}
+            )
+        return {row for row in to_take if self.is_moved(row, found[row], still.get(row, ""))}
+
+    def is_moved(self, row: int, found: Found, why: str) -> bool:
+        """Whether the sign is no more where it was."""
+        self.known[row] = found
+        before = self.signs.pop(row, None)
+        if why and why != self.still.get(row):
+            say(f"{self.fleet[row].name}: it stands still: {why}")
+        if why:
+            self.still[row] = why
+        else:
+            if self.still.pop(row, ""):
+                say(f"{self.fleet[row].name}: it goes on, at {found.host}")
+            self.signs[row] = dataclasses.replace(self.fleet[row], host=found.host)
+        return before is not None and before != self.signs.get(row)
+
+    def close(self) -> None:
+        self.addresses.close()

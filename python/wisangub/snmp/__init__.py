@@ -1,0 +1,1 @@
+"""Octets of SNMPv1, names of objects, and the MIB."""

@@ -1,0 +1,19 @@
+"""The command wisangub-conform and its subcommands."""
+
+import sys
+
+from wisangub import commands
+
+PARTS = {
+    "centre": "wisangub.tester.centre.program",
+    "soak": "wisangub.tester.soak",
+    "vectors": "wisangub.tester.ask_vectors",
+}
+
+
+def run() -> int:
+    return commands.run("wisangub.tester.cli", PARTS)
+
+
+if __name__ == "__main__":
+    sys.exit(run())

@@ -1,0 +1,1 @@
+"""A central system under test: what a sign sees it do wrong."""

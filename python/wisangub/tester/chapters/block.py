@@ -1,0 +1,84 @@
+"""What a chapter is made of, and the steps that many chapters begin with."""
+
+from dataclasses import dataclass, field
+from typing import Callable, Iterator, Sequence
+
+from wisangub.tester.context import Context
+from wisangub.tester.objects import EXECUTIVE, SHOWN_CELLS, STATE_SCALARS, Binding, Name, Row
+from wisangub.tester.steps import Ask, Step, Wait, get, looks, put
+
+
+@dataclass
+class Block:
+    """Steps that belong together. `rule` is broken by a difference in a step that names none itself.
+
+    A `fresh` block begins in the known state; another in the state that the one before it left.
+    """
+
+    name: str
+    rule: str
+    steps: Sequence[Step]
+    is_fresh: bool = False
+    parts: Sequence["Block"] = ()  # what tells it more closely where this block differs
+
+
+@dataclass
+class Chapter:
+    name: str
+    title: str
+    blocks: Callable[[Context], Iterator[Block]]
+    is_slow: bool = False
+    notes: list[str] = field(default_factory=list)
+
+
+def modify(row: Row) -> Ask:
+    return put(row.status(6), rule="statuses")
+
+
+def fill(
+    row: Row, text: bytes, owner: bytes = b"", beacon: int = 0, pixel: int = 0, priority: int = 1, rule: str = "set"
+) -> Ask:
+    """All fields of a row that is modifying."""
+    return put(
+        row.text(text), row.owner(owner), row.beacon(beacon), row.pixel(pixel), row.priority(priority), rule=rule
+    )
+
+
+def validate(row: Row) -> Ask:
+    return put(row.status(7), rule="statuses")
+
+
+def unuse(row: Row) -> Ask:
+    return put(row.status(8), rule="statuses")
+
+
+def settle(row: Row, rule: str = "settled") -> list[Step]:
+    """A row is asked to validate, and a tick passes."""
+    return [validate(row), Wait(1), get(row.cell(9), rule=rule)]
+
+
+def message(
+    row: Row, text: bytes, owner: bytes = b"", beacon: int = 0, pixel: int = 0, priority: int = 1
+) -> list[Step]:
+    """A row with this message, validated."""
+    return [modify(row), fill(row, text, owner, beacon, pixel, priority), *settle(row)]
+
+
+def look(*rows: Row, rule: str = "", more: Sequence[Name] = ()) -> list[Ask]:
+    """Reads of these rows, their statuses first, and of all that a command may change."""
+    cells = [row.cell(column) for row in rows for column in (9, 3, 4, 5, 6, 7, 8)]
+    return looks([*cells, *STATE_SCALARS, *SHOWN_CELLS, *more], rule=rule, share=30)
+
+
+def look_at(*names: Name, rule: str = "") -> Ask:
+    return get(*names, rule=rule)
+
+
+def reports(rule: str = "") -> Ask:
+    """What a validation and an activation report, and what is shown."""
+    return get(*EXECUTIVE, *SHOWN_CELLS, rule=rule)
+
+
+def alone(bindings: Sequence[Binding], rule: str = "", is_writer: bool = True) -> list[Ask]:
+    """A SET for each binding."""
+    return [put(bound, rule=rule, is_writer=is_writer) for bound in bindings]

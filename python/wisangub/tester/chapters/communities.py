@@ -1,0 +1,61 @@
+"""Communities: who reads, who writes, and who is not answered."""
+
+from dataclasses import replace
+from typing import Iterator
+
+from model import wire
+from wisangub.tester.context import Context, activate
+from wisangub.tester.objects import NULL, Row, cell, integer, scalar
+from wisangub.tester.steps import Ask, get, get_next, put
+
+from .block import Block, Chapter, look
+
+
+def strangers(communities: tuple[bytes, bytes]) -> list[bytes]:
+    """Communities that are neither, many of them by one octet."""
+    found = [b"", b"\0", b"x", b"private", b"x" * 32, b"x" * 33, b"x" * 300]
+    for known in communities:
+        found += [
+            known[:-1],
+            known[1:],
+            known + b"\0",
+            known + b" ",
+            b" " + known,
+            known.swapcase(),
+            known * 2,
+            known[:-1] + bytes([known[-1] ^ 1]),
+            bytes([known[0] ^ 0x80]) + known[1:],
+        ]
+    return [name for name in dict.fromkeys(found) if name not in communities]
+
+
+def blocks(context: Context) -> Iterator[Block]:
+    reads = [get(scalar(2, 3)), get_next(scalar(2, 3)), get(cell(9, 5, 1), scalar(6, 5))]
+    yield Block("the reader reads", "reader reads", [replace(read, is_writer=False) for read in reads])
+    yield Block("the writer reads", "reader reads", reads)
+    refusals = [
+        put((scalar(4, 8), integer(10))),
+        put((scalar(4, 8), integer(256))),
+        put((scalar(9, 9), integer(10))),
+        put((scalar(4, 8), integer(10)), (scalar(4, 8), integer(11))),
+        activate(context.blank_code(3)),
+        put((scalar(6, 4), integer(1))),
+        put((scalar(2, 3), NULL)),
+    ]
+    if context.rows:
+        row = Row(3, 1) if context.described.changeable else Row(4, 1)
+        refusals += [put(row.status(6)), put(row.status(7)), put(row.text(b"A"))]
+    yield Block("the reader writes", "reader writes", [replace(step, is_writer=False) for step in refusals])
+    yield Block("nothing was written", "reader writes", look())
+    yield Block("the reader writes nothing", "set", [replace(put(), is_writer=False), put()])
+    for community in strangers(context.communities):
+        asks = [
+            Ask(wire.GET, ((scalar(2, 3), NULL),), community=community),
+            Ask(wire.GET_NEXT, ((scalar(2, 3), NULL),), community=community),
+            Ask(wire.SET, ((scalar(4, 8), integer(20)),), community=community),
+        ]
+        yield Block("a community that is neither", "no community", asks)
+    yield Block("nothing was written", "no community", look())
+
+
+CHAPTER = Chapter("communities", "Communities", blocks)

@@ -1,0 +1,129 @@
+"""Get: every instance, and names that are none."""
+
+from dataclasses import replace
+from typing import Iterator
+
+from model import wire
+from model.objects import DMS
+from model.sign import Sign
+from wisangub.tester.context import Context
+from wisangub.tester.objects import NULL, Name, Row, cell, column_of, integer, octets, row_of, scalar
+from wisangub.tester.steps import Ask, get, looks
+
+from .block import Block, Chapter, look, message
+
+NO_INSTANCES: list[Name] = [
+    scalar(2, 3)[:-1],
+    scalar(2, 3)[:-1] + (1,),
+    scalar(2, 3) + (0,),
+    scalar(4, 10),
+    scalar(4, 12),
+    scalar(5, 8),
+    scalar(5, 10),
+    scalar(6, 1),
+    scalar(6, 2),
+    scalar(6, 11),
+    scalar(6, 16),
+    scalar(6, 20),
+    scalar(6, 25),
+    scalar(7, 1),
+    scalar(1, 1),
+    DMS,
+    DMS + (5, 8, 1, 3),
+    DMS + (5, 8, 1, 3, 3),
+    DMS + (5, 8, 1, 0, 3, 1),
+    DMS + (5, 8, 1, 10, 3, 1),
+    DMS + (5, 8, 1, 3, 3, 1, 0),
+    DMS + (5, 8, 0, 3, 3, 1),
+    DMS + (5, 8, 2, 3, 3, 1),
+    (1, 3, 6, 1, 2, 1, 1, 1, 0),
+    (0, 0),
+    (2, 999, 3),
+    DMS[:-1] + (4, 2, 3, 0),
+    DMS[:-1] + (2, 2, 3, 0),
+    DMS + (5, 8, 1, 3, 3, 2**32 - 1),
+    DMS + (5, 8, 1, 3, 3, 65537),
+    DMS + (5, 8, 1, 9, 259, 1),
+    DMS + (5, 8, 1, 259, 3, 1),
+    scalar(4, 257),
+    scalar(260, 1),
+    scalar(6, 3)[:-1] + (256,),
+]
+
+
+def no_rows(context: Context) -> list[Name]:
+    """Cells of rows that the sign has not, by one."""
+    rows = [
+        (1, 1),
+        *context.beyond,
+        (6, 1),
+        (7, 0),
+        (7, 256),
+        (8, 1),
+        *[(memory, 257) for memory in (2, 3, 4, 5, 7)],
+    ]
+    return [cell(column, *row) for row in rows for column in (3, 9)]
+
+
+def rule_for(name: Name) -> str:
+    """What the values of an object are to be by."""
+    row = row_of(name)
+    if row is not None and row[0] == 7:
+        return "blank checksum" if column_of(name) == 5 else "blank rows"
+    if row is not None:
+        return "checksum" if column_of(name) == 5 else "the table's rows"
+    place = tuple(name[len(DMS) : len(DMS) + 2])
+    rules: dict[Name, str] = {(5, 2): "counts", (5, 5): "counts", (5, 4): "free memory", (5, 7): "free memory"}
+    return rules.get(place, "values")
+
+
+def alike(names: list[Name]) -> list[tuple[str, list[Name]]]:
+    """The names by the rule of their values."""
+    found: dict[str, list[Name]] = {}
+    for name in names:
+        found.setdefault(rule_for(name), []).append(name)
+    return list(found.items())
+
+
+def blocks(context: Context) -> Iterator[Block]:
+    for rule, names in alike(Sign(context.described).instances()):
+        for step in looks(names, share=40):
+            yield Block("every instance", rule, [step])
+    for step in looks(Sign(context.described).instances(), rule="reader reads"):
+        yield Block("every instance by the reader", "reader reads", [replace(step, is_writer=False)])
+    for name in NO_INSTANCES + no_rows(context):
+        yield Block("no instance", "get", [get(name), get(name, is_writer=False)])
+    here, none = scalar(2, 3), scalar(2, 5)
+    lists: list[list[Name]] = [
+        [],
+        [here, here],
+        [none, here],
+        [here, none],
+        [here, here, none, none],
+        [none, none],
+        [here] * 20 + [none] + [here] * 20,
+    ]
+    for names in lists:
+        yield Block("several names", "get", [get(*names)])
+    values = [integer(7), octets(b"A"), (wire.ADDRESS, bytes(4)), (wire.NAME, (1, 3))]
+    asks = [Ask(wire.GET, ((here, value), (here, NULL))) for value in values]
+    yield Block("values of a request", "get", asks)
+    if context.rows:
+        row = context.rows[0]
+        yield Block(
+            "a row that is valid",
+            "row checksum",
+            [*message(row, context.character(), b"owner", 0, 0, 7), *look(row)],
+            True,
+        )
+        yield Block("a row of a beacon", "checksum", filled(context, row), True)
+
+
+def filled(context: Context, row: Row) -> list:
+    """A row that is valid with all that the sign has."""
+    described = context.described
+    text = context.character() + b"[np]" + context.character(1)
+    return [*message(row, text, b"", int(described.beacons), int(described.pixels), 255), *look(row)]
+
+
+CHAPTER = Chapter("get", "Get", blocks)

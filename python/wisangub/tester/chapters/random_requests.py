@@ -1,0 +1,109 @@
+"""Random requests: valid, nearly valid and hostile, in sequences from the known state."""
+
+from typing import Iterator
+
+from model import wire
+from wisangub.tester.context import Context
+from wisangub.tester.objects import NULL, Binding, integer, octets, scalar
+from wisangub.tester.steps import Ask, Raw, Step, Wait
+
+from .block import Block, Chapter, look
+from .random_values import Values
+
+LENGTH = 60  # requests of a sequence
+MOST_OCTETS = 4096  # of a hostile datagram
+
+
+class Requests(Values):
+    """Random requests about few rows, which know what they last wrote."""
+
+    def read(self) -> Ask:
+        names = [self.name() for _ in range(self.chance.choice([1, 1, 1, 2, 3, 10]))]
+        kind = self.chance.choice([wire.GET, wire.GET, wire.GET_NEXT])
+        return Ask(kind, tuple((name, NULL) for name in names), self.chance.random() < 0.7)
+
+    def write(self) -> Ask:
+        bindings: list[Binding] = []
+        for _ in range(self.chance.choice([1, 1, 1, 2, 3])):
+            bindings.append(self.binding())
+        return Ask(wire.SET, tuple(bindings), self.chance.random() < 0.96)
+
+    def binding(self) -> Binding:
+        draw = self.chance.random()
+        if draw < 0.35 and self.rows:
+            return self.field(self.chance.choice(self.rows))
+        if draw < 0.65 and self.rows:
+            return self.chance.choice(self.rows).status(
+                self.chance.choice([6, 6, 6, 7, 7, 8, self.chance.choice([5, 9])])
+            )
+        if draw < 0.80:
+            return scalar(6, 3), octets(self.code())
+        if draw < 0.84:
+            return scalar(6, 4), integer(self.chance.choice([0, 1, 2, 65535, 65536]))
+        if draw < 0.97:
+            return self.setting()
+        return self.name(), self.wild()
+
+    def hostile(self) -> Raw:
+        """Octets of python/wisangub/tester/hostile_datagrams.py, with a request number of this run."""
+        state = self.chance.randrange(2**32)
+
+        def make(number: int, _communities: tuple[bytes, bytes]) -> bytes:
+            made: bytes
+            self.maker.random.seed(state)
+            self.maker.rate = self.maker.one([0.0, 0.005, 0.02, 0.1])
+            made = self.maker.message(self.maker.one([wire.GET, wire.GET, wire.GET_NEXT, wire.SET]), number)
+            for _ in range(self.maker.one([0, 0, 1, 1, 2])):
+                made = self.maker.changed(made)
+            return made[:MOST_OCTETS]
+
+        return Raw(make)
+
+    def step(self) -> Step:
+        draw = self.chance.random()
+        if draw < 0.40:
+            return self.write()
+        if draw < 0.75:
+            return self.read()
+        if draw < 0.99:
+            return self.hostile()
+        return Wait(1)
+
+    def publication(self) -> list[Step]:
+        """A message that is written, validated and activated."""
+        if not self.rows:
+            return []
+        row, text = self.chance.choice(self.rows), self.chance.choice(self.texts)
+        beacon, priority = self.chance.choice([0, 0, 1]), self.chance.choice([1, 100, 255])
+        self.held[row] = (text, beacon, 0)
+        code = self.context.code(
+            row, self.context.crc(text, beacon, 0), self.chance.choice([255, 100]), self.chance.choice([65535, 0, 1])
+        )
+        return [
+            Ask(wire.SET, (row.status(6),)),
+            Ask(wire.SET, (row.text(text), row.beacon(beacon), row.priority(priority))),
+            Ask(wire.SET, (row.status(7),)),
+            Wait(1),
+            Ask(wire.SET, ((scalar(6, 3), octets(code)),)),
+        ]
+
+    def sequence(self, length: int) -> list[Step]:
+        steps: list[Step] = []
+        while len(steps) < length:
+            steps += self.publication() if self.chance.random() < 0.015 else [self.step()]
+            if self.chance.random() < 0.08:
+                steps += [self.chance.choice(look(*self.rows))]
+        return [*steps[:length], *look(*self.rows)]
+
+
+def blocks(context: Context) -> Iterator[Block]:
+    done, number = 0, 0
+    while done < context.requests:
+        requests = Requests(context, context.seed * 1_000_003 + number)
+        steps = requests.sequence(min(LENGTH, context.requests - done))
+        done += sum(not isinstance(step, Wait) for step in steps)
+        number += 1
+        yield Block(f"random requests, sequence {number}", "", steps, True)
+
+
+CHAPTER = Chapter("random", "Random requests", blocks)

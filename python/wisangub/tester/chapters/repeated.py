@@ -1,0 +1,77 @@
+"""Datagrams repeated and out of order: each is taken as it comes."""
+
+import itertools
+from dataclasses import replace
+from typing import Iterator
+
+from wisangub.tester.context import Context, activate, remaining
+from wisangub.tester.objects import Row, integer, octets, scalar
+from wisangub.tester.steps import Ask, Step, Wait, get, get_next, put
+
+from .block import Block, Chapter, fill, look, look_at, modify, unuse
+
+GROUPS = itertools.count(1)
+
+
+def again(ask: Ask, times: int = 2) -> list[Step]:
+    """The same octets so many times."""
+    group = next(GROUPS)
+    return [replace(ask, group=group)] * times
+
+
+def scalars(context: Context) -> Iterator[Block]:
+    for ask in (
+        get(scalar(2, 3)),
+        get_next(scalar(2, 3)),
+        get(scalar(2, 5)),
+        put((scalar(4, 8), integer(9))),
+        put((scalar(4, 8), integer(256))),
+    ):
+        yield Block("a request repeated", "repeated", [*again(ask, 3), look_at(scalar(4, 8))])
+    number = next(GROUPS)
+    read, writes = get(scalar(4, 8)), [put((scalar(4, 8), integer(value))) for value in (9, 10)]
+    others = [get(scalar(2, 3)), get(scalar(2, 4)), writes[0], read, writes[1], read, get_next(scalar(4, 8))]
+    shared: list[Step] = [replace(ask, group=number) for ask in others]
+    yield Block("other requests with one number", "not looked at", [*shared, look_at(scalar(4, 8))], True)
+    first, second = again(put((scalar(4, 8), integer(1))))[0], again(put((scalar(4, 8), integer(2))))[0]
+    yield Block(
+        "an earlier request comes late",
+        "repeated",
+        [first, second, look_at(scalar(4, 8)), first, look_at(scalar(4, 8))],
+        True,
+    )
+    blank, refused = activate(context.blank_code(5, 255)), activate(context.code(Row(9, 1), 0x77))
+    low, high = again(activate(context.blank_code(3, 3)))[0], again(activate(context.blank_code(9, 255)))[0]
+    yield Block(
+        "an activation repeated",
+        "repeated",
+        [*again(blank), *look(), *again(refused), *look(), *again(blank), *look()],
+        True,
+    )
+    yield Block("an activation that comes late", "repeated", [low, high, low, *look()], True)
+    yield Block(
+        "0 minutes repeated",
+        "repeated",
+        [put((scalar(6, 15), octets(b"\7\0\7\0\0"))), *again(put(remaining(0))), *look()],
+        True,
+    )
+
+
+def rows(context: Context, row: Row) -> Iterator[Block]:
+    filled = fill(row, context.character())
+    validate = again(put(row.status(7)))
+    early: list[Step] = [filled, *again(put(row.status(7))), *again(modify(row)), *look(row)]
+    yield Block("a publication out of order", "repeated", early, True)
+    twice: list[Step] = [*again(modify(row)), *again(filled), Wait(0), *validate, Wait(1), *look(row)]
+    yield Block("commands of a row repeated", "repeated", twice, True)
+    late: list[Step] = [validate[0], look_at(row.cell(9)), *again(unuse(row)), validate[0], *look(row)]
+    yield Block("a validation that comes late", "repeated", late)
+
+
+def blocks(context: Context) -> Iterator[Block]:
+    yield from scalars(context)
+    for row in context.rows[:1]:
+        yield from rows(context, row)
+
+
+CHAPTER = Chapter("repeated", "Repeated and out of order", blocks)

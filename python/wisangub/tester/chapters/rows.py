@@ -1,0 +1,137 @@
+"""A row's statuses: each of them asked for each command, and its fields written."""
+
+from typing import Iterator
+
+from wisangub.tester.context import Context
+from wisangub.tester.objects import Row, scalar
+from wisangub.tester.steps import Step, Wait, put
+
+from .block import Block, Chapter, fill, look, look_at, message, modify, settle, unuse, validate
+
+BAD_TEXT = b"[zz]"
+COUNTS = [scalar(5, member) for member in range(1, 8)]
+
+
+def reaching(context: Context, row: Row, status: int) -> list[Step]:
+    """Steps that bring a row that is not used to a status."""
+    text = context.character()
+    if status == 1:
+        return []
+    if status in (2, 3):
+        filled: list[Step] = [modify(row), fill(row, text, b"me", 0, 0, 9)]
+        return filled + ([Wait(0), validate(row)] if status == 3 else [])
+    return message(row, text if status == 4 else BAD_TEXT, b"me", 0, 0, 9)
+
+
+def writes(row: Row) -> list[Step]:
+    """A SET for each field."""
+    fields = [row.text(b"A"), row.owner(b"B"), row.beacon(0), row.pixel(0), row.priority(3)]
+    return [put(bound, rule="fields") for bound in fields]
+
+
+def transitions(context: Context, row: Row, is_settled: bool = True) -> Iterator[Block]:
+    """Each status asked for each command; those after a validation only where ticks are waited for."""
+    asks = {value: put(row.status(value)) for value in (6, 7, 8)}
+    for status in (1, 2):
+        for value, ask in asks.items():
+            if (status, value) == (2, 7):  # as the block of status 3 begins
+                continue
+            yield Block(
+                f"status {status} asked {value}", "statuses", [*reaching(context, row, status), ask, *look(row)], True
+            )
+        yield Block(
+            f"status {status}: fields", "fields", [*reaching(context, row, status), *writes(row), *look(row)], True
+        )
+    refused = [step for ask in (*asks.values(), *writes(row)) for step in (ask, look_at(row.cell(9)))]
+    yield Block("status 3 asked and written", "statuses", [*reaching(context, row, 3), *refused, *look(row)], True)
+    # a valid row is emptied in `counts`, one in error modified in `settling`
+    for status, last in ((4, 6), (5, 8)) if is_settled else ():
+        steps = [*reaching(context, row, status), *writes(row), *look(row)]
+        yield Block(f"status {status}: fields", "fields", steps, True)
+        steps = [asks[7], *look(row), Wait(1), *look(row), asks[last], *look(row)]
+        yield Block(f"status {status} asked 7, and {last}", "statuses", steps)
+
+
+def two_rows(context: Context, row: Row, other: Row) -> Iterator[Block]:
+    text = context.character()
+    begun: list[Step] = [modify(row), fill(row, text), modify(other), fill(other, text), Wait(0), validate(row)]
+    tried: list[Step] = [
+        put(other.status(7)),
+        look_at(row.cell(9), other.cell(9)),
+        put(other.status(8)),
+        look_at(other.cell(9)),
+        put(other.status(6)),
+        fill(other, text),
+        Wait(1),
+        *look(row, other),
+    ]
+    yield Block("one row validates", "one validates", [*begun, *tried], True)
+    yield Block("one after the other", "one validates", [*settle(other), *look(row, other)])
+
+
+def emptied(context: Context, row: Row) -> Iterator[Block]:
+    filled = [modify(row), fill(row, b"A" * 20, b"owner", 1, 1, 200)]
+    yield Block("a row that is emptied", "emptied", [*filled, unuse(row), *look(row, rule="emptied")], True)
+    yield Block(
+        "a row that begins anew", "emptied", [*filled, unuse(row), modify(row), *look(row, rule="emptied")], True
+    )
+    yield Block("a row that is modified keeps its fields", "statuses", [*filled, modify(row), *look(row)], True)
+    kept = [
+        *message(row, context.character(), b"me", 0, 0, 50),
+        *look(row),
+        modify(row),
+        *look(row),
+        put(row.owner(b"you")),
+        *look(row),
+    ]
+    yield Block("a valid row that is modified", "statuses", kept, True)
+
+
+def apart(context: Context, row: Row, other: Row) -> Iterator[Block]:
+    """What one row is asked leaves another as it is."""
+    text = context.character()
+    begun: list[Step] = [modify(row), fill(row, text, b"me"), modify(other), fill(other, text, b"you")]
+    asked: list[Step] = [unuse(other), *look(row, other), modify(other), unuse(row), *look(row, other)]
+    yield Block("one of two rows is emptied", "statuses", [*begun, *look(row, other), *asked], True)
+
+
+def counts(context: Context) -> Iterator[Block]:
+    for memory in (3, 4):
+        rows = [row for row in context.rows if row.memory == memory]
+        if not rows:
+            continue
+        used = list(dict.fromkeys((*rows[:2], *rows[-1:])))
+        steps: list[Step] = []
+        for row in used:
+            steps += [modify(row), look_at(row.cell(9), rule="statuses"), look_at(*COUNTS, rule="free memory")]
+        steps += [fill(used[0], context.character()), *settle(used[0]), look_at(*COUNTS, rule="counts")]
+        steps += [unuse(used[0]), look_at(used[0].cell(9), rule="statuses"), look_at(*COUNTS, rule="free memory")]
+        steps += look(*used)
+        yield Block("how many rows there are", "counts", steps, True)
+
+
+def settling(context: Context, row: Row) -> Iterator[Block]:
+    """The tick at which a row settles; with --slow the next one too, at which nothing happens."""
+    begun: list[Step] = [modify(row), fill(row, BAD_TEXT), Wait(0), validate(row), *look(row), Wait(1), *look(row)]
+    yield Block("a row settles at a tick", "settled", begun, True)
+    yield Block("nothing settles twice", "settled", [Wait(int(context.is_slow)), *look(row), modify(row), *look(row)])
+
+
+def blocks(context: Context) -> Iterator[Block]:
+    rows = context.rows
+    if not rows:
+        return
+    first, last = rows[0], rows[-1]
+    yield from emptied(context, first)
+    yield from transitions(context, first)
+    if last != first:
+        yield from transitions(context, last, context.is_slow)
+        yield from two_rows(context, first, last)
+        yield from apart(context, first, last)
+    if len(rows) > 2 and context.is_slow:
+        yield from two_rows(context, first, rows[1])
+    yield from counts(context)
+    yield from settling(context, last)
+
+
+CHAPTER = Chapter("rows", "A row's statuses", blocks)

@@ -1,0 +1,127 @@
+"""SET: ranges of each object, one past each end, and types."""
+
+from typing import Iterator
+
+from model import wire
+from wisangub.tester.context import Context
+from wisangub.tester.objects import NULL, OWN_CODES, Binding, Name, Row, Value, integer, octets, scalar
+from wisangub.tester.steps import put
+
+from .block import Block, alone, look, look_at, modify
+
+RANGES: list[tuple[Name, int, int]] = [
+    (scalar(4, 1), 0, 9),
+    (scalar(4, 2), 0, 9),
+    (scalar(4, 3), 0, 255),
+    (scalar(4, 4), 0, 255),
+    (scalar(4, 6), 2, 4),
+    (scalar(4, 7), 2, 4),
+    (scalar(4, 8), 0, 255),
+    (scalar(4, 9), 0, 255),
+    (scalar(6, 10), 0, 65535),
+    (scalar(6, 13), 0, 65535),
+]
+CELL_RANGES = {6: (0, 1), 7: (0, 1), 8: (1, 255)}
+OTHER_TYPES: list[Value] = [
+    octets(b"\3"),
+    octets(b""),
+    NULL,
+    (wire.GAUGE, 3),
+    (wire.COUNTER, 3),
+    (wire.TICKS, 3),
+    (wire.OPAQUE, b"\3"),
+    (wire.ADDRESS, b"\0\0\0\3"),
+    (wire.NAME, (1, 3)),
+]
+
+
+def around(name: Name, least: int, most: int) -> list[Binding]:
+    """Values at each end and one past it, and some far away."""
+    return [
+        (name, integer(value))
+        for value in (
+            least,
+            most,
+            least - 1,
+            most + 1,
+            -1,
+            2**31 - 1,
+            2**31,
+            2**32 - 1,
+            -(2**31),
+            most + 256,
+            most + 65536,
+        )
+    ]
+
+
+def scalars(context: Context) -> Iterator[Block]:
+    for name, least, most in RANGES:
+        yield Block(
+            "ranges", "ranges", [step for bound in around(name, least, most) for step in (put(bound), look_at(name))]
+        )
+    fonts = {font.number for font in context.described.face.fonts}
+    numbers = [0, 1, 255, 256, -1, *sorted(fonts), *[number for number in range(1, 7) if number not in fonts]]
+    yield Block(
+        "the default font",
+        "default font",
+        [step for number in numbers for step in (put((scalar(4, 5), integer(number))), look_at(scalar(4, 5)))],
+    )
+    for name in [*[name for name, _, _ in RANGES], scalar(4, 5), scalar(6, 4)]:
+        yield Block("types", "bad value", alone([(name, value) for value in OTHER_TYPES]))
+    yield Block("after that", "bad value", look())
+    for member in OWN_CODES:
+        good: list[Binding] = [
+            (scalar(6, member), octets(code)) for code in (b"\7\0\2\0\0", bytes(5), b"\xff" * 5, b"\3\0\1\1\2")
+        ]
+        bad: list[Binding] = [
+            (scalar(6, member), value)
+            for value in (octets(bytes(4)), octets(bytes(6)), octets(b""), integer(7), (wire.OPAQUE, bytes(5)))
+        ]
+        yield Block(
+            "own codes", "own codes", [step for bound in good for step in (put(bound), look_at(scalar(6, member)))]
+        )
+        yield Block("lengths of own codes", "bad value", [*alone(bad), look_at(scalar(6, member))])
+    lengths = [octets(bytes(size)) for size in (0, 11, 13)] + [integer(1), (wire.OPAQUE, bytes(12))]
+    yield Block(
+        "lengths of activation codes", "bad value", [*alone([(scalar(6, 3), value) for value in lengths]), *look()]
+    )
+    yield Block(
+        "minutes out of range",
+        "ranges",
+        [*alone([(scalar(6, 4), integer(value)) for value in (-1, 65536, 2**32 - 1)]), *look()],
+    )
+
+
+def cells(context: Context, row: Row) -> Iterator[Block]:
+    bounds = [bound for column, (least, most) in CELL_RANGES.items() for bound in around(row.cell(column), least, most)]
+    yield Block(
+        "ranges of fields",
+        "ranges",
+        [modify(row), *[step for bound in bounds for step in (put(bound), look_at(bound[0]))]],
+        True,
+    )
+    texts: list[Binding] = [(row.cell(3), octets(b"A" * size)) for size in (0, 1, 512, 513, 514, 700)]
+    owners: list[Binding] = [(row.cell(4), octets(b"A" * size)) for size in (0, 127, 128, 129, 255, 256)]
+    yield Block(
+        "lengths of fields",
+        "ranges",
+        [modify(row), *[step for bound in texts + owners for step in (put(bound), look_at(bound[0]))]],
+        True,
+    )
+    any_octets: list[Binding] = [(row.cell(column), octets(bytes([0, 1, 128, 255, 10, 13]))) for column in (3, 4)]
+    yield Block("any octets", "set", [modify(row), put(*any_octets), *look(row)], True)
+    types = [
+        (row.cell(column), value)
+        for column in (3, 4, 6, 7, 8, 9)
+        for value in OTHER_TYPES
+        if column not in (3, 4) or value[0] != wire.OCTETS
+    ]
+    yield Block(
+        "types of fields", "bad value", [modify(row), *alone(types), put((row.cell(3), integer(1))), *look(row)], True
+    )
+    out: list[Binding] = [row.text(b"A" * 513), row.owner(b"A" * 128), row.beacon(2), row.pixel(2), row.priority(0)]
+    out += [row.priority(256), (row.cell(3), integer(1)), (row.cell(4), integer(1)), (row.cell(8), octets(b"1"))]
+    yield Block("bad values of a row that is not modifying", "order of causes", [*alone(out), *look(row)], True)
+    asked = [row.status(value) for value in (0, 1, 2, 3, 4, 5, 9, 10, -1, 256 + 6)]
+    yield Block("what a row is asked", "ranges", [*alone(asked), *look(row)], True)

@@ -1,0 +1,130 @@
+"""Sizes: tooBig at the octet."""
+
+from typing import Iterator, Sequence
+
+from model import wire
+from wisangub.tester.context import Context
+from wisangub.tester.objects import NULL, Binding, Name, Row, octets, scalar
+from wisangub.tester.steps import FIRST_NUMBER, Ask, Step, get, get_next, put
+
+from .block import Block, Chapter, look, modify
+
+MOST = wire.MOST_DATAGRAM
+
+
+def size(context: Context, bindings: Sequence[Binding]) -> int:
+    """How long a Response of the writer's with these bindings is."""
+    return len(wire.written(wire.Message(wire.RESPONSE, context.communities[1], FIRST_NUMBER, 0, 0, list(bindings))))
+
+
+FILLER = scalar(6, 15)  # five octets in the known state
+
+
+def owner_for(context: Context, row: Row, total: int) -> tuple[list[Name], bytes] | None:
+    """Names, and the owner with which a read of them is so long."""
+    text, filler = octets(b"A" * 512), octets(context.message_code(Row(7, 1), 0))
+    for fillers in range(40):
+        for length in range(128):
+            owner = b"o" * length
+            held = [
+                (row.cell(3), text),
+                (row.cell(3), text),
+                (row.cell(4), octets(owner)),
+                *[(FILLER, filler)] * fillers,
+            ]
+            reached = size(context, held)
+            if reached == total:
+                return [name for name, _ in held], owner
+            if reached + 127 - length < total:
+                break
+    return None
+
+
+def before(name: Name) -> Name:
+    """A name whose next instance is this one, in the first row of its memory or a scalar."""
+    return scalar(6, 14) if name == FILLER else (*name[:-1], name[-1] - 1)
+
+
+def reads(context: Context, row: Row) -> Iterator[Block]:
+    text = b"A" * 512
+    for total in (MOST - 1, MOST, MOST + 1, MOST + 2):
+        found = owner_for(context, row, total)
+        if found is None:
+            continue
+        names, owner = found
+        prepared: list[Step] = [modify(row), put(row.text(text), row.owner(owner))]
+        yield Block(f"a Get of {total} octets", "too big", [*prepared, get(*names)], True)
+        yield Block(f"a GetNext of {total} octets", "too big", [*prepared, get_next(*map(before, names))], True)
+    full: list[Step] = [modify(row), put(row.text(text))]
+    yield Block(
+        "far too big",
+        "too big",
+        [*full, get(*[row.cell(3)] * 3), get(*[row.cell(3)] * 60), get(*[row.cell(3)] * 2)],
+        True,
+    )
+    yield Block(
+        "an error before it is too big",
+        "error reply",
+        [get(*[row.cell(3)] * 3, scalar(2, 5)), get(scalar(2, 5), *[row.cell(3)] * 3)],
+    )
+
+
+def filled(kind: int, name: Name, total: int, context: Context) -> Ask:
+    """A request of so many octets, whose last binding has a value that fills it."""
+    empty = size(context, [(name, octets(bytes(1000)))]) - 1000
+    return Ask(kind, ((name, octets(bytes(total - empty))),))
+
+
+def requests(context: Context) -> Iterator[Block]:
+    """Requests as long as a datagram may be; the answers repeat them or are too big."""
+    nowhere, here = scalar(2, 5), scalar(2, 3)
+    for kind in (wire.GET, wire.GET_NEXT, wire.SET):
+        yield Block(
+            "an error of the greatest size",
+            "never too big",
+            [filled(kind, nowhere, MOST, context), filled(kind, nowhere, MOST - 1, context)],
+        )
+    yield Block(
+        "a read that shrinks",
+        "too big",
+        [filled(wire.GET, here, MOST, context), filled(wire.GET_NEXT, here, MOST, context)],
+    )
+    many: list[Binding] = []
+    while size(context, [*many, (here, NULL)]) <= MOST:
+        many.append((here, NULL))
+    yield Block(
+        "as many names as there is room for",
+        "too big",
+        [Ask(wire.GET, tuple(many)), Ask(wire.GET_NEXT, tuple(many)), Ask(wire.GET, tuple(many[:-8]))],
+    )
+
+
+def writes(context: Context, row: Row) -> Iterator[Block]:
+    """A SET that succeeds is never too big, in the greatest size."""
+    text = b"A" * 512
+    rest = MOST - size(context, [row.text(text), row.owner(b"")])
+    owner = row.owner(b"o" * min(127, max(0, rest - 4)))
+    yield Block(
+        "a SET of the greatest size", "never too big", [modify(row), put(row.text(text), owner), *look(row)], True
+    )
+    numbers = [(scalar(4, 8), (2, 77)), (scalar(4, 9), (2, 78)), (scalar(6, 10), (2, 79))]
+    both = [row.text(text)]
+    other = next((more for more in context.rows if more != row), None)
+    if other is not None:
+        both += [other.text(text)]
+    yield Block(
+        "a SET of two texts",
+        "never too big",
+        [modify(row), *([modify(other)] if other else []), put(*both, *numbers), *look(row)],
+        True,
+    )
+
+
+def blocks(context: Context) -> Iterator[Block]:
+    yield from requests(context)
+    for row in context.rows[:1]:
+        yield from reads(context, row)
+        yield from writes(context, row)
+
+
+CHAPTER = Chapter("sizes", "Sizes", blocks)

@@ -1,0 +1,239 @@
+"""Texts for the chapters: good ones, and one for each fault, made for the faces that a sign has."""
+
+import random
+from dataclasses import replace
+
+from wisangub.tester.context import Context
+
+from .rooms import (
+    Sample,
+    closed,
+    fonts_at_closing,
+    full,
+    gaps,
+    heights,
+    longest,
+    made,
+    mixed,
+    mixed_parts,
+    rooms,
+    spacings,
+    touching,
+)
+
+MARKUP = [  # each with one fault of the markup, by the rule that it breaks
+    ("markup code", [b"[zz]", b"[", b"]", b"[ nl]", b"[]", b"[nl", b"A]", b"[/f]", b"[/FLx", b"[n]", b"[[]"]),
+    (
+        "markup code",
+        [
+            b"[nl10]",
+            b"[flt1t2]",
+            b"[/fl1]",
+            b"[nl000001]",
+            b"[jl1]",
+            b"[jl5]",
+            b"[jp1]",
+            b"[jp5]",
+            b"[fo0]",
+            b"[fo256]",
+            b"[pb10]",
+            b"[cb10]",
+            b"[cf10]",
+            b"[pt256]",
+            b"[pto256]",
+            b"[np1]",
+            b"[hc]",
+            b"[hc12345]",
+            b"[hcg]",
+            b"[flt100]",
+            b"[flx]",
+            b"[fo1,123]",
+            b"[fo1,]",
+            b"[fo,0001]",
+            b"[nl ]",
+            b"[nl-1]",
+            b"[pt1o2o3]",
+            b"[flo1o2]",
+            b"[NL10]",
+            b"[fo1,12345]",
+            b"[flt1o100]",
+            b"[flt1o2t3]",
+            b"[fl5]",
+            b"[ptx]",
+            b"[pt1t2]",
+            b"[fo1o0001]",
+            b"[cf1,2]",
+            b"[nl[[2]",
+        ],
+    ),
+]
+FIRST_MARKUP, OTHERS = 3, 1
+GOOD_MARKUP = [  # the last three have no place behind the others
+    b"[cf][cf9][cb0][pb][pb9][cf00009][pb04]",
+    b"[fl][FLt][flo][flt99o99][flo0t0][flto][flot][flt5][flo5][flt1o][flo1t][/fl][/FL]",
+    b"[pt][pt255o255][pto][pt1o][PTO5][pt007o00255]",
+    b"[jl][jl2][JL3][jl4]",
+    b"[NL][nl9][nl00009]",
+    b"[jp]",
+    b"[fo]",
+]
+
+
+def fonts(context: Context) -> list[Sample]:
+    """Font tags: each font and its version, one that the sign has not, another version."""
+    one, found = context.character(), []
+    numbers = [font.number for font in context.described.face.fonts]
+    missing = next(number for number in range(1, 256) if number not in numbers)
+    for font in reversed(context.described.face.fonts):
+        found += [
+            b"[fo%d,%04x]" % (font.number, font.version) + one + b"[fo]" + one,
+            b"[fo%d,%04x]" % (font.number, font.version ^ 1),
+        ]
+    found.insert(2, one + b"[fo%d,0001]" % missing)
+    for font in context.described.face.fonts:
+        found += [b"[fo%d]" % font.number + one, b"[fo%d,%04X]" % (font.number, font.version ^ 0x0100)]
+    return made("fonts", [*found, b"[fo%d]" % missing, b"[fo255]", b"[fo%d,ABCD]" % numbers[0]], 3)
+
+
+def characters(context: Context) -> list[Sample]:
+    """Characters that a font has not, also by their numbers."""
+    one, font = context.character(), context.described.face.known_font(context.defaults[4])
+    missing = next((number for number in range(1, 256) if number not in font.glyphs and number not in b"[]"), None)
+    found = [one + bytes([missing]) + one] if missing is not None else []
+    found += [
+        b"[hc%X]" % one[0] if one else b"",
+        one + b"[hcffff]",
+        b"[[" + one + b"]]",
+        b"[hcFFFF]",
+        b"[HC%04x]" % one[0] if one else b"",
+        b"[hc%x]" % (one[0] + 256) if one else b"",
+        b"[[",
+        b"]]",
+    ]
+    if missing is not None:
+        found += [bytes([missing]), one + b"[hc%x]" % missing]
+    for other in context.described.face.fonts:
+        only = next(
+            (number for number in other.glyphs if number not in font.glyphs and number < 256 and number not in b"[]"),
+            None,
+        )
+        if only is not None:
+            found += [b"[fo%d]" % other.number + bytes([only]), bytes([only])]
+    return made("characters", found, 4)
+
+
+def parts(context: Context) -> list[Sample]:
+    one = context.character()
+    lines = [
+        b"[jl3]%s[jl2]%s",
+        b"[jl4]%s[nl][jl2]%s",
+        b"[jl2]%s[jl2]%s",
+        b"[jl4]%s[jl3]%s",
+        b"[jl4]%s[np][jl2]%s",
+        b"[jl4][nl0]%s[jl3]%s",
+        b"[jl4][np]%s[jl3]%s",
+        b"[jl3][nl0]%s[jl2]%s",
+        b"[jl4]%s[nl0][jl2]%s",
+        b"[jp2][jl4][jp3]%s[jl3]%s",
+        b"[jp2][jl4]%s[jp4]%s[jl3]",
+    ]
+    pages = [
+        b"[jp3]%s[jp2]%s",
+        b"[jp4]%s[np][jp2]%s",
+        b"[jp2]%s[jp2]%s",
+        b"[jp3]%s[jp4]%s[jp2]",
+        b"[jp2]%s[jp3][jp4]%s",
+        b"[jp4]%s[jp3]%s",
+        b"[jp3][jp2]%s%s",
+        b"[jp2]%s[jp4]%s",
+        b"[jp2]%s[jp3]%s",
+        b"[jp2]%s[jp3][jp2]%s",
+        b"[jp4][np]%s[jp3]%s",
+        b"[jp3][np]%s[jp2]%s",
+    ]
+    found = made("line parts", [*[form % (one, one) for form in lines], b"[jl4]" + one + b"[jl3]"], 2)
+    both = b"[jp3]" + full(context) + b"[nl0][jp2]"
+    return found + made("page parts", [*[form % (one, one) for form in pages], b"[jp3][nl0][jp2]" + one, both], 4)
+
+
+def pages(context: Context) -> list[Sample]:
+    one, last = context.character(), b"[np]" * 5 + full(context) + b"[nl0][np]"
+    found = [one + b"[np]" * 5 + one, b"[np]" * 6, b"[np]" * 5, one + b"[np]" * 6 + one, (one + b"[np]") * 7, last]
+    return made("pages", found, 2)
+
+
+def kept(context: Context) -> list[Sample]:
+    """The font stays over a new page, line and part: as many of its characters as fit, and one more."""
+    face, found = context.described.face, []
+    for font in face.fonts:
+        unit = next((bytes([number]) for number in font.glyphs if number < 256 and number not in b"[]"), b"")
+        if font.number == context.defaults[4] or not unit:
+            continue
+        for between in (b"[np]", b"[nl0]", b"[jp2][jp3]"):
+            front = b"[fo%d]" % font.number + between
+            count = longest(context, unit, front=front)
+            found += [front + unit * (count + more) for more in (0, 1)] if count else []
+    return made("room", found, 0)
+
+
+def both(context: Context) -> list[Sample]:
+    """A fault of the markup before, and after, one of the layout."""
+    one = context.character()
+    many = one * ((longest(context, one) or 500) + 1)
+    found = [
+        b"[fo255][zz]",
+        one + b"[zz]" + many,
+        b"[fl]" * 128,
+        one + b"[np]" + one + b"[nl10]",
+        b"[zz][fo255]",
+        many[:480] + b"[zz]",
+        b"[fl]" * 100 + b"[zz]",
+        b"A" * 512,
+    ]
+    return made("layout", found, 3)
+
+
+def joined(context: Context, chosen: list[Sample]) -> list[Sample]:
+    """Those that fit one page after the other in one text, as long as that fits: one validation tells of all."""
+    found: list[Sample] = []
+    for sample in chosen:
+        longer = [replace(held, text=held.text + b"[np]" + sample.text) for held in found]
+        fitting = (at for at, held in enumerate(longer) if len(held.text) <= 512 and context.fault(held.text) is None)
+        at = next(fitting, len(found))
+        text, parts = (longer[at].text, found[at].parts) if at < len(found) else (sample.text, ())
+        found[at : at + 1] = [Sample(text, sample.rule, parts=(*parts, sample))]
+    return found
+
+
+def samples(context: Context) -> list[Sample]:
+    """All of them with --slow; else the first of each rule and some others by the seed, those that fit joined."""
+    found = (
+        parts(context)
+        + pages(context)
+        + fonts(context)
+        + characters(context)
+        + gaps(context)
+        + closed(context)
+        + fonts_at_closing(context)
+        + rooms(context)
+        + mixed(context)
+        + mixed_parts(context)
+        + heights(context)
+        + kept(context)
+        + touching(context)
+        + both(context)
+        + (spacings(context) if context.is_slow else [])
+    )
+    found += made("markup", [b"".join(GOOD_MARKUP[:-3]), *GOOD_MARKUP], 1)
+    for rule, texts in MARKUP:
+        found += made(rule, [context.character() + text for text in texts], FIRST_MARKUP)
+    known: dict[bytes, Sample] = {}
+    for sample in found:
+        known.setdefault(sample.text, sample)
+    if context.is_slow:
+        return list(known.values())
+    rest = [sample for sample in known.values() if not sample.is_first]
+    others = random.Random(context.seed).sample(rest, min(OTHERS, len(rest)))
+    chosen = [sample for sample in known.values() if sample.is_first or sample in others]
+    faulty = [sample for sample in chosen if context.fault(sample.text) is not None]
+    return faulty + joined(context, [sample for sample in chosen if sample not in faulty])

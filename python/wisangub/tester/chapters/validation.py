@@ -1,0 +1,61 @@
+"""Validation: each verdict, and each fault of a text with its place."""
+
+from typing import Iterator
+
+from wisangub.tester.context import Context
+from wisangub.tester.objects import Row, scalar
+from wisangub.tester.steps import Step
+
+from .block import Block, Chapter, fill, look, look_at, modify, settle
+from .rooms import Sample
+from .texts import samples
+
+VERDICT = (scalar(5, 9), scalar(6, 18), scalar(6, 19))
+
+
+def judged(row: Row, text: bytes, beacon: int = 0, pixel: int = 0) -> list[Step]:
+    """A row with this text is validated, and the verdict read."""
+    filled = fill(row, text, b"", beacon, pixel)
+    return [modify(row), filled, *settle(row, rule=""), look_at(row.cell(9), *VERDICT, row.cell(5))]
+
+
+def verdicts(context: Context, row: Row, last: Row) -> Iterator[Block]:
+    bad = b"[zz]"
+    for beacon, pixel, text in ((1, 0, b""), (0, 1, b""), (1, 1, b""), (1, 1, bad), (0, 1, bad)):
+        name = f"beacon {beacon}, pixel service {pixel}" + (", a fault" if text else "")
+        yield Block(name, "verdicts", [*judged(row, text, beacon, pixel), *look(row)])
+    none: list[Step] = [*judged(row, bad), *judged(last, context.character()), *look(row, last)]
+    yield Block("a fault, then none in another row", "no fault", none)
+
+
+def rule_of(context: Context, text: bytes, rule: str) -> str:
+    """A text whose fault is another than the one it was made for breaks the general rule."""
+    fault = context.fault(text)
+    codes = {
+        "fonts": (6, 13),
+        "characters": (7,),
+        "room": (5,),
+        "line parts": (11,),
+        "page parts": (11, 5),
+        "pages": (12, 5),
+    }
+    return rule if fault is None or rule not in codes or fault[0] in codes[rule] else "layout"
+
+
+def blocks(context: Context) -> Iterator[Block]:
+    if not context.rows:
+        return
+    row = context.rows[0]
+    yield from verdicts(context, row, context.rows[-1])
+    for sample in samples(context):
+        yield told(context, row, sample)
+
+
+def told(context: Context, row: Row, sample: Sample) -> Block:
+    """A text's block; where one of joined texts differs, each of them tells."""
+    rule = rule_of(context, sample.text, sample.rule)
+    parts = [told(context, row, part) for part in sample.parts] if len(sample.parts) > 1 else []
+    return Block(f"the text {sample.text[:60].decode('latin-1')!r}", rule, judged(row, sample.text), parts=parts)
+
+
+CHAPTER = Chapter("validation", "Validation", blocks)

@@ -1,0 +1,142 @@
+"""The command line: wisangub-conform --to HOST:PORT --sign DESCRIPTION"""
+
+import argparse
+import datetime
+import pathlib
+import sys
+
+from model import text
+from wisangub.process.places import SIGNTOOL, called
+from wisangub.tester.report.picture import pictures
+from wisangub.tester.sign.link import UdpLink
+from wisangub.tester.sign.oracle import Oracle, made
+from wisangub.tester.sign.pair import Pair
+from wisangub.tester.sign.port import Port
+from wisangub.tester.sign.ticks import Ticks
+
+from .chapters import ALL, NAMES
+from .clock import RealClock
+from .context import Context
+from .repeat import repeat
+from .report import files, page, terminal, words
+from .results import Results
+from .session import Session, chapters_of
+
+
+def arguments() -> argparse.ArgumentParser:
+    parser = argparse.ArgumentParser(
+        prog=called("wisangub-conform"), description="compares a sign over UDP with the proved one, reply by reply"
+    )
+    parser.add_argument("--to", required=True, metavar="HOST:PORT", help="where the sign under test answers")
+    parser.add_argument(
+        "--sign", required=True, type=pathlib.Path, metavar="DESCRIPTION", help="its description, as in signs/"
+    )
+    parser.add_argument(
+        "--communities", nargs=2, metavar=("READER", "WRITER"), help="others than those of the description"
+    )
+    parser.add_argument("--seed", type=int, default=1, help="of the random requests")
+    parser.add_argument("--requests", type=int, default=500, help="how many random requests")
+    parser.add_argument(
+        "--only",
+        action="append",
+        default=[],
+        choices=NAMES,
+        metavar="CHAPTER",
+        help=f"one of {', '.join(NAMES)}; may be given again",
+    )
+    parser.add_argument(
+        "--slow", action="store_true", help="whole minutes of durations and silence too: about forty minutes"
+    )
+    parser.add_argument("--html", type=pathlib.Path, metavar="FILE", help="the report as a page")
+    parser.add_argument("--junit", type=pathlib.Path, metavar="FILE")
+    parser.add_argument("--json", type=pathlib.Path, metavar="FILE")
+    parser.add_argument(
+        "--signtool",
+        default=str(SIGNTOOL),
+        metavar="PATH",
+        help="the program that is the oracle; `model` is that of model",
+    )
+    parser.add_argument("--wait", type=float, default=1.0, metavar="SECONDS", help="how long a reply may take")
+    parser.add_argument("--repeat", metavar="SEQUENCE", help="a sequence that a report printed, alone")
+    return parser
+
+
+def described_with(path: pathlib.Path, communities: list[str] | None) -> bytes:
+    """The description's octets, with other communities where they are given."""
+    octets = path.read_bytes()
+    if communities is None:
+        return octets
+    lines = [
+        b" ".join([b"communities", *[word.encode() for word in communities]])
+        if line.startswith(b"communities ")
+        else line
+        for line in octets.split(b"\n")
+    ]
+    return b"\n".join(lines)
+
+
+def address(to: str) -> tuple[str, int]:
+    host, _, port = to.rpartition(":")
+    if not host or not port.isdigit():
+        raise ValueError(f"--to wants HOST:PORT, not {to}")
+    return host.strip("[]"), int(port)
+
+
+def write_files(asked: argparse.Namespace, results: Results, about: words.About, not_tested: list[str]) -> None:
+    if asked.html:
+        asked.html.write_text(page.as_html(results, about, not_tested), encoding="utf-8")
+    if asked.junit:
+        asked.junit.write_text(files.as_junit(results, about), encoding="utf-8")
+    if asked.json:
+        asked.json.write_text(files.as_json(results, about, not_tested), encoding="utf-8")
+
+
+def about_of(asked: argparse.Namespace) -> words.About:
+    oracle = "model" if asked.signtool == "model" else asked.signtool
+    program = "" if asked.signtool == str(SIGNTOOL) else asked.signtool
+    when = datetime.datetime.now().astimezone().isoformat(" ", "seconds")
+    communities = (asked.communities[0], asked.communities[1]) if asked.communities else None
+    return words.About(
+        asked.to, str(asked.sign), oracle, communities, asked.seed, asked.requests, asked.slow, when, program
+    )
+
+
+def test(asked: argparse.Namespace, description: bytes, oracle: Oracle) -> int:
+    described, clock = text.described(description), RealClock()
+    communities = (described.reader, described.writer)
+    link = UdpLink(*address(asked.to), clock)
+    pair = Pair(Port(link, clock, asked.wait), oracle, clock, Ticks(clock), communities)
+    context = Context(described, communities, asked.seed, asked.requests, asked.slow)
+    watcher = terminal.watcher()
+    session = Session(pair, context, watcher)
+    try:
+        if asked.repeat is not None:
+            return repeat(session, asked.repeat)
+        results = session.run(chapters_of(asked.only))
+    finally:
+        watcher.close()
+        link.close()
+    for difference in results.differences():
+        difference.pictures = pictures(difference, context, oracle)
+    about, not_tested = about_of(asked), words.not_tested(context, results, ALL)
+    print("\n".join(terminal.ending(results, about, not_tested)), flush=True)
+    write_files(asked, results, about, not_tested)
+    return 0 if results.is_clean() else 2 if results.is_silent else 1
+
+
+def main() -> int:
+    asked = arguments().parse_args()
+    try:
+        description = described_with(asked.sign, asked.communities)
+        address(asked.to)
+        oracle = made(asked.signtool, description)
+    except (OSError, ValueError, text.Bad) as fault:
+        print(f"{asked.sign}: line {fault.line}" if isinstance(fault, text.Bad) else fault, file=sys.stderr)
+        return 2
+    try:
+        return test(asked, description, oracle)
+    except KeyboardInterrupt:
+        print("interrupted", file=sys.stderr)
+        return 2
+    finally:
+        oracle.end()

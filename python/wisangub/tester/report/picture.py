@@ -1,0 +1,69 @@
+"""Pictures of texts as our sign draws them, as SVG inside a page."""
+
+from model import wire
+from wisangub.tester.context import Context
+from wisangub.tester.found import Difference
+from wisangub.tester.objects import column_of
+from wisangub.tester.sign.oracle import Oracle
+from wisangub.tester.steps import Ask
+
+SHADES = ["#000000", "#ff0000", "#ffff00", "#00ff00", "#00ffff", "#0000ff", "#ff00ff", "#ffffff", "#ff8000", "#ffbf00"]
+JUDGING = ("validation", "defaults", "activation")
+LAMP = 4
+
+
+def text_of(difference: Difference) -> bytes | None:
+    """The text that the sequence wrote last."""
+    found = None
+    for step in difference.steps:
+        if isinstance(step, Ask) and step.kind == wire.SET:
+            for name, (_, held) in step.bindings:
+                if column_of(name) == 3 and isinstance(held, bytes):
+                    found = held
+    return found
+
+
+def pictures(difference: Difference, context: Context, oracle: Oracle) -> list[tuple[str, list[str]]]:
+    """Captions and pages, as lines, of the text that the two judge otherwise; up to its fault where ours refuses it."""
+    text = text_of(difference)
+    if text is None or difference.rule.chapter not in JUDGING:
+        return []
+    spelled = text.decode("latin-1")
+    pages = oracle.pages(text)
+    if pages:
+        return [(f"{spelled} fits on our sign", pages)]
+    fault = context.fault(text)
+    if fault is None:
+        return []
+    front = oracle.pages(text[: fault[1]]) if fault[1] else []
+    caption = f"{spelled}: our sign refuses it with code {fault[0]} at octet {fault[1]}"
+    return [(caption + (", and draws what stands before" if front else ""), front)]
+
+
+def pages_of(lines: list[str]) -> list[list[str]]:
+    """The rows of each page."""
+    found: list[list[str]] = []
+    for line in lines:
+        if line.startswith("page "):
+            found.append([])
+        else:
+            found[-1].append(line)
+    return found
+
+
+def svg(rows: list[str]) -> str:
+    """A page's lamps."""
+    width, height = LAMP * max(map(len, rows), default=1), LAMP * len(rows)
+    dots = {"dark": ""} | {digit: "" for digit in "0123456789"}
+    for y, row in enumerate(rows):
+        for x, cell in enumerate(row):
+            dots["dark" if cell == "." else cell] += f"M{LAMP * x + 2},{LAMP * y + 2}h0"
+    paths = "".join(
+        f'<path d="{path}" stroke="{"#2a2a2a" if name == "dark" else SHADES[int(name)]}"/>'
+        for name, path in dots.items()
+        if path
+    )
+    size = f'viewBox="0 0 {width} {height}" width="{min(2 * width, 1000)}"'
+    plate = f'<rect width="{width}" height="{height}" fill="#101010"/>'
+    lamps = f'<g fill="none" stroke-width="3" stroke-linecap="round">{paths}</g>'
+    return f'<svg {size} xmlns="http://www.w3.org/2000/svg" role="img">{plate}{lamps}</svg>'

@@ -1,0 +1,138 @@
+"""The report on a terminal: with rich where it can be imported, in plain lines else."""
+
+import sys
+from typing import Any, TextIO
+
+from wisangub.tester.chapters import Chapter
+from wisangub.tester.found import Difference
+from wisangub.tester.results import ChapterResult, Results
+
+from .words import About, how_sure, origin, sequence, verdict
+
+try:
+    from rich.console import Console
+    from rich.progress import BarColumn, Progress, TextColumn, TimeElapsedColumn
+except ImportError:
+    Console = None  # type: ignore[assignment,misc]
+
+MOST_LINES, MOST_OCTETS = 12, 200
+
+
+def shortened(octets: str) -> str:
+    return octets if len(octets) <= MOST_OCTETS else f"{octets[:MOST_OCTETS]}.. ({len(octets) // 2} octets)"
+
+
+def side(name: str, lines: list[str], other: list[str]) -> list[str]:
+    """A reply's fields; those that the other has not are marked."""
+    found = [f"    {name}:"]
+    shown = [line for line in lines if line not in other] or lines[:1]
+    found += [f"      {'' if line in other else '> '}{line}" for line in shown[:MOST_LINES]]
+    return found
+
+
+def difference_lines(number: int, difference: Difference, about: About) -> list[str]:
+    """All that is said of a difference."""
+    ours, theirs = difference.sides()
+    lines = [
+        f"{number}. {difference.rule.chapter}: {difference.title}",
+        f"    rule: {difference.rule.heading} ({origin(difference)})",
+        f'      "{difference.rule.sentence}"',
+    ]
+    if sure := how_sure(difference):
+        lines.append(f"    note: {sure}")
+    lines.append("    from the known state:")
+    for octets, decoded in sequence(difference):
+        lines += [f"      {octets and 'send ' + shortened(octets) or decoded[0]}"]
+        lines += [f"        {line}" for line in (decoded[:MOST_LINES] if octets else [])]
+    lines += side("our sign", ours, theirs) + side("this sign", theirs, ours)
+    lines += [
+        f"    octets of ours:  {shortened(difference.ours.hex()) if difference.ours else '-'}",
+        f"    octets of this:  {shortened(difference.theirs.hex()) if difference.theirs else '-'}",
+        f"    again: {about.command(difference)}",
+    ]
+    return lines
+
+
+def chapter_line(result: ChapterResult) -> str:
+    told = f"{len(result.differences)} differ" if result.differences else "nothing differs"
+    untold = f", {len(result.once)} seen once" if result.once else ""
+    untold += f", {result.untold} not told" if result.untold else ""
+    counts = f"{result.blocks:5} cases {result.requests:7} requests {result.seconds:7.1f} s"
+    return f"{result.chapter.title:28} {counts}  {told}{untold}"
+
+
+class Plain:
+    """A line a chapter."""
+
+    def __init__(self, out: TextIO = sys.stdout) -> None:
+        self.out = out
+
+    def say(self, line: str) -> None:
+        print(line, file=self.out, flush=True)
+
+    def begun(self, chapter: Chapter, blocks: int) -> None:
+        ...
+
+    def went_on(self, result: ChapterResult, at: int) -> None:
+        ...
+
+    def ended(self, result: ChapterResult) -> None:
+        self.say(chapter_line(result))
+
+    def found(self, difference: Difference) -> None:
+        self.say(f"  {difference.rule.chapter}: {difference.title} ({difference.rule.heading})")
+
+    def close(self) -> None:
+        ...
+
+
+class Rich(Plain):
+    """The same under a progress bar."""
+
+    def __init__(self) -> None:
+        super().__init__()
+        self.console: Any = Console()
+        self.progress: Any = Progress(
+            TextColumn("{task.description:28}"),
+            BarColumn(),
+            TextColumn("{task.completed}/{task.total}"),
+            TimeElapsedColumn(),
+            console=self.console,
+            transient=True,
+        )
+        self.progress.start()
+        self.task: Any = None
+
+    def say(self, line: str) -> None:
+        self.progress.console.print(line, markup=False, highlight=False, soft_wrap=True)
+
+    def begun(self, chapter: Chapter, blocks: int) -> None:
+        self.task = self.progress.add_task(chapter.title, total=blocks)
+
+    def went_on(self, result: ChapterResult, at: int) -> None:
+        self.progress.update(self.task, completed=at + 1)
+
+    def ended(self, result: ChapterResult) -> None:
+        self.progress.remove_task(self.task)
+        super().ended(result)
+
+    def close(self) -> None:
+        self.progress.stop()
+
+
+def watcher() -> Plain:
+    return Rich() if Console is not None and sys.stdout.isatty() else Plain()
+
+
+def ending(results: Results, about: About, not_tested: list[str]) -> list[str]:
+    """What is said last: each difference, what was not tested, and the verdict."""
+    lines: list[str] = []
+    for name, described, read in results.configuration:
+        lines.append(f"described otherwise: {name} is {described} in the description, {read} on the sign")
+    for name, described, read in results.set_back:
+        said = f"{name} is {described} in the description, was {read} on the sign, and is set back"
+        lines.append(f"changed since: {said}")
+    for number, difference in enumerate([*results.differences(), *results.once()], 1):
+        lines += ["", *difference_lines(number, difference, about)]
+    lines += ["", "not tested:", *[f"  {line}" for line in not_tested], "", verdict(results)]
+    return lines

@@ -1,0 +1,71 @@
+"""The rules of docs/PROFILE.md by a key each: the chapter that tests it, heading, sentence, and whether it is (own)."""
+
+import functools
+import pathlib
+import re
+from dataclasses import dataclass
+
+from wisangub.process.places import PROFILE
+
+# chapters in the order in which they run; "before" stands for what is read of the sign before any of them
+CHAPTERS = (
+    "ber",
+    "communities",
+    "get",
+    "getnext",
+    "set",
+    "rows",
+    "validation",
+    "activation",
+    "priorities",
+    "defaults",
+    "durations",
+    "silence",
+    "sizes",
+    "repeated",
+    "random",
+)
+
+
+TABLE = pathlib.Path(__file__).with_name("rules.txt")
+
+
+@dataclass(frozen=True)
+class Rule:
+    key: str
+    chapter: str
+    heading: str
+    sentence: str
+    own: bool = False
+
+
+def read(table: str) -> dict[str, Rule]:
+    """The rules of a table: a line of key, chapter and heading, an asterisk before the chapter of what is (own), and
+    lines of the sentence, which are indented."""
+    rules: dict[str, Rule] = {}
+    for head, sentence in re.findall(r"(?m)^([^#\s].*)\n((?:[ ].*\n)+)", table):
+        key, chapter, heading = head.split(" | ")
+        words = " ".join(sentence.split())
+        rules[key] = Rule(key, chapter.removeprefix("*"), heading, words, chapter.startswith("*"))
+    return rules
+
+
+RULES = read(TABLE.read_text(encoding="utf-8"))
+
+
+@functools.lru_cache(maxsize=1)
+def sections() -> dict[str, str]:
+    """The text under each heading of docs/PROFILE.md, white space as one space."""
+    found: dict[str, list[str]] = {}
+    heading = ""
+    for line in PROFILE.read_text(encoding="utf-8").splitlines():
+        if line.startswith("#"):
+            heading = line.lstrip("#").strip()
+        else:
+            found.setdefault(heading, []).append(line)
+    return {heading: " ".join(" ".join(lines).split()) for heading, lines in found.items()}
+
+
+def is_in_profile(rule: Rule) -> bool:
+    """Whether the rule's sentence stands under its heading."""
+    return " ".join(rule.sentence.split()) in sections().get(rule.heading, "")

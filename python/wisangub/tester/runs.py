@@ -1,0 +1,101 @@
+"""Runs of sequences from the known state."""
+
+from dataclasses import dataclass, field
+from typing import Sequence
+
+from model import wire
+from wisangub.tester.sign.pair import Exchange, Inconclusive, Pair
+from wisangub.tester.state.known import Known
+
+from .found import Signature, object_of, signature
+from .messages import spelled
+from .objects import is_validation
+from .steps import Ask, Step, Wait
+
+TRIES = 3
+
+
+@dataclass
+class Run:
+    """What a run showed: the exchange that differs, the steps up to it, and what was sent."""
+
+    exchange: Exchange
+    steps: list[Step]
+    sent: list[bytes | None]
+
+    @property
+    def signature(self) -> Signature:
+        return signature(self.exchange)
+
+
+@dataclass
+class Runner:
+    pair: Pair
+    known: Known
+    most_seconds: float = 40.0  # that a difference is made smaller
+    runs: int = 0
+    answered: set[tuple[object, ...]] = field(default_factory=set)  # what SETs were answered, by their likes
+
+    def steps(self, steps: Sequence[Step]) -> Run | None:
+        """The steps, from the state of now, up to the first difference."""
+        if is_timed(steps) and self.known.is_unlearnt():
+            raise Inconclusive("the moment of the sign's ticks is not known")
+        sent: list[bytes | None] = []
+        for at, step in enumerate(steps):
+            exchange = self.pair.do(step)
+            if exchange is None:
+                sent += [None] * step.ticks if isinstance(step, Wait) else []
+                continue
+            sent.append(exchange.octets)
+            is_lost = self.is_lost(exchange)
+            if exchange.mismatch is not None and not is_lost:
+                return Run(exchange, list(steps[: at + 1]), sent)
+        return None
+
+    def is_lost(self, exchange: Exchange) -> bool:
+        """Whether a SET without a reply is one of many whose replies came, on a way that loses some."""
+        if exchange.theirs is not None:
+            self.answered.update(likeness(exchange) if exchange.is_set else ())
+            return False
+        return exchange.is_lost and self.pair.port.is_lossy() and likeness(exchange) <= self.answered
+
+    def anew(self, steps: Sequence[Step], after_a_tick: bool = True, is_alike: bool = False) -> Run | None:
+        """The steps from the known state; a sequence that cannot be told is begun again.
+
+        Where ticks matter it begins right after one, so that no other comes between its steps. Where both signs are
+        alike they may keep the verdict of their last validation.
+        """
+        self.runs += 1
+        for left in range(TRIES, 0, -1):
+            try:
+                self.known.reach_or_end(is_timed(steps), is_alike)
+                self.pair.begin()
+                if after_a_tick and is_timed(steps):
+                    self.pair.ticks.wait(1)
+                    self.pair.pass_ticks()
+                return self.steps(steps)
+            except Inconclusive:
+                self.pair.is_dirty, is_alike = True, False
+                if left == 1:
+                    raise
+        return None
+
+
+def likeness(exchange: Exchange) -> set[tuple[object, ...]]:
+    """What a sign answers alike: for each object that a request names, the request's kind and the reply's status."""
+    message, reply = spelled(exchange.octets), spelled(exchange.ours or b"")
+    if message is None or reply is None:
+        return set()
+    places = {object_of(name) for name, _ in message.bindings}
+    return {(message.kind, message.community, place, reply.status) for place in places}
+
+
+def is_timed(steps: Sequence[Step]) -> bool:
+    """Whether a tick between the steps may matter."""
+    return any(
+        isinstance(step, Wait)
+        or isinstance(step, Ask)
+        and step.kind == wire.SET
+        and any(is_validation(name, value) for name, value in step.bindings)
+        for step in steps
+    )

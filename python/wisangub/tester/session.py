@@ -1,0 +1,181 @@
+"""A test from its beginning to its report."""
+
+from dataclasses import dataclass, field, replace
+from typing import Sequence
+
+from wisangub.tester.sign.pair import Inconclusive, Pair
+from wisangub.tester.state.beginning import Beginning
+from wisangub.tester.state.known import Known
+from wisangub.tester.state.wanted import Unreachable
+
+from . import classify
+from .chapters import ALL, Block, Chapter
+from .compare import Kind
+from .context import Context
+from .found import Difference, subject
+from .results import ChapterResult, Results, Watcher
+from .rules import RULES, Rule
+from .runs import Run, Runner
+from .shrinking import shrunk
+from .steps import Step, datagrams
+
+MOST_SHRUNK, MOST_TOLD = 4, 12  # differences of a chapter that are made small, and that are told
+
+
+@dataclass
+class Session:
+    pair: Pair
+    context: Context
+    watcher: Watcher
+    most_differences: int | None = None  # the test ends at so many
+    most_seconds: float = 40.0
+    results: Results = field(default_factory=Results)
+
+    def __post_init__(self) -> None:
+        self.known = Known(self.pair, self.context)
+        self.runner = Runner(self.pair, self.known, self.most_seconds)
+        self.beginning = Beginning(self.pair, self.known, self.context, self.results, self.watcher)
+
+    def is_enough(self) -> bool:
+        return self.most_differences is not None and len(self.results.differences()) >= self.most_differences
+
+    def run(self, chapters: Sequence[Chapter]) -> Results:
+        is_heard = self.beginning.begin()
+        for chapter in chapters if is_heard else []:
+            if self.is_enough():
+                break
+            if not chapter.is_slow or self.context.is_slow:
+                self.chapter(chapter)
+        if is_heard:
+            self.known.reach()
+        return self.results
+
+    # --- chapters --------------------------------------------------------------------------------------------
+
+    def chapter(self, chapter: Chapter) -> None:
+        result = ChapterResult(chapter)
+        self.results.chapters.append(result)
+        blocks = list(chapter.blocks(self.context))
+        begun, requests = self.pair.clock.now(), self.pair.requests
+        self.watcher.begun(chapter, len(blocks))
+        history: list[Step] | None = None
+        for at, block in enumerate(blocks):
+            history = self.block(result, block, history)
+            result.blocks += 1
+            result.requests = self.pair.requests - requests
+            self.watcher.went_on(result, at)
+            if self.is_enough():
+                break
+        result.seconds = self.pair.clock.now() - begun
+        self.watcher.ended(result)
+
+    def block(self, result: ChapterResult, block: Block, history: list[Step] | None) -> list[Step] | None:
+        """What was done since the known state after this block; None where it is to be reached anew."""
+        self.pair.doubts = 0
+        try:
+            if history is None or block.is_fresh:
+                is_alike = history is not None
+                run, history = self.runner.anew(block.steps, after_a_tick=False, is_alike=is_alike), []
+            else:
+                self.pair.begin()
+                run = self.runner.steps(block.steps)
+        except Unreachable as fault:
+            self.beginning.tell_unreached(fault.unreached)
+            return self.again(result, block, history) if not self.is_enough() else None
+        except Inconclusive:
+            self.pair.is_dirty = True
+            is_first = history is not None and not block.is_fresh
+            if is_first:
+                return self.again(result, block, history)
+            self.cannot_tell(result)
+            return None
+        result.told += datagrams(block.steps if run is None else run.steps)
+        if run is None:
+            return [*history, *block.steps]
+        self.difference(result, block, Run(run.exchange, [*history, *run.steps], run.sent), run.steps)
+        return None
+
+    def again(self, result: ChapterResult, block: Block, history: list[Step] | None) -> list[Step] | None:
+        """A block that could not be told in its place, from the known state, with what was done before it."""
+        before = [] if history is None or block.is_fresh else history
+        return self.block(result, replace(block, steps=[*before, *block.steps], is_fresh=True), None)
+
+    def cannot_tell(self, result: ChapterResult) -> None:
+        result.untold += 1
+
+    def rule_of(self, block: Block, run: Run, is_small: bool = False) -> Rule:
+        exchange = run.exchange
+        assert exchange.mismatch is not None
+        if exchange.mismatch.kind is Kind.SPELLING:
+            return RULES["shortest form"]
+        key = run.steps[-1].rule or block.rule
+        named = RULES[key] if key else None
+        found = classify.better(named, exchange.octets, exchange.ours, exchange.theirs, exchange.mismatch)
+        is_values = is_small and exchange.mismatch.kind is Kind.VALUE
+        return named if named and is_values and classify.is_of_the_sets(named, found, run.steps) else found
+
+    def made_small(self, run: Run, steps: list[Step], is_shrunk: bool) -> tuple[Run, bool]:
+        """The difference in few datagrams, and whether it was seen again, with ticks that were learnt anew."""
+        try:
+            self.known.learn_anew()
+            return shrunk(self.runner, run, steps, is_shrunk)
+        except Unreachable as fault:
+            self.beginning.tell_unreached(fault.unreached)
+            return run, False
+
+    def is_told(self, result: ChapterResult, rule: Rule, run: Run) -> bool:
+        """Whether one like it was told, or enough of the chapter were; it is counted then."""
+        about = subject(run.exchange)
+        for known in self.results.differences():
+            if known.rule.key == rule.key and known.mismatch.kind is run.signature.kind and known.subject == about:
+                known.alike += 1
+                return True
+        if len(result.differences) >= MOST_TOLD:
+            result.differences[-1].alike += 1
+        return len(result.differences) >= MOST_TOLD
+
+    def is_loss(self, run: Run) -> bool:
+        """Whether no answer came on a way that loses some, be it three times."""
+        return run.signature.kind is Kind.NO_ANSWER and (run.exchange.is_lost or self.pair.port.is_lossy())
+
+    def differs_in_part(self, result: ChapterResult, block: Block) -> bool:
+        """Whether a part of the block differs, which is told then."""
+        told = self.count()
+        for part in block.parts:
+            if not self.is_enough():
+                self.block(result, part, None)
+        return self.count() > told
+
+    def count(self) -> int:
+        return sum(1 + held.alike for held in self.results.differences())
+
+    def difference(self, result: ChapterResult, block: Block, run: Run, steps: list[Step]) -> None:
+        """A difference is made small and told; one like it is counted."""
+        self.pair.is_dirty = True
+        if self.differs_in_part(result, block) or self.is_told(result, self.rule_of(block, run), run):
+            return
+        is_shrunk = sum(held.is_shrunk for held in result.differences) < MOST_SHRUNK
+        run, is_repeated = self.made_small(run, steps, is_shrunk)
+        if not is_repeated and self.is_loss(run):
+            result.untold += 1
+            return
+        rule = self.rule_of(block, run, is_repeated and is_shrunk)
+        found = Difference.of(rule, result.chapter.name, run.exchange, run.steps, run.sent)
+        found.is_repeated, found.is_shrunk = is_repeated, is_shrunk
+        if not is_repeated:
+            self.seen_once(result, found)
+            return
+        self.pair.is_spelling_told |= found.mismatch.kind is Kind.SPELLING
+        result.differences.append(found)
+        self.watcher.found(found)
+
+    def seen_once(self, result: ChapterResult, found: Difference) -> None:
+        """What did not come again is no difference; it is kept, or counted where enough of a chapter are."""
+        if len(result.once) < MOST_TOLD:
+            result.once.append(found)
+        else:
+            result.once[-1].alike += 1
+
+
+def chapters_of(names: Sequence[str]) -> list[Chapter]:
+    return [chapter for chapter in ALL if not names or chapter.name in names]

@@ -1,0 +1,114 @@
+"""The shortest sequence that still shows a difference: delta debugging, bounded."""
+
+from dataclasses import dataclass
+from typing import Sequence
+
+from wisangub.tester.sign.pair import Inconclusive
+
+from .compare import Kind
+from .found import Signature
+from .runs import Run, Runner
+from .steps import Ask, Raw, Step, Wait, datagrams
+
+MOST_RUNS = 150
+
+
+@dataclass
+class Shrinking:
+    """Delta debugging of a sequence, bounded in runs and seconds."""
+
+    runner: Runner
+    wanted: Signature
+    best: Run
+    until: float
+    runs: int = 0
+
+    def is_bounded(self) -> bool:
+        return self.runs >= MOST_RUNS or self.runner.pair.clock.now() >= self.until
+
+    def shows(self, steps: Sequence[Step], of_any_cost: bool = False) -> bool:
+        """Whether the steps show the difference, at less cost; then they are the best so far."""
+        if self.is_bounded() or not steps:
+            return False
+        self.runs += 1
+        try:
+            run = self.runner.anew(steps)
+        except Inconclusive:
+            return False
+        if run is None or not run.signature.is_like(self.wanted) or len(run.steps) < len(steps):
+            return False
+        if not of_any_cost and cost(run.steps) >= cost(self.best.steps):
+            return False
+        self.best = run
+        return True
+
+    def is_seen_again(self, steps: Sequence[Step], times: int) -> bool:
+        """Whether so many runs in a row show the difference at the last of the steps."""
+        return all(self.shows(steps, of_any_cost=True) for _ in range(times))
+
+    def waits_alone(self) -> None:
+        """So many seconds in one, and the request that differs; also after the first of the steps."""
+        steps = self.best.steps
+        wait = Wait(sum(step.ticks for step in steps if isinstance(step, Wait)))
+        if wait.ticks:
+            _ = self.shows([wait, steps[-1]]) or self.shows([steps[0], wait, steps[-1]])
+
+    def without_steps(self) -> None:
+        size = max(1, (len(self.best.steps) - 1) // 2)
+        while not self.is_bounded():
+            at, is_smaller = 0, False
+            while at < len(self.best.steps) - 1 and not self.is_bounded():
+                before = self.best.steps
+                if self.shows([*before[:at], *before[min(at + size, len(before) - 1) :]]):
+                    is_smaller = True
+                else:
+                    at += size
+            if size == 1 and not is_smaller:
+                return
+            size = max(1, size // 2)
+
+    def without_bindings(self) -> None:
+        """Bindings that the difference does not need are left out, of the last request first."""
+        for at in range(len(self.best.steps) - 1, -1, -1):
+            step = self.best.steps[at] if at < len(self.best.steps) else None
+            if not isinstance(step, Ask) or len(step.bindings) < 2:
+                continue
+            if at == len(self.best.steps) - 1 and self.best.exchange.mismatch and self.best.exchange.mismatch.names:
+                names = self.best.exchange.mismatch.names[:1]
+                kept = [bound for bound in step.bindings if bound[0] in names]
+                if kept and self.shows([*self.best.steps[:at], step.with_bindings(kept)]):
+                    continue
+            self.one_by_one(at, step)
+
+    def one_by_one(self, at: int, step: Ask) -> None:
+        place = 0
+        while place < len(step.bindings) and len(step.bindings) > 1 and not self.is_bounded():
+            fewer = step.with_bindings([*step.bindings[:place], *step.bindings[place + 1 :]])
+            if self.shows([*self.best.steps[:at], fewer, *self.best.steps[at + 1 :]]):
+                step = fewer
+            else:
+                place += 1
+
+
+def cost(steps: Sequence[Step]) -> tuple[int, int, int]:
+    """What is made small: datagrams, then seconds, then bindings."""
+    bindings = sum(len(step.bindings) if isinstance(step, Ask) else 1 for step in steps if isinstance(step, (Ask, Raw)))
+    return datagrams(steps), sum(step.ticks for step in steps if isinstance(step, Wait)), bindings
+
+
+def shrunk(runner: Runner, run: Run, block: Sequence[Step], is_made_smaller: bool = True) -> tuple[Run, bool]:
+    """The smallest run found that shows the same, and whether the difference was seen again at all.
+
+    `block` is what was done last, which often suffices.
+    """
+    shrinking = Shrinking(runner, run.signature, run, runner.pair.clock.now() + runner.most_seconds)
+    is_silent = run.exchange.mismatch is not None and run.exchange.mismatch.kind is Kind.NO_ANSWER
+    times = 3 if is_silent and runner.pair.port.is_lossy() else 1
+    is_seen = len(block) < len(run.steps) and shrinking.is_seen_again(block, times)
+    for _ in range(2):
+        is_seen = is_seen or shrinking.is_seen_again(run.steps, times)
+    if is_seen and is_made_smaller:
+        shrinking.waits_alone()
+        shrinking.without_steps()
+        shrinking.without_bindings()
+    return shrinking.best, is_seen

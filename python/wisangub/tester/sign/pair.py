@@ -1,0 +1,194 @@
+"""Both signs side by side: the sign under test and ours, in the same words and with the same seconds."""
+
+from dataclasses import dataclass, field
+
+from model import wire
+from wisangub.tester.clock import Clock
+from wisangub.tester.compare import Kind, Mismatch, mismatch
+from wisangub.tester.messages import spelled
+from wisangub.tester.objects import Name, Row, is_validation, row_of, scalar
+from wisangub.tester.state.lost import is_command, is_known
+from wisangub.tester.steps import Ask, Raw, Step, Wait, get
+
+from .oracle import Oracle
+from .port import Port
+from .ticks import Ticks
+
+MOST_DOUBTS = 2  # sequences in a row that end since a tick may have come late
+SAMPLES = 3  # how often a Get whose answer is in doubt is asked anew
+
+
+class Inconclusive(Exception):
+    """It cannot be told what the sign under test did: the sequence ends, and that is no difference."""
+
+
+@dataclass
+class Exchange:
+    """A request and both replies."""
+
+    step: Step
+    octets: bytes
+    ours: bytes | None
+    theirs: bytes | None
+    mismatch: Mismatch | None = None
+    is_lost: bool = False  # a SET whose reply did not come, though it is known by reading what it did
+    is_set: bool = False
+
+
+@dataclass
+class Pair:
+    port: Port
+    oracle: Oracle
+    clock: Clock
+    ticks: Ticks
+    communities: tuple[bytes, bytes]
+    masked: set[Name] = field(default_factory=set)
+    touched: set[Row] = field(default_factory=set)
+    log: list[bytes | None] = field(default_factory=list)  # what ours was handed since it began; None is a tick
+    numbers: dict[int, int] = field(default_factory=dict)
+    requests: int = 0
+    spellings: int = 0  # replies that spelled the same in other octets
+    is_spelling_told: bool = False
+    doubts: int = 0
+    is_dirty: bool = True  # whether something was sent since the known state that may have changed a sign
+
+    # --- ours ------------------------------------------------------------------------------------------------
+
+    def restart_ours(self) -> None:
+        self.ticks.take_passed()
+        self.oracle.restart()
+        self.log.clear()
+
+    def hand(self, octets: bytes) -> bytes | None:
+        """Our reply. Of reads without a tick between them the last alone is kept in the log."""
+        reply = self.oracle.datagram(octets)
+        if reply is not None:
+            if self.log and self.log[-1] is not None and is_read(self.log[-1]) and is_read(octets):
+                self.log.pop()
+            self.log.append(octets)
+        return reply
+
+    def become(self, log: list[bytes | None]) -> None:
+        """Ours is made anew by what this log says."""
+        self.oracle.restart()
+        self.log = list(log)
+        for entry in log:
+            if entry is None:
+                self.oracle.tick()
+            else:
+                self.oracle.datagram(entry)
+
+    def pass_ticks(self) -> None:
+        """Waits where a tick is near; ours gets the ticks that have passed."""
+        self.ticks.keep_clear()
+        for _ in range(self.ticks.take_passed()):
+            self.oracle.tick()
+            self.log.append(None)
+
+    # --- both ------------------------------------------------------------------------------------------------
+
+    def begin(self) -> None:
+        """A sequence begins: groups of equal datagrams get numbers of their own."""
+        self.numbers.clear()
+
+    def number_of(self, step: Ask | Raw) -> int:
+        if step.group is None:
+            return self.port.new_number()
+        return self.numbers.setdefault(step.group, self.port.new_number())
+
+    def do(self, step: Step) -> Exchange | None:
+        """A step at both; None for one that waits."""
+        if isinstance(step, Wait):
+            self.ticks.wait(step.ticks or self.ticks.is_soon())
+            self.pass_ticks()
+            return None
+        self.requests += 1
+        for samples in range(SAMPLES):
+            self.pass_ticks()
+            number = self.number_of(step)
+            octets = step.octets(number, self.communities)
+            exchange, is_sure = self.exchange(step, octets, number)
+            if exchange.mismatch is None or is_sure:
+                break
+            self.clock.sleep_until(self.ticks.after_doubt())
+        if samples and exchange.mismatch is None:
+            self.ticks.was_late()
+        return self.told(exchange)
+
+    def told(self, exchange: Exchange) -> Exchange:
+        """Another spelling is told once, and counted afterwards."""
+        if exchange.mismatch is not None and exchange.mismatch.kind is Kind.SPELLING:
+            self.spellings += 1
+            if self.is_spelling_told:
+                exchange.mismatch = None
+        return exchange
+
+    def note_rows(self, message: wire.Message | None) -> None:
+        if message is not None and message.kind == wire.SET:
+            rows = (row_of(name) for name, _ in message.bindings)
+            self.touched.update(Row(*row) for row in rows if row is not None)
+
+    def exchange(self, step: Ask | Raw, octets: bytes, number: int) -> tuple[Exchange, bool]:
+        """The replies, and whether a difference between them is sure."""
+        ours = self.hand(octets)
+        self.is_dirty |= ours is None or not is_read(octets)
+        message = spelled(octets)
+        self.note_rows(message)
+        if ours is None:
+            return self.dropped(step, octets, number), True
+        assert message is not None
+        if message.kind == wire.SET:
+            return self.set(step, octets, message, ours), True
+        heard = self.port.ask(octets, message.number, ours)
+        if heard.tries > 1:
+            self.pass_ticks()
+            ours = self.hand(octets)
+        differs = mismatch(ours, heard.reply, frozenset(self.masked))
+        is_sure = heard.tries == 1 and not self.ticks.is_in_doubt(heard.begun, heard.ended) or step.group is not None
+        return Exchange(step, octets, ours, heard.reply, differs), is_sure
+
+    def set(self, step: Ask | Raw, octets: bytes, message: wire.Message, ours: bytes) -> Exchange:
+        heard = self.port.ask_once(octets, message.number, ours)
+        if heard.reply is None:
+            self.settle_lost(octets, message, ours)
+            return Exchange(step, octets, ours, None, Mismatch(Kind.NO_ANSWER), True, True)
+        if hangs_on_ticks(message) and self.ticks.may_have_come(heard.ended):
+            raise Inconclusive("a tick may have come before the sign took what hangs on ticks")
+        differs = mismatch(ours, heard.reply, frozenset(self.masked))
+        if differs is not None and self.ticks.is_in_doubt(heard.begun, heard.ended) and self.doubts < MOST_DOUBTS:
+            self.doubts += 1
+            self.ticks.was_late()
+            raise Inconclusive("a tick of the sign came while it answered")
+        return Exchange(step, octets, ours, heard.reply, differs, is_set=True)
+
+    def settle_lost(self, octets: bytes, message: wire.Message, ours: bytes) -> None:
+        """A SET has no reply: afterwards ours is handed it or not, as it is known of the sign under test."""
+        if not is_known(self, octets, message, ours):
+            raise Inconclusive("no reply to a SET, and reading does not tell what it did")
+
+    def dropped(self, step: Ask | Raw, octets: bytes, number: int) -> Exchange:
+        """Octets that ours does not answer."""
+        message = spelled(octets)
+        if message is not None:
+            self.port.note(message.number, octets)
+            number = message.number
+        if isinstance(step, Raw) and step.is_quiet:
+            answer = self.port.ask_once(octets, number).reply
+            return Exchange(step, octets, None, answer, mismatch(None, answer))
+        sentinel_number = self.port.new_number()
+        sentinel = get(scalar(2, 3)).octets(sentinel_number, self.communities)
+        answer, is_heard = self.port.drop(octets, number, sentinel, sentinel_number)
+        self.hand(sentinel)
+        differs = mismatch(None, answer) or (None if is_heard else Mismatch(Kind.NO_ANSWER))
+        return Exchange(step, octets, None, answer, differs)
+
+
+def hangs_on_ticks(message: wire.Message) -> bool:
+    """Whether seconds count from when a sign takes this SET: a row is asked to validate, or something is shown."""
+    return is_command(message) or any(is_validation(*bound) for bound in message.bindings)
+
+
+def is_read(octets: bytes) -> bool:
+    """Whether it is a Get or a GetNext."""
+    message = spelled(octets)
+    return message is not None and message.kind in (wire.GET, wire.GET_NEXT)

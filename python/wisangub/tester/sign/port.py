@@ -1,0 +1,139 @@
+"""Requests to the sign under test, and which of the datagrams that come in are their replies."""
+
+from dataclasses import dataclass, field
+
+from model import wire
+from wisangub.tester.clock import Clock
+from wisangub.tester.messages import spelled
+from wisangub.tester.steps import FIRST_NUMBER, LAST_NUMBER
+
+from .link import Link
+
+TRIES = 3
+MOST_KEPT = 8  # datagrams of one request number that are remembered
+LEAST_LOOK = 0.05  # seconds that a look waits at least
+
+
+@dataclass
+class Heard:
+    """What came of a request: the reply or None, how often it was sent, and when it was sent last and answered."""
+
+    reply: bytes | None
+    tries: int
+    begun: float
+    ended: float
+
+
+@dataclass
+class Port:
+    """The sign under test. Replies to earlier requests, late or doubled, are passed over and counted."""
+
+    link: Link
+    clock: Clock
+    wait: float = 1.0
+    number: int = FIRST_NUMBER
+    odd: dict[int, list[bytes]] = field(default_factory=dict)  # what was sent under numbers that are not our newest
+    sent: int = 0
+    passed_over: int = 0
+    asked_again: int = 0
+    usual: float = 0.0  # seconds that replies take of late
+    given_up: set[int] = field(default_factory=set)  # numbers of looks whose replies were not waited for
+
+    def new_number(self) -> int:
+        self.number = self.number + 1 if self.number < LAST_NUMBER else FIRST_NUMBER
+        return self.number
+
+    def note(self, number: int, octets: bytes) -> None:
+        """A request number that is not the newest of our row is used, perhaps not for the first time."""
+        sent = self.odd.setdefault(number, [])
+        if octets in sent:
+            sent.remove(octets)
+        self.odd[number] = [*sent, octets][-MOST_KEPT:]
+
+    def send(self, octets: bytes) -> None:
+        self.sent += 1
+        self.link.send(octets)
+
+    def is_earlier(self, number: int, waited_for: int) -> bool:
+        """Whether a reply with this number belongs to another request that was sent."""
+        return number != waited_for and (FIRST_NUMBER < number <= self.number or number in self.odd)
+
+    def is_of_another(self, reply: wire.Message, number: int, octets: bytes) -> bool:
+        """Whether a reply is none to these octets, by its number or as it answers earlier ones with this number."""
+        if reply.number != number:
+            return self.is_earlier(reply.number, number)
+        if may_answer(reply, octets):
+            return False
+        return any(may_answer(reply, earlier) for earlier in self.odd.get(number, []) if earlier != octets)
+
+    def await_reply(self, number: int, octets: bytes, expected: bytes | None, until: float) -> bytes | None:
+        """The reply to these octets with this number, or one that belongs to no request at all."""
+        while True:
+            reply = self.link.receive(until)
+            if reply is None or reply == expected:
+                return reply
+            message = spelled(reply)
+            if message is None or not self.is_of_another(message, number, octets):
+                return reply
+            self.passed_over += message.number not in self.given_up
+
+    def ask_once(self, octets: bytes, number: int, expected: bytes | None = None, wait: float | None = None) -> Heard:
+        """A request that is sent once. The octets of the reply that is expected need not be looked into."""
+        if number != self.number:
+            self.note(number, octets)
+        begun = self.clock.now()
+        self.send(octets)
+        reply = self.await_reply(number, octets, expected, begun + (self.wait if wait is None else wait))
+        ended = self.clock.now()
+        if reply is not None:
+            self.usual += (ended - begun - self.usual) / 8
+        return Heard(reply, 1, begun, ended)
+
+    def look(self, octets: bytes, number: int) -> Heard:
+        """A read whose reply counts only where it comes about as fast as replies do."""
+        heard = self.ask_once(octets, number, wait=min(self.wait, max(LEAST_LOOK, 4 * self.usual)))
+        if heard.reply is None:
+            self.given_up.add(number)
+        return heard
+
+    def ask(self, octets: bytes, number: int, expected: bytes | None = None) -> Heard:
+        """A request that may be asked again, three times in all."""
+        for tries in range(1, TRIES + 1):
+            heard = self.ask_once(octets, number, expected)
+            heard.tries = tries
+            if heard.reply is not None:
+                break
+        self.asked_again += tries - 1 if heard.reply is not None else 0
+        return heard
+
+    def is_lossy(self) -> bool:
+        """Whether replies were seen to be lost, late or doubled."""
+        return self.passed_over + self.asked_again > 0
+
+    def drop(self, octets: bytes, number: int, sentinel: bytes, sentinel_number: int) -> tuple[bytes | None, bool]:
+        """Octets that are to have no answer, and a Get after them: their answer, and whether the Get was answered."""
+        self.send(octets)
+        answer: bytes | None = None
+        for _ in range(TRIES):
+            self.send(sentinel)
+            until = self.clock.now() + self.wait
+            while (reply := self.link.receive(until)) is not None:
+                message = spelled(reply)
+                if message is not None and message.number == sentinel_number:
+                    return answer, True
+                if message is None or not self.is_of_another(message, number, octets):
+                    answer = reply
+                else:
+                    self.passed_over += 1
+        return answer, False
+
+
+def may_answer(reply: wire.Message, octets: bytes) -> bool:
+    """Whether a reply may be one to these octets, by its community and names, and its values where it repeats them."""
+    request = spelled(octets)
+    if request is None or request.community != reply.community or len(request.bindings) != len(reply.bindings):
+        return False
+    if reply.status or request.kind == wire.SET:
+        return reply.bindings == request.bindings
+    names = [name for name, _ in request.bindings]
+    return request.kind == wire.GET_NEXT or [name for name, _ in reply.bindings] == names

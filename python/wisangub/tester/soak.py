@@ -1,0 +1,169 @@
+"""Right signs through many random requests: wisangub-conform soak [--seeds N] [--requests N] [--faulty SHARE]
+
+    [--under-test PATH] [--signtool PATH] [--sign FILE] [--first SEED] [--record FILE] [--jobs N]
+
+The sign under test and the oracle are the model or a program. With --faulty that share of the replies is lost, late or
+doubled, a third of it each. A line a seed, in the order in which they end; last how many sequences were told and how
+many could not be, and `N passed, N failed`. With --record each seed is a line of JSON in that file, with the commit
+that was run; seeds that stand there for the same commit and the same options are not run again.
+"""
+
+import argparse
+import concurrent.futures
+import datetime
+import json
+import pathlib
+import subprocess
+import sys
+import time
+from typing import Any
+
+from model import text
+from wisangub.process.places import TOP
+from wisangub.tester.report.words import sequence
+from wisangub.tester.sign.oracle import Oracle, made
+
+from . import bench
+from .compare import fields
+from .kept import keep
+from .results import Results
+
+OPTIONS = ("under_test", "signtool", "sign", "faulty", "requests", "seed", "commit")
+
+
+class Program:
+    """An oracle as the sign under test."""
+
+    def __init__(self, oracle: Oracle) -> None:
+        self.oracle = oracle
+
+    def receive(self, datagram: bytes) -> tuple[bytes | None, object]:
+        return self.oracle.datagram(datagram), None
+
+    def tick(self) -> None:
+        self.oracle.tick()
+
+
+def commit() -> str:
+    """The commit that stands here, with an asterisk where a file that counts is another."""
+    call = ["git", "-C", str(TOP)]
+    try:
+        head = subprocess.run([*call, "rev-parse", "--short", "HEAD"], capture_output=True, check=True).stdout
+        status = [
+            *call,
+            "status",
+            "--porcelain",
+            "--",
+            "python/wisangub",
+            "model",
+        ]
+        return head.decode().strip() + ("*" if subprocess.run(status, capture_output=True, check=True).stdout else "")
+    except (OSError, subprocess.CalledProcessError):
+        return "unknown"
+
+
+def told(results: Results) -> list[str]:
+    """What differed."""
+    lines = []
+    for found in [*results.differences(), *results.once()]:
+        again = "" if found.is_repeated else ", and did not come again"
+        lines.append(f"  {found.rule.chapter} ({found.rule.key}), {found.title}{again}")
+        lines += [f"    {octets or 'tick'} {'; '.join(words)}" for octets, words in sequence(found)[-12:]]
+        lines += [f"    ours {'; '.join(fields(found.ours))}", f"    theirs {'; '.join(fields(found.theirs))}"]
+    return lines
+
+
+def run(entry: dict[str, Any], description: bytes) -> dict[str, Any]:
+    """One seed: what came of it is added to its options."""
+    begun = time.monotonic()
+    oracle, sign = made(entry["signtool"], description), made(entry["under_test"], description)
+    try:
+        seed, faulty, requests = entry["seed"], entry["faulty"], entry["requests"]
+        session = bench.session(description, Program(sign), oracle, seed, faulty, requests)
+        results = bench.run(session, ["random"])
+    finally:
+        oracle.end()
+        sign.end()
+    port = session.pair.port
+    return entry | {
+        "when": datetime.datetime.now(datetime.timezone.utc).isoformat(timespec="seconds"),
+        "asked": session.pair.requests,
+        "told_requests": sum(held.told for held in results.chapters),
+        "clean": results.is_clean(),
+        "asked_again": port.asked_again,
+        "passed_over": port.passed_over,
+        "not_told": sum(held.untold for held in results.chapters),
+        "seen_once": len(results.once()),
+        "cases": sum(held.blocks for held in results.chapters),
+        "seconds": round(time.monotonic() - begun, 1),
+        "told": told(results),
+    }
+
+
+def line(held: dict[str, Any]) -> str:
+    verdict = "nothing differs" if held["clean"] else "differs"
+    lost = f"{held['asked_again']} asked again, {held['passed_over']} passed over"
+    untold = f"{held['not_told']} of {held['cases']} sequences not told, {held['seen_once']} seen once"
+    requests = f"{held['told_requests']} requests told"
+    return f"seed {held['seed']}: {requests}, {verdict}, {lost}, {untold}, {held['seconds']:.0f} s"
+
+
+def recorded(record: pathlib.Path | None) -> dict[tuple[Any, ...], dict[str, Any]]:
+    """What the record has, by its options."""
+    if record is None or not record.exists():
+        return {}
+    found = [json.loads(text) for text in record.read_text(encoding="utf-8").splitlines()]
+    return {tuple(held[option] for option in OPTIONS): held for held in found}
+
+
+def entries(asked: argparse.Namespace) -> list[dict[str, Any]]:
+    """The options of each seed."""
+    held = vars(asked) | {"commit": commit(), "sign": str(asked.sign or "bench")}
+    seeds = range(asked.first, asked.first + asked.seeds)
+    return [{option: (held | {"seed": seed})[option] for option in OPTIONS} for seed in seeds]
+
+
+def show(held: dict[str, Any], said: str = "") -> None:
+    print("\n".join([line(held) + said, *held["told"]]), flush=True)
+
+
+def soak(asked: argparse.Namespace, description: bytes) -> list[dict[str, Any]]:
+    """What came of each seed, by the record where that has it."""
+    before, wanted = recorded(asked.record), entries(asked)
+    ends = [before[key] for entry in wanted if (key := tuple(entry.values())) in before]
+    for held in ends:
+        show(held, " (of the record)")
+    left = [entry for entry in wanted if tuple(entry.values()) not in before]
+    with concurrent.futures.ProcessPoolExecutor(asked.jobs, initializer=keep) as pool:
+        for done in concurrent.futures.as_completed([pool.submit(run, entry, description) for entry in left]):
+            held = done.result()
+            if asked.record is not None:
+                with asked.record.open("a", encoding="utf-8") as file:
+                    file.write(json.dumps(held) + "\n")
+            show(held)
+            ends.append(held)
+    return ends
+
+
+def main() -> int:
+    words = argparse.ArgumentParser(prog="wisangub-conform soak", description="right signs through random requests")
+    words.add_argument("--seeds", type=int, default=20)
+    words.add_argument("--first", type=int, default=1, metavar="SEED")
+    words.add_argument("--requests", type=int, default=100_000)
+    words.add_argument("--faulty", type=float, default=0.0, metavar="SHARE")
+    words.add_argument("--under-test", default="model", metavar="PATH")
+    words.add_argument("--signtool", default="model", metavar="PATH")
+    words.add_argument("--sign", type=pathlib.Path, help="a description; else the bench sign")
+    words.add_argument("--record", type=pathlib.Path, metavar="FILE")
+    words.add_argument("--jobs", type=int, default=1, metavar="N", help="seeds at a time")
+    asked = words.parse_args()
+    ends = soak(asked, asked.sign.read_bytes() if asked.sign else text.BENCH)
+    clean, untold = sum(held["clean"] for held in ends), sum(held["not_told"] for held in ends)
+    requests = sum(held["told_requests"] for held in ends)
+    print(f"{requests} requests in {sum(held['cases'] for held in ends) - untold} sequences told, {untold} not told")
+    print(f"{clean} passed, {len(ends) - clean} failed")
+    return 0 if clean == len(ends) else 1
+
+
+if __name__ == "__main__":
+    sys.exit(main())

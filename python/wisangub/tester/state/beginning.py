@@ -1,0 +1,148 @@
+"""What comes before the chapters: is it the sign that is described, and can it be brought to the known state?"""
+
+from dataclasses import dataclass
+
+from model import wire
+from model.sign import Sign
+from wisangub.tester import classify
+from wisangub.tester.compare import Kind, Mismatch, mismatch, value_words
+from wisangub.tester.context import Context
+from wisangub.tester.found import Difference
+from wisangub.tester.objects import Name, row_of, scalar, spoken
+from wisangub.tester.results import Results, Watcher
+from wisangub.tester.rules import RULES, Rule
+from wisangub.tester.sign.pair import Exchange, Pair
+from wisangub.tester.steps import Ask, Wait, get, looks
+
+from . import before
+from .known import Known
+from .wanted import Unreached
+
+CAUSE = scalar(6, 17)
+READS = (Kind.STATUS, Kind.BINDINGS, Kind.VALUE)
+
+
+@dataclass
+class Beginning:
+    pair: Pair
+    known: Known
+    context: Context
+    results: Results
+    watcher: Watcher
+
+    def begin(self) -> bool:
+        """Whether anything answers; then both are in the known state, but for what was told."""
+        if not before.is_heard(self.known):
+            self.results.is_silent = True
+            return False
+        self.configure()
+        self.reach_first()
+        self.compare_all()
+        return True
+
+    def configure(self) -> None:
+        for name, wanted, have in before.differing(self.known, before.described(self.context)):
+            read = "nothing" if have is None else value_words(have)
+            self.results.configuration.append((spoken(name), value_words(wanted), read))
+            self.add(self.configuration_difference(name))
+            self.pair.masked.add(name)
+
+        for name, wanted, have in before.differing(self.known, before.first_state(self.context)):
+            read = "nothing" if have is None else value_words(have)
+            self.results.set_back.append((spoken(name), value_words(wanted), read))
+
+    def configuration_difference(self, name: Name) -> Difference:
+        exchange = self.on_both(get(name))
+        rule = RULES["permanent rows" if row_of(name) else "configuration"]
+        exchange.mismatch = exchange.mismatch or Mismatch(Kind.VALUE, (name,))
+        return Difference.of(rule, "before", exchange, [exchange.step], [exchange.octets])
+
+    def add(self, difference: Difference) -> None:
+        self.results.before.append(difference)
+        self.watcher.found(difference)
+
+    def reach_first(self) -> None:
+        """The known state for the first time; what cannot be brought there is told, and left out from here on."""
+        self.pair.touched.update(self.context.rows)
+        for _ in range(3):
+            unreached = self.known.reach(observe=True)
+            if not unreached:
+                break
+            self.tell_unreached(unreached)
+        self.results.is_learnt = self.pair.ticks.is_learnt()
+
+    def compare_all(self) -> None:
+        """Every instance of both, one after the other: of those that read otherwise the first of each rule is told."""
+        names = [name for name in Sign(self.context.described).instances() if name not in self.pair.masked]
+        told: set[str] = set()
+        for look in looks(names):
+            self.pair.pass_ticks()
+            if self.on_both(look).mismatch is None:
+                continue
+            for name, _ in look.bindings:
+                exchange = self.on_both(get(name))
+                if exchange.mismatch is None or exchange.mismatch.kind not in READS:
+                    continue
+                rule = classify.rule_of(exchange.octets, exchange.ours, exchange.theirs, exchange.mismatch)
+                if rule.key not in told:
+                    told.add(rule.key)
+                    self.add(Difference.of(rule, "known state", exchange, [exchange.step], [exchange.octets]))
+
+    def tell_unreached(self, unreached: list[Unreached]) -> None:
+        """The first of the objects is told, with the others by name; all are left out from here on."""
+        first = unreached[0]
+        exchange, difference = self.shown_by(first)
+        difference.note = note(unreached)
+        difference.rule = self.rule_of_unreached(exchange)
+        self.pair.masked.update(held.name for held in unreached)
+        self.add(difference)
+
+    def shown_by(self, held: Unreached) -> tuple[Exchange, Difference]:
+        """The requests that are to bring the object there, once more at both, up to the first that differs."""
+        steps = held.steps(self.context.rows[0] if self.context.rows else None)
+        sent: list[bytes | None] = []
+        exchange: Exchange | None = None
+        for step in steps:
+            if isinstance(step, Wait):
+                sent.append(None)
+                self.pair.ticks.wait(step.ticks)
+                self.pair.pass_ticks()
+            elif isinstance(step, Ask):
+                exchange = self.on_both(step)
+                sent.append(exchange.octets)
+                if exchange.mismatch is not None:
+                    break
+        assert exchange is not None
+        exchange.mismatch = exchange.mismatch or Mismatch(Kind.VALUE, (held.name,))
+        return exchange, Difference.of(RULES["set"], "known state", exchange, steps[: len(sent)], sent)
+
+    def on_both(self, step: Ask) -> Exchange:
+        """A request to both; the one under test may be asked again only where it reads."""
+        number = self.pair.port.new_number()
+        octets = step.octets(number, self.pair.communities)
+        if step.kind == wire.SET:
+            theirs = self.pair.port.ask_once(octets, number).reply
+        else:
+            theirs = self.pair.port.ask(octets, number).reply
+        ours = self.pair.hand(octets)
+        return Exchange(step, octets, ours, theirs, mismatch(ours, theirs))
+
+    def rule_of_unreached(self, exchange: Exchange) -> Rule:
+        if exchange.ours == exchange.theirs or exchange.mismatch is None:
+            return RULES["set"]
+        rule = classify.rule_of(exchange.octets, exchange.ours, exchange.theirs, exchange.mismatch)
+        if rule.key == "deciding" and exchange.mismatch.kind is Kind.STATUS:
+            cause = self.known.read([CAUSE])[CAUSE]
+            if cause is not None and isinstance(cause[1], int):
+                return RULES[classify.BY_CAUSE.get(cause[1], "deciding")]
+        return rule
+
+
+def note(unreached: list[Unreached]) -> str:
+    """What cannot be brought to its value, in words."""
+    first, others = unreached[0], ", ".join(spoken(held.name) for held in unreached[1:4])
+    read = value_words(first.read) if first.read else "nothing"
+    said = f"{spoken(first.name)} cannot be brought to {value_words(first.wanted)}: it reads {read}"
+    if others:
+        said += f"; nor can {others}" + (" and others" if len(unreached) > 4 else "")
+    return said

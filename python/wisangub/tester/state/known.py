@@ -1,0 +1,180 @@
+"""The known state: what both signs are brought to before a sequence, over SNMP alone."""
+
+from dataclasses import dataclass, field
+
+from model import wire
+from wisangub.tester.context import Context, activate
+from wisangub.tester.messages import spelled
+from wisangub.tester.objects import Name, Row, Value, scalar
+from wisangub.tester.sign.pair import Pair
+from wisangub.tester.steps import Ask, get, looks, put
+
+from .lost import ours_reads
+from .settling import Settling
+from .wanted import VERDICTS, Unreachable, Unreached, Wanted
+
+ROUNDS = 4
+MOST_KEPT = 400  # datagrams after which ours is begun anew
+Read = dict[Name, Value | None]
+
+
+@dataclass
+class Known:
+    pair: Pair
+    context: Context
+    last: dict[Name, tuple[Ask, bytes | None]] = field(default_factory=dict)
+    is_together: bool = False  # whether ours is handed what brings the sign under test there
+
+    def __post_init__(self) -> None:
+        self.objects = Wanted(self.context)
+        self.settling = Settling(self.pair)
+
+    def wanted(self) -> dict[Name, Value]:
+        """What is to be read. Of a validation's verdict that stays which both have, where they go there together."""
+        left_out = self.pair.masked | set(VERDICTS if self.is_together else ())
+        return {name: value for name, value in self.objects.all(self.touched()).items() if name not in left_out}
+
+    def touched(self) -> list[Row]:
+        rows = (row for row in self.pair.touched if row in self.context.rows)
+        return sorted(rows, key=lambda row: (row.memory, row.number))
+
+    # --- the sign under test ---------------------------------------------------------------------------------
+
+    def ask(self, request: Ask) -> bytes | None:
+        """A request to the sign under test. A SET is sent once; where both go there together it is handed to ours."""
+        number = self.pair.port.new_number()
+        sent = request.octets(number, self.pair.communities)
+        if request.kind != wire.SET:
+            return self.pair.port.ask(sent, number).reply
+        if self.is_together:
+            self.pair.pass_ticks()
+            self.pair.hand(sent)
+        return self.pair.port.ask_once(sent, number).reply
+
+    def ask_height(self) -> bytes | None:
+        """Any Get at all."""
+        return self.ask(get(scalar(2, 3)))
+
+    def read(self, names: list[Name]) -> Read:
+        """What the sign under test reads; None where a name is none of its instances."""
+        found: Read = {}
+        for look in looks(names):
+            message = spelled(self.ask(look) or b"")
+            if message is not None and message.status == wire.NO_ERROR:
+                found |= dict(message.bindings)
+            elif len(names) == 1:
+                found[names[0]] = None
+            else:
+                for name, _ in look.bindings:
+                    found |= self.read([name])
+        return found
+
+    def bring(self, observe: bool) -> list[Unreached]:
+        """Brings the sign under test to the known state; with `observe` a validation is watched for its tick."""
+        is_watched = not observe or not self.context.rows
+        for _ in range(ROUNDS):
+            wanted = self.wanted()
+            have = self.read(list(wanted))
+            wrong = [name for name, value in wanted.items() if have.get(name) != value]
+            if not wrong and is_watched:
+                return []
+            self.repair(wrong, observe and not is_watched)
+            is_watched |= self.pair.ticks.is_learnt() and not self.pair.ticks.is_old() or self.settling.is_at_once()
+        have = self.read(list(wanted := self.wanted()))
+        unreached = [
+            self.unreached(name, value, have.get(name)) for name, value in wanted.items() if have.get(name) != value
+        ]
+        return sorted(unreached, key=lambda held: not held.is_refused())
+
+    def unreached(self, name: Name, value: Value, read: Value | None) -> Unreached:
+        request, reply = self.last.get(name, (get(name), None))
+        return Unreached(name, value, read, request, reply)
+
+    def repair(self, wrong: list[Name], observe: bool) -> None:
+        for row in self.touched():
+            if row.cell(9) in wrong:
+                self.empty(row)
+            elif any(name in wrong for name in self.objects.emptied(row)):
+                self.put(put(row.status(6)))
+                self.put(put(*self.objects.emptied(row).items()), *self.objects.emptied(row))
+                self.empty(row)
+        for name, value in self.objects.settings().items():
+            if name in wrong:
+                self.put(put((name, value)), name)
+        if observe or any(name in wrong for name in self.objects.verdicts()):
+            self.validate(self.context.rows[0])
+        is_refusal_wrong = any(name in wrong for name in self.objects.refused())
+        if is_refusal_wrong:
+            self.put(activate(self.context.refused_code), *self.objects.refused(), scalar(6, 17))
+        if is_refusal_wrong or any(name in wrong for name in self.objects.shown()):
+            self.put(activate(self.context.known_code), *self.objects.shown())
+
+    def put(self, request: Ask, *names: Name) -> None:
+        reply = self.ask(request)
+        self.last |= {name: (request, reply) for name in names}
+
+    def empty(self, row: Row) -> None:
+        """A row becomes not used, at the end of its validation where it has one."""
+        self.settling.watch(row)
+        self.put(put(row.status(8)), row.cell(9))
+
+    def validate(self, row: Row) -> None:
+        """An empty row is validated, for its verdict and to see when the sign's tick comes."""
+        self.put(put(row.status(6)), *self.objects.verdicts())
+        asked = self.pair.clock.now()
+        self.put(put(row.status(7)), *self.objects.verdicts())
+        self.settling.watch_asked(row, asked)
+        self.put(put(row.status(8)), row.cell(9))
+        self.pair.touched.add(row)
+
+    # --- both ------------------------------------------------------------------------------------------------
+
+    def reach(self, observe: bool = False, is_alike: bool = False) -> list[Unreached]:
+        """Both signs in the known state; what cannot be brought there is told.
+
+        Where both are alike they may go there together, and keep the verdict of their last validation: no tick has
+        to be waited for.
+        """
+        observe |= self.settling.is_to_be_learnt() and bool(self.context.rows)
+        if not observe and not self.pair.is_dirty:
+            return []
+        unreached: list[Unreached] = []
+        if observe or not is_alike or len(self.pair.log) > MOST_KEPT or not self.go_together():
+            unreached = self.bring(observe)
+            self.pair.restart_ours()
+            for request in (activate(self.context.refused_code), activate(self.context.known_code)):
+                self.pair.hand(request.octets(self.pair.port.new_number(), self.pair.communities))
+            self.pair.pass_ticks()
+        self.pair.is_dirty = bool(unreached)
+        if not unreached:
+            self.pair.touched.clear()
+        return unreached
+
+    def is_unlearnt(self) -> bool:
+        """Whether rows settle at moments that are not known yet."""
+        return self.settling.is_unlearnt() and bool(self.context.rows)
+
+    def learn_anew(self) -> None:
+        """The known state, and a tick that is seen, whatever was known of them."""
+        self.settling.begin_anew()
+        self.pair.is_dirty = True
+        self.reach_or_end()
+
+    def go_together(self) -> bool:
+        """Whether the same requests brought both there, and both read the same."""
+        self.is_together = True
+        try:
+            unreached = self.bring(False)
+        finally:
+            self.is_together = False
+        if unreached:
+            return False
+        self.pair.pass_ticks()
+        names = [name for name in self.wanted() if name not in self.pair.masked]
+        return self.read(names) == ours_reads(self.pair, names)
+
+    def reach_or_end(self, is_timed: bool = False, is_alike: bool = False) -> None:
+        """The known state; before a sequence of seconds a tick is looked for where the last was seen long ago."""
+        unreached = self.reach(is_timed and self.pair.ticks.is_old(), is_alike)
+        if unreached:
+            raise Unreachable(unreached)

@@ -1,0 +1,86 @@
+"""A SET without a reply: what it may have changed is read until it is known whether the sign under test took it."""
+
+from typing import TYPE_CHECKING
+
+from model import wire
+from wisangub.tester.messages import spelled
+from wisangub.tester.objects import EXECUTIVE, SHOWN_CELLS, Name, Row, Value, row_of, scalar, scalar_of
+from wisangub.tester.steps import looks
+
+if TYPE_CHECKING:
+    from wisangub.tester.sign.pair import Pair
+
+State = dict[Name, Value]
+
+
+def effects(message: wire.Message) -> list[Name]:
+    """What a SET may change: the objects that it names, the fields of their rows, the reports."""
+    names = [name for name, _ in message.bindings if scalar_of(name) is not None]
+    for row in {row for name, _ in message.bindings if (row := row_of(name)) is not None}:
+        if row[0] in (3, 4):
+            names += [Row(*row).cell(column) for column in (3, 4, 6, 7, 8, 9)]
+    return list(dict.fromkeys(names + EXECUTIVE + SHOWN_CELLS))
+
+
+def is_command(message: wire.Message) -> bool:
+    """Whether it activates something, or sets how long it is shown."""
+    return any(scalar_of(name) in ((6, 3), (6, 4)) for name, _ in message.bindings)
+
+
+def ours_reads(pair: "Pair", names: list[Name]) -> State | None:
+    """What ours reads; None where a name is none of its instances."""
+    found: State = {}
+    for look in looks(names, share=20):
+        reply = pair.hand(look.octets(pair.port.new_number(), pair.communities))
+        message = spelled(reply) if reply is not None else None
+        if message is None or message.status:
+            return None
+        found |= dict(message.bindings)
+    return found
+
+
+def theirs_reads(pair: "Pair", names: list[Name]) -> State | None:
+    """What the sign under test reads; None where it cannot be read."""
+    found: State = {}
+    for look in looks(names, share=20):
+        pair.pass_ticks()
+        number = pair.port.new_number()
+        octets = look.octets(number, pair.communities)
+        heard = pair.port.ask(octets, number)
+        pair.hand(octets)
+        message = spelled(heard.reply) if heard.reply is not None else None
+        if message is None or message.status:
+            return None
+        found |= dict(message.bindings)
+    return found
+
+
+def is_known(pair: "Pair", octets: bytes, message: wire.Message, ours: bytes) -> bool:
+    """Whether reading tells if the sign took it; then ours is as it is."""
+    names = [name for name in effects(message) if ours_reads(pair, [name]) is not None]
+    read = theirs_reads(pair, names)
+    taken = ours_reads(pair, names)
+    if read is None or taken is None:
+        return False
+    reply = spelled(ours)
+    assert reply is not None
+    is_accepted = reply.status == wire.NO_ERROR
+    if not is_accepted and not is_command(message):
+        return read == taken
+    with_it = list(pair.log)
+    at = len(with_it) - 1 - with_it[::-1].index(octets)
+    pair.become(with_it[:at] + with_it[at + 1 :])
+    before = ours_reads(pair, names)
+    if before == taken:
+        # the same to a reader either way: the seconds that are left may hide in the minutes
+        is_endless = taken.get(scalar(6, 4)) == (wire.INTEGER, 65535)
+        return read == taken and (is_endless or not is_accepted or not is_command(message))
+    if read == before:
+        return True
+    pair.become(with_it)
+    return read == taken and not is_timed(message, taken)
+
+
+def is_timed(message: wire.Message, taken: State) -> bool:
+    """Whether the sign began to count seconds at a moment that is not known to the tick."""
+    return is_command(message) and taken.get(scalar(6, 4)) != (wire.INTEGER, 65535)

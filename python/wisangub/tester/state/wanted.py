@@ -1,0 +1,92 @@
+"""The known state, object by object, and what is told of an object that cannot be brought there."""
+
+from dataclasses import dataclass
+from typing import Iterable
+
+from model import wire
+from model.codes import BLANK_1
+from model.state import CENTRAL
+from wisangub.tester.context import Context
+from wisangub.tester.messages import spelled
+from wisangub.tester.objects import NO_ADDRESS, OWN_CODES, Name, Row, Value, integer, octets, scalar
+from wisangub.tester.steps import Ask, Step, Wait, get, put
+
+VERDICTS = (scalar(5, 9), scalar(6, 18), scalar(6, 19))
+
+
+class Unreachable(Exception):
+    """The known state cannot be reached: these objects stay."""
+
+    def __init__(self, unreached: "list[Unreached]") -> None:
+        super().__init__(len(unreached))
+        self.unreached = unreached
+
+
+@dataclass
+class Unreached:
+    """An object that cannot be brought to its value, with the last request for it and the reply."""
+
+    name: Name
+    wanted: Value
+    read: Value | None
+    request: Ask
+    reply: bytes | None
+
+    def is_refused(self) -> bool:
+        """Whether the sign did not take the request that is to bring it there."""
+        message = spelled(self.reply or b"")
+        is_set = self.request.kind == wire.SET and self.name != scalar(6, 24)
+        return is_set and (message is None or message.status != wire.NO_ERROR)
+
+    def steps(self, row: Row | None) -> list[Step]:
+        """What is to bring the object there, and a read of it."""
+        if self.name in VERDICTS and row is not None:
+            return [put(row.status(6)), put(row.status(7)), Wait(1), get(self.name)]
+        return [self.request, get(self.name)] if self.request.kind == wire.SET else [self.request]
+
+
+@dataclass
+class Wanted:
+    """What the objects of a sign read in the known state."""
+
+    context: Context
+
+    def settings(self) -> dict[Name, Value]:
+        """What is set directly."""
+        blank = BLANK_1.octets(self.context.described.swapped)
+        wanted = {scalar(4, member): integer(value) for member, value in enumerate(self.context.defaults, 1)}
+        wanted |= {scalar(6, member): octets(blank) for member in OWN_CODES}
+        return wanted | {scalar(6, 10): integer(0), scalar(6, 13): integer(0)}
+
+    def verdicts(self) -> dict[Name, Value]:
+        """What a validation of an empty row leaves."""
+        if not self.context.rows:
+            return {}
+        return {scalar(5, 9): integer(2), scalar(6, 18): integer(2), scalar(6, 19): integer(0)}
+
+    def shown(self) -> dict[Name, Value]:
+        """What the activation of blank message 1 leaves."""
+        return {
+            scalar(6, 3): octets(self.context.known_code),
+            scalar(6, 4): integer(65535),
+            scalar(6, 5): octets(BLANK_1.octets(self.context.described.swapped)),
+            scalar(6, 6): (wire.ADDRESS, NO_ADDRESS),
+            scalar(6, 7): integer(CENTRAL),
+            scalar(6, 17): integer(2),
+        }
+
+    def refused(self) -> dict[Name, Value]:
+        """What a refused activation leaves."""
+        return {scalar(6, 24): octets(self.context.refused_code)}
+
+    def emptied(self, row: Row) -> dict[Name, Value]:
+        """The fields of a row that is not used."""
+        return dict([row.text(b""), row.owner(b""), row.beacon(0), row.pixel(0), row.priority(1)])
+
+    def all(self, rows: Iterable[Row]) -> dict[Name, Value]:
+        """Everything, for these rows."""
+        rows = list(rows)
+        wanted: dict[Name, Value] = {row.cell(9): integer(1) for row in rows}
+        for row in rows:
+            wanted |= self.emptied(row)
+        return wanted | self.settings() | self.verdicts() | self.refused() | self.shown()

@@ -1,1 +1,0 @@
-"""Trials of the library for C, of tools/c_library.py."""

@@ -1,1 +1,0 @@
-"""What tools/lasting.py tries: a file a kind of trial."""

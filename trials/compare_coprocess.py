@@ -1,0 +1,143 @@
+"""Random lines to `signtool sign` and `signtool centre`, and the same to the model: python3 -m trials.compare_coprocess
+
+    python3 -m trials.compare_coprocess [--signtool PATH] [--count 4000] [--seed 1] [--sign FILE]
+
+Two pairs of a sign and a centre are spoken to, one of each kind. What a centre sends is handed to its sign, and what a sign
+replies to its centre, now and then changed in an octet; between them come ticks, power losses, commands, datagrams of
+vectors/ and lines that are none. Each answer has to be the same. It prints what differs, and last `N passed, N failed`.
+"""
+
+import argparse
+import random
+import re
+import sys
+
+from wisangub.process import description
+from wisangub.process.coprocess import CoProcess
+from wisangub.process.places import SIGNTOOL, TOP, program
+
+WORDS = [
+    "tick",
+    "ticks",
+    "heard",
+    "state",
+    "show",
+    "status",
+    "last",
+    "status last",
+    "restart",
+    "datagram",
+    "power-lost",
+    "power-back",
+    "publish",
+    "-",
+    "",
+    "0",
+    "4294967295",
+    "4294967296",
+    "zz",
+    "3",
+    "#",
+    "end",
+    "30",
+]
+TEXTS = ["41", "-", "41415b6e705d42", "5b6e6c395d", "5b6e6c305d41", "5b66315d41", "30"]
+
+
+def datagrams() -> list[str]:
+    """Those of the vectors that have at most 1,472 octets."""
+    found = set()
+    for path in sorted((TOP / "vectors").glob("*.jsonl")):
+        found.update(re.findall(r'"(30[0-9a-f]{2,2942})"', path.read_text(encoding="utf-8")))
+    return sorted(octets for octets in found if len(octets) % 2 == 0)
+
+
+class Lines:
+    """Lines to one end, which depend on what the other sent last."""
+
+    def __init__(self, chance: random.Random, octets: list[str]) -> None:
+        self.chance, self.octets, self.sent = chance, octets, {"sign": "", "centre": ""}
+
+    def datagram(self, end: str) -> str:
+        octets = self.sent[end] if self.sent[end] and self.chance.random() < 0.8 else self.chance.choice(self.octets)
+        if self.chance.random() < 0.15:
+            place = self.chance.randrange(len(octets) // 2) * 2
+            octets = octets[:place] + f"{self.chance.randrange(256):02x}" + octets[place + 2 :]
+        return f"datagram {octets}"
+
+    def command(self) -> str:
+        address = ".".join(str(self.chance.choice([0, 1, 192, 255])) for _ in range(4))
+        minutes, priority = self.chance.choice([0, 1, 65535]), self.chance.choice([0, 100, 255])
+        if self.chance.random() < 0.7:
+            memory, number = self.chance.choice([(3, 1), (3, 2), (4, 1), (4, 9), (2, 1)])
+            return (
+                f"publish {memory} {number} {self.chance.choice(TEXTS)} {self.chance.choice(['-', '6d65'])} "
+                f"{self.chance.choice('01')} {self.chance.choice('01')} {self.chance.choice([0, 50, 255])} {minutes} {priority} {address}"
+            )
+        return f"blank {self.chance.choice([1, 255, 65535])} {minutes} {priority} {address}"
+
+    def other(self) -> str:
+        return " ".join(self.chance.choice(WORDS) for _ in range(self.chance.choice([1, 1, 2, 3])))
+
+    def line(self, end: str) -> str:
+        kind = self.chance.random()
+        if kind < 0.55:
+            return self.datagram(end)
+        if kind < 0.7:
+            return "tick"
+        if kind < 0.85:
+            others = [
+                "state",
+                "show",
+                "power-lost",
+                "power-back 5",
+                "power-back 4294967295",
+                "heard",
+                "ticks 0",
+                "ticks 3",
+                "ticks 0000000060",
+            ]
+            return self.command() if end == "centre" else self.chance.choice(others)
+        if kind < 0.95:
+            return self.chance.choice(["status", "restart", "status last"] if end == "centre" else ["state", "show"])
+        return self.other()
+
+
+def begun(program: str, end: str, sign: str | None) -> CoProcess:
+    """A co-process that took the description."""
+    process = CoProcess(program, [end], description.read(sign))
+    process.begin(b"state" if end == "sign" else b"status", sign or program)
+    return process
+
+
+def main() -> int:
+    words = argparse.ArgumentParser(description="random lines to signtool's co-processes and to the model's")
+    words.add_argument("--signtool", type=program, default=str(SIGNTOOL))
+    words.add_argument("--count", type=int, default=4000)
+    words.add_argument("--seed", type=int, default=1)
+    words.add_argument("--sign", help="a description, as in signs/; else the bench sign")
+    asked = words.parse_args()
+    model = str(TOP / "model/signtool")
+    ends = {end: [begun(program, end, asked.sign) for program in (asked.signtool, model)] for end in ("sign", "centre")}
+    lines, passed, failed = Lines(random.Random(asked.seed), datagrams()), 0, 0
+    for _ in range(asked.count):
+        end, other = lines.chance.choice([("sign", "centre"), ("centre", "sign")])
+        line = lines.line(end)
+        answers = [process.send(line) for process in ends[end]]
+        if answers[0] == answers[1]:
+            passed += 1
+        else:
+            failed += 1
+            print(f"{end}: {line[:200]}: signtool {answers[0]}, the model {answers[1]}")
+        last = answers[0][-1].split(" ")
+        if last[0] in ("reply", "accepted", "send"):
+            lines.sent[other] = last[-1]
+    for processes in ends.values():
+        for process in processes:
+            process.end()
+    print(f"{passed} passed, {failed} failed")
+    return 0 if failed == 0 else 1
+
+
+if __name__ == "__main__":
+    sys.exit(main())

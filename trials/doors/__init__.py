@@ -1,0 +1,1 @@
+"""What trials/lasting.py tries: a file a kind of trial."""

@@ -1,0 +1,193 @@
+"""Journals with a bit that was changed, a sector of zeros, or a last write of which some sectors reached the disk."""
+
+import itertools
+import pathlib
+import zlib
+
+from model import wire
+from wisangub.endpoint import damage, records
+from wisangub.endpoint.damage import End
+from wisangub.endpoint.records import SECTOR, whole
+
+from .bench import Door, Trial
+from .follower import Follower, lines_of
+from .manager import DMS, Manager
+from .requests import Bindings, Changes
+
+LAST, OTHERS = 10, 2000  # records each bit of which is changed, and bits of others
+TEXT = DMS + (5, 8, 1, 3)
+
+
+class Bits:
+    """A journal that a sign's door wrote, with SETs each of which was answered, the last one over several sectors."""
+
+    def __init__(self, trial: Trial) -> None:
+        self.trial, self.path = trial, trial.new_folder() / "journal"
+        door = trial.sign("--journal", str(self.path), "--no-ticks")
+        manager, changes = Manager(door.port), Changes(trial.chance)
+        answered = True
+        for _ in range(24):
+            answered &= manager.exchange(manager.request(wire.SET, changes.counter())) is not None
+            manager.get([Changes.COUNTER])
+        before = self.path.stat().st_size
+        long: Bindings = [(TEXT + (3, at + 1), (wire.OCTETS, b"A" * 250)) for at in range(3)]
+        answered &= manager.exchange(manager.request(wire.SET, long)) is not None
+        trial.holds("all SETs are answered", answered)
+        self.size = self.path.stat().st_size  # what is there at a kill
+        manager.close()
+        door.kill("both")
+        door.forget()
+        trial.doors.remove(door)
+        self.text = self.path.read_bytes()
+        self.begin = self.text.rfind(b"\n", 0, len(self.text) - 1) + 1
+        trial.holds("the last write is over several sectors", before <= self.begin < self.size - 2 * SECTOR)
+
+    def flipped(self, bit: int) -> bytes:
+        at = bit // 8
+        return self.text[:at] + bytes([self.text[at] ^ 1 << bit % 8]) + self.text[at + 1 :]
+
+    def torn(self, written: set[int], size: int) -> bytes:
+        """The file with these sectors of its last write."""
+        octets = bytearray(self.text[:size])
+        for at in range(self.begin, size):
+            if at // SECTOR not in written:
+                octets[at] = 0
+        return bytes(octets)
+
+    def bits(self) -> None:
+        """Each bit of the last records, and some of others: damage, by the reader."""
+        last = len(self.text)
+        for _ in range(LAST):
+            last = self.text.rfind(b"\n", 0, last - 1) + 1
+        bits = [*range(8 * last, 8 * len(self.text)), *(self.trial.chance.randrange(8 * last) for _ in range(OTHERS))]
+        taken = []
+        for bit in bits if not self.trial.is_short else self.trial.chance.sample(bits, 600):
+            octets = self.flipped(bit)
+            found = whole(octets)
+            if damage.end_of(octets, found) is not End.DAMAGED:
+                taken.append((bit, found))
+        self.trial.holds("no bit that is changed is taken for a torn end", not taken, taken[:3])
+        print(f"bits changed: {len(bits) if not self.trial.is_short else 600}", flush=True)
+
+    def refused(self, name: str, octets: bytes) -> None:
+        """The door refuses it by the octet and with the option, and leaves it as it is; with the option it goes on."""
+        self.path.write_bytes(octets)
+        door = self.trial.sign("--journal", str(self.path), "--no-ticks")
+        size = whole(octets).size
+        is_well = door.ended() in (1, 2) and self.is_told(door, size) and not door.output
+        self.trial.holds(f"{name}: refused", is_well, (door.process.returncode, door.errors.decode("latin-1")))
+        self.trial.holds(f"{name}: the file stays", self.path.read_bytes() == octets)
+        if size:
+            self.goes_on(name, octets, size, "--accept-damage")
+
+    def is_told(self, door: Door, size: int) -> bool:
+        """Whether a door says where a journal is damaged, and how it goes on."""
+        is_named = f"octet {size}".encode() in door.errors and b"--accept-damage" in door.errors
+        return is_named or size == 0 and b"is no journal" in door.errors
+
+    def goes_on(self, name: str, octets: bytes, size: int, *words: str) -> None:
+        """A door goes on from so many octets, and puts the rest aside."""
+        self.path.write_bytes(octets)
+        door = self.trial.sign("--journal", str(self.path), "--no-ticks", *words)
+        if self.trial.holds(f"{name}: a door starts {words}", door.port != 0, door.errors.decode("latin-1")):
+            manager, follower = Manager(door.port), Follower(self.path)
+            for line in lines_of(self.path.read_bytes()):
+                follower.take(line)
+            follower.compare(self.trial, name, manager)
+            manager.close()
+        self.trial.holds(f"{name}: and ends", door.stop() == 0, door.errors.decode("latin-1"))
+        self.trial.holds(f"{name}: what was whole stays", self.path.read_bytes().startswith(octets[:size]))
+        asides = [path for path in self.path.parent.iterdir() if path != self.path]
+        kept = [path.read_bytes() for path in asides]
+        self.trial.holds(f"{name}: the rest is put aside", len(octets) == size or kept == [octets[size:]], asides)
+        modes = {path.stat().st_mode & 0o777 for path in asides}
+        self.trial.holds(f"{name}: for its owner alone", modes <= {0o600}, modes)
+        for path in asides:
+            path.unlink()
+
+    def doors(self) -> None:
+        """What the door itself makes of some."""
+        chance, bits = self.trial.chance, [8 * len(self.text) - 7, 8 * self.begin + 3, 8 * (self.begin - 1)]
+        bits += [chance.randrange(8 * len(self.text)) for _ in range(1 if self.trial.is_short else 100)]
+        for bit in bits:
+            if not self.trial.is_late():
+                self.refused(f"bit {bit} of {8 * len(self.text)} changed", self.flipped(bit))
+        for at in range(0, self.begin - SECTOR, SECTOR * (5 if self.trial.is_short else 1)):
+            if not self.trial.is_late():
+                self.refused(f"zeros from {at} on", self.text[:at] + bytes(SECTOR) + self.text[at + SECTOR :])
+
+    def sectors(self) -> None:
+        """Each sector of the last write in each order: by the reader, and some by the door."""
+        sectors = range(self.begin // SECTOR, (self.size - 1) // SECTOR + 1)
+        sizes = [self.size, *(SECTOR * at for at in sectors[1:]), self.begin + 1]
+        every = [
+            (set(some), size)
+            for count in range(len(sectors) + 1)
+            for some in itertools.combinations(sectors, count)
+            for size in sizes
+        ]
+        other = []
+        for some, size in every:
+            octets = self.torn(some, size)
+            found = whole(octets)
+            wanted = End.NONE if octets == self.text else End.TORN
+            if damage.end_of(octets, found) is not wanted or found.size < self.begin:
+                other.append((some, size, found))
+        self.trial.holds("whatever sectors of a last write are there, it is torn", not other, other[:3])
+        for some, size in self.trial.chance.sample(every, 2 if self.trial.is_short else 40):
+            octets = self.torn(some, size)
+            if not self.trial.is_late() and octets != self.text:
+                self.goes_on(f"sectors {some} of the last write, {size} octets", octets, whole(octets).size)
+        print(f"last writes with some of their sectors: {len(every)}", flush=True)
+
+
+def older(trial: Trial, path: pathlib.Path, text: bytes) -> None:
+    """A journal of form 1 is written anew by a door, and is kept as it was."""
+    lines = [line.replace(b"journal 2 ", b"journal 1 ") for line in lines_of(text)]
+    path.write_bytes(written(lines))
+    before = path.read_bytes()
+    door = trial.sign("--journal", str(path), "--no-ticks")
+    if trial.holds("a journal of form 1: a door starts", door.port != 0, door.errors.decode()):
+        manager, follower = Manager(door.port), Follower(path)
+        for line in lines_of(path.read_bytes()):
+            follower.take(line)
+        follower.compare(trial, "a journal of form 1", manager)
+        manager.close()
+    trial.holds("a journal of form 1: and ends", door.stop() == 0, door.errors.decode())
+    kept = path.with_name(path.name + ".form1")
+    trial.holds("a journal of form 1 is kept as it was", kept.exists() and kept.read_bytes() == before)
+    trial.holds("and written anew", lines_of(path.read_bytes())[1 : len(lines)] == lines[1:])
+    path.write_bytes(before[:-4] + b"!" + before[-3:])
+    door = trial.sign("--journal", str(path), "--no-ticks")
+    is_well = door.ended() in (1, 2) and b"--accept-damage" in door.errors and not door.output
+    trial.holds("a journal of form 1 that is changed is refused", is_well, door.errors.decode())
+
+
+def written(lines: list[bytes]) -> bytes:
+    """A journal of form 1."""
+    made = b""
+    for line in lines:
+        made += line + b" #"
+        made += b"%08x\n" % zlib.crc32(made)
+    return made
+
+
+def unknown(trial: Trial, path: pathlib.Path, text: bytes) -> None:
+    """A whole record with a line that no end knows is refused by name."""
+    number = text.count(b"\n") + 1
+    for line in (b"hello world", b"ticks 12x", b"ticks 4294967296"):
+        octets = text + records.record(line, number, number)
+        path.write_bytes(octets)
+        door = trial.sign("--journal", str(path), "--no-ticks")
+        is_well = door.ended() in (1, 2) and line in door.errors and path.read_bytes() == octets and not door.output
+        trial.holds(f"a record {line!r}: refused by name", is_well, door.errors.decode("latin-1"))
+
+
+def run(trial: Trial) -> None:
+    """All of it."""
+    bits = Bits(trial)
+    bits.bits()
+    for part in (bits.sectors, bits.doors, lambda: older(trial, bits.path, bits.text)):
+        part()
+    if not trial.is_late():
+        unknown(trial, bits.path, bits.text)

@@ -1,0 +1,161 @@
+"""A sign's door, its co-process, or both are killed at random moments, again and again, over one journal."""
+
+import pathlib
+import threading
+import time
+
+from model import wire
+
+from .bench import Door, Trial, eventually, is_gone
+from .follower import Follower
+from .manager import Manager
+from .requests import Changes
+
+
+def killed_later(door: Door, which: str, seconds: float) -> threading.Timer:
+    """A kill so many seconds from now."""
+    timer = threading.Timer(seconds, door.kill, (which,))
+    timer.daemon = True
+    timer.start()
+    return timer
+
+
+class Kills:
+    """Lives of a sign over one journal, each of which is ended by a kill."""
+
+    def __init__(self, trial: Trial, folder: pathlib.Path) -> None:
+        self.trial, self.path = trial, folder / "journal"
+        self.follower, self.changes = Follower(self.path), Changes(trial.chance)
+        self.counted: list[int] = []  # values that the counter may have: the last one answered, and those after it
+        self.answered = self.killed = self.early_kills = 0
+        self.takes = 0.3  # seconds of a start
+
+    def early(self, at: int) -> None:
+        """A life that is killed while it starts, or soon after."""
+        which = self.trial.chance.choice(self.trial.victims())
+        name = f"life {at}, {which} killed at its start"
+        door = self.trial.door("wisangub-sign", "--port", "0", "--journal", str(self.path), "--no-ticks")
+        time.sleep(self.trial.chance.uniform(0.0, 1.2 * self.takes))
+        inner = door.inner()
+        door.kill(which)
+        if which == "co-process":
+            eventually(lambda: door.process.poll() is not None, self.takes)
+            door.stop()
+        self.over(name, door, inner)
+        is_killed = which != "co-process" or inner is not None
+        self.killed, self.early_kills = self.killed + is_killed, self.early_kills + is_killed
+
+    def life(self, at: int) -> None:
+        """A life with ticks or without, which is looked at where no tick can change it meanwhile."""
+        has_ticks = at % 3 == 2
+        which = self.trial.chance.choice(self.trial.victims())
+        begun = time.monotonic()
+        door = self.trial.sign("--journal", str(self.path), *([] if has_ticks else ["--no-ticks"]))
+        self.takes = time.monotonic() - begun
+        name = f"life {at}, {which} killed"
+        if not self.trial.holds(f"{name}: it starts", door.port != 0, door.errors.decode()):
+            return
+        manager = Manager(door.port)
+        if not has_ticks:
+            self.look(name, manager)
+        inner = door.inner()
+        timer = killed_later(door, which, self.trial.chance.uniform(0.001, 1.3 if has_ticks else 0.1))
+        self.ask(door, manager, 0.1 if has_ticks else 0.0)
+        timer.join()
+        if which == "co-process":
+            self.dies_too(name, door)
+        self.over(name, door, inner)
+        manager.close()
+        self.killed += 1
+
+    def over(self, name: str, door: Door, inner: int | None) -> None:
+        """Nothing of this life stays."""
+        self.trial.holds(f"{name}: it ended", door.ended() != 999)
+        self.trial.holds(f"{name}: its co-process ended", eventually(lambda: is_gone(inner)), inner)
+        self.trial.holds(f"{name}: no traceback", b"Traceback" not in door.errors, door.errors.decode())
+        door.forget()
+        self.trial.doors.remove(door)
+
+    def dies_too(self, name: str, door: Door) -> None:
+        """A door whose co-process was killed says so and ends, at the next datagram at the latest."""
+        last = Manager(door.port, b"public")
+        last.get([Changes.COUNTER], 0.2)
+        last.close()
+        status = door.ended()
+        self.trial.holds(
+            f"{name}: the door ends",
+            status == 1 and b"co-process ended by signal 9" in door.errors,
+            (status, door.errors.decode()),
+        )
+
+    def ask(self, door: Door, manager: Manager, pause: float) -> None:
+        """SETs and Gets until the kill, one by one or up to sixteen at once, with pauses between them."""
+        while door.process.poll() is None:
+            time.sleep(self.trial.chance.uniform(0.0, pause))
+            many, counts = [], []
+            for _ in range(self.trial.chance.choice([1, 1, 1, 1, 1, 2, 16])):
+                before = self.changes.count
+                many.append(self.changes.next(manager))
+                counts.append(self.changes.count if self.changes.count != before else None)
+            replies = self.follower.ask(manager, many, 0.3)
+            for count, reply in zip(counts, replies):
+                self.answered += reply is not None
+                self.count(count, reply)
+            if None in replies:
+                return
+            if self.trial.chance.random() < 0.2:
+                manager.get([Changes.COUNTER], 0.3)
+
+    def count(self, count: int | None, reply: bytes | None) -> None:
+        """What the counter may be after a SET of it."""
+        if count is None:
+            return
+        message = None if reply is None else wire.spelled(reply)
+        if message is None:
+            self.counted.append(count % 65_536)
+        elif message.status == 0:
+            self.counted = [count % 65_536]
+
+    def last(self) -> None:
+        """A life that ends well."""
+        door = self.trial.sign("--journal", str(self.path), "--no-ticks")
+        if self.trial.holds("after all kills: it starts", door.port != 0, door.errors.decode()):
+            manager = Manager(door.port)
+            self.look("after all kills", manager)
+            manager.close()
+        self.trial.holds("after all kills: it ends at a SIGTERM", door.stop() == 0, door.errors.decode())
+        door.forget()
+        self.trial.doors.remove(door)
+
+    def look(self, name: str, manager: Manager) -> None:
+        """After a start: the journal, the counter, the whole walk."""
+        self.follower.catch_up(self.trial, name)
+        found = manager.get([Changes.COUNTER])
+        value = found[0][1][1] if found else None
+        self.trial.holds(
+            f"{name}: the counter is what was answered last, or what was asked after it",
+            value in (self.counted or [0]),
+            (value, self.counted),
+        )
+        if isinstance(value, int):
+            self.counted = [value]
+        self.follower.compare(self.trial, name, manager)
+
+
+def run(trial: Trial, count: int) -> None:
+    """So many kills, and a last look."""
+    begun = time.monotonic()
+    kills = Kills(trial, trial.new_folder())
+    at = 0
+    while kills.killed < count and at < 2 * count and not trial.is_late():
+        (kills.early if at % 8 == 7 else kills.life)(at)
+        at += 1
+        if at % 100 == 0:
+            print(f"{kills.killed} kills, {time.monotonic() - begun:.0f} s", flush=True)
+    kills.last()
+    print(
+        f"kills of a sign: {kills.killed}, {kills.early_kills} of them at a start, {kills.answered} SETs answered, "
+        f"a journal of {kills.path.stat().st_size} octets, "
+        f"{time.monotonic() - begun:.0f} s",
+        flush=True,
+    )

@@ -1,0 +1,193 @@
+"""What an operator's commands end as, and what a centre takes for a reply."""
+
+import re
+import socket
+import subprocess
+import time
+
+from model import wire
+
+from .bench import Door, Trial, eventually
+from .follower import lines_of
+from .patience import PACE
+
+SHORT = "0.05"  # seconds from tick to tick where no sign answers
+
+
+def tick() -> float:
+    """Seconds from tick to tick, in which a sign answers on this machine."""
+    return min(max(0.2, PACE.start() / 2), 1.0)
+
+
+def commanded(trial: Trial, port: int, lines: str, *words: str) -> tuple[int, list[str]]:
+    """The status of a centre's door that is given lines, and what it printed."""
+    door, status = given(trial, port, lines, *words)
+    return status, door.output.decode().splitlines()
+
+
+def given(trial: Trial, port: int, lines: str, *words: str) -> tuple[Door, int]:
+    """A centre's door that is given lines, and its status."""
+    call = ["--to", f"127.0.0.1:{port}", "--tick", f"{tick():.2f}", *words]
+    door = trial.door("wisangub-centre", *call, stdin=subprocess.PIPE)
+    assert door.process.stdin is not None
+    door.process.stdin.write(lines.encode())
+    door.process.stdin.close()
+    status = door.ended()
+    trial.holds("a centre's door prints no traceback", b"Traceback" not in door.errors, door.errors.decode())
+    return door, status
+
+
+COMMANDS = [  # what is commanded, the exit status, and what is told
+    ("blank 5 65535 255 127.0.0.1", 0, "last accepted"),
+    ("blank 5 65535 255 127.0.0.1\nnonsense", 1, "bad line"),
+    ("# nothing\n\n", 0, ""),
+    ("blank 0 65535 255 127.0.0.1", 1, "refused a value is out of its range: NUMBER"),
+    ("status", 0, "last none"),
+    ("tick", 1, "bad line"),
+    ("blank x", 1, "bad line"),
+    ('publish-text 3 1 "\u20ac" - 0 0 9 65535 255 127.0.0.1', 1, "bad line: TEXT: character 1, U+20AC"),
+    ('publish-text 3 1 "AB" "me" 0 0 9 65535 255 127.0.0.1', 0, "last accepted"),
+    ("blank 5 65535 8 127.0.0.1", 1, "last failed at step 7: the sign refused the activation for cause 3, priority"),
+]
+SOME = 5  # commands of which the sign answers one question at least within a second
+WIDE = 'publish-text 3 2 "ABABABABAB" - 0 0 9 65535 255 127.0.0.1\n'
+IN_ERROR = "last failed at step 5: the row has status 5, error"
+AT_FAULT = r"step 5 \(is the message valid\): the sign found fault 5 at octet 4: (wider than the matrix by|textTooBig)"
+GIVEN_UP = [  # what is said of two commands to a silent sign
+    "given up after 0.3 seconds: the job is not done",
+    "busy",
+    "last none",
+    "ledger 1 ffffff07000500007f000001 waiting",
+    "idle",
+    "last failed at step 7: no reply",
+    "ledger 1 ffffff07000500007f000001 noreply",
+    "given up after 0.3 seconds: the job is not done",
+    "busy",
+    "last failed at step 7: no reply",
+    "ledger 2 ffffff07000600007f000001 waiting",
+]
+
+
+def in_error(trial: Trial, port: int) -> None:
+    """A text that does not fit: standard error says what the sign found, and standard output only how it ended. The
+    question is no record."""
+    path, is_told = trial.new_folder() / "centre", False
+    for _ in range(SOME):
+        door, status = given(trial, port, WIDE, "--journal", str(path))
+        lines = door.output.decode().splitlines()
+        trial.holds("a text that does not fit", status == 1 and lines == ["idle", IN_ERROR], (status, lines))
+        is_told = re.search(AT_FAULT, door.errors.decode()) is not None
+        if is_told:
+            break
+    trial.holds("what the sign found", is_told, door.errors.decode())
+    records = [line.split(b" ")[1] for line in lines_of(path.read_bytes()) if line.startswith(b"datagram ")]
+    is_below = any(wire.read(bytes.fromhex(record.decode())).number < 0 for record in records)
+    trial.holds("the question is no record", bool(records) and not is_below, records)
+
+
+def operated(trial: Trial) -> None:
+    """Commands, what they end as, and the exit status."""
+    sign = trial.sign("--log", "-")
+    in_error(trial, sign.port)
+    for line, status, told in COMMANDS:
+        if trial.is_late():
+            break
+        found = commanded(trial, sign.port, line + "\n")
+        trial.holds(
+            f"{line!r}: exit {status}, {told}",
+            found[0] == status and any(told in line for line in found[1] or [""]),
+            found,
+        )
+    else:
+        last = [
+            line for line in commanded(trial, sign.port, "blank 5 65535 8 127.0.0.1\n")[1] if line.startswith("ledger")
+        ]
+        trial.holds("a ledger's status in words", bool(last) and last[0].endswith(" refused 5, genErr"), last)
+    trial.holds("a sign ends at a SIGTERM", sign.stop() == 0, sign.errors.decode())
+    asked = re.findall(rb" in Get community (\w+) request-id -\d+", sign.output)
+    trial.holds("the reading community asks below 0", set(asked) == {b"public"}, sign.output)
+
+
+def unanswered(trial: Trial) -> None:
+    """Commands to a sign that is silent, and to a port where there is none."""
+    with socket.socket(socket.AF_INET, socket.SOCK_DGRAM) as silent:
+        silent.bind(("127.0.0.1", 0))
+        status, lines = commanded(
+            trial,
+            silent.getsockname()[1],
+            "blank 5 65535 255 127.0.0.1\nblank 6 65535 255 127.0.0.1\n",
+            *("--wait", "0.3", "--tick", SHORT),
+        )
+    trial.holds(
+        "a silent sign is given up, and the next command waits for the job's end",
+        status == 1 and lines == GIVEN_UP,
+        (status, lines),
+    )
+    door, status = given(trial, silent_port(), "blank 5 65535 255 127.0.0.1\n", "--tick", SHORT)
+    is_said = b"\nlast failed at step 7: no reply\n" in door.output and b"nothing listens there" in door.errors
+    trial.holds("no sign there", status == 1 and is_said, (status, door.output, door.errors))
+
+
+def outsiders(trial: Trial) -> None:
+    """A reply from another address than the sign's answers nothing, though it spells what is waited for."""
+    with socket.socket(socket.AF_INET, socket.SOCK_DGRAM) as sign, socket.socket(
+        socket.AF_INET, socket.SOCK_DGRAM
+    ) as other:
+        sign.bind(("127.0.0.1", 0))
+        sign.settimeout(PACE.patience())
+        call = ["--to", f"127.0.0.1:{sign.getsockname()[1]}", "--tick", f"{tick():.2f}"]
+        door = trial.door("wisangub-centre", *call, stdin=subprocess.PIPE)
+        assert door.process.stdin is not None
+        door.process.stdin.write(b"blank 5 65535 255 127.0.0.1\n")
+        door.process.stdin.close()
+        octets, centre = sign.recvfrom(2048)
+        reply = octets.replace(b"\xa3", b"\xa2", 1)
+        other.sendto(reply, centre)
+        sent_again = sign.recvfrom(2048)[0]
+        trial.holds(
+            "a reply from elsewhere answers nothing",
+            sent_again == octets and door.process.poll() is None,
+            door.output.decode(),
+        )
+        sign.sendto(reply, centre)
+        trial.holds("and the sign's does", door.ended() == 0 and b"last accepted" in door.output, door.output.decode())
+
+
+def idles(trial: Trial) -> None:
+    """The ticks of a centre that has nothing to do leave no record: not between two commands, not at a start."""
+    sign, path = trial.sign("--no-ticks"), trial.new_folder() / "centre"
+    call = ["--to", f"127.0.0.1:{sign.port}", "--tick", f"{tick():.2f}", "--journal", str(path)]
+    door = trial.door("wisangub-centre", *call, stdin=subprocess.PIPE)
+    operator = door.process.stdin
+    assert operator is not None
+    for count in (1, 2):
+        operator.write(b"blank %d 65535 255 127.0.0.1\n" % count)
+        operator.flush()
+        is_done = eventually(lambda: door.output.count(b"last accepted\n") == count)
+        trial.holds(f"command {count} is accepted", is_done, (door.output, door.errors))
+        before = path.read_bytes()
+        time.sleep(2.5 * tick())
+        trial.holds(f"idle after command {count}: no record", path.read_bytes() == before, path.read_bytes())
+    operator.close()
+    trial.holds("an idle centre ends", door.ended() == 0, door.errors.decode())
+    status = commanded(trial, sign.port, "status\n", "--journal", str(path))
+    trial.holds("a start of an idle centre: no record", path.read_bytes() == before and status[0] == 0, status)
+    words = [line.partition(b" ")[0] for line in lines_of(before)[1:]]
+    is_so = words.count(b"blank") == 2 and set(words) <= {b"blank", b"datagram", b"tick"}
+    trial.holds("the records are of commands, and of what came until each was done", is_so, words)
+    trial.holds("the sign of an idle centre ends", sign.stop() == 0, sign.errors.decode())
+
+
+def silent_port() -> int:
+    """A port where nobody is."""
+    with socket.socket(socket.AF_INET, socket.SOCK_DGRAM) as one:
+        one.bind(("127.0.0.1", 0))
+        return int(one.getsockname()[1])
+
+
+def run(trial: Trial) -> None:
+    """Everything."""
+    operated(trial)
+    unanswered(trial)
+    outsiders(trial)
+    idles(trial)

@@ -1,0 +1,1 @@
+"""Trials of the library for C, of trials/c_library.py."""

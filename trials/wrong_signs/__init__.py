@@ -1,0 +1,1 @@
+"""Signs wrong in one rule each, made from model by one edit each, to see whether the tester finds them."""
