@@ -5,8 +5,8 @@
     tools/python_tests.py --quick | --types                 the tests that take seconds, or mypy alone
 
 The tests of the tester and of the control room are run by `tests.tester.short` and `tests.room.short`. A folder is a
-run of its own, as in a fresh clone. Both programs are taken of this Python, or of the system's where this one has them not, and are skipped by
-name where neither has.
+run of its own, as in a fresh clone. Both programs are taken of this Python, or of the system's where this one has them
+not, and are skipped by name where neither has.
 """
 
 from __future__ import annotations
@@ -21,7 +21,12 @@ from collections.abc import Sequence
 
 TOP = pathlib.Path(__file__).resolve().parent.parent
 PYTHONS = (sys.executable, "/usr/bin/python3")
-FOLDERS = ("tools/*/tests", "measures/tests", "model/tests", "python/tests/process", "python/tests/endpoint")
+FOLDERS = (
+    "tools/*/tests",
+    "measures/tests",
+    "model/tests",
+    *(f"python/tests/{part}" for part in ("snmp", "process", "endpoint")),
+)
 SLOW = ("python/tests/tester/test_signs.py", "tools/tries/tests/test_planted.py")  # a minute of a processor each
 
 

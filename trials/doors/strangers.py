@@ -7,7 +7,7 @@ import time
 from dataclasses import replace
 
 from model import wire
-from tests.endpoint.edges import edges
+from tests.snmp.edges import edges
 from wisangub.endpoint.sign_door import line_of
 from wisangub.endpoint.sorts import Sort, sort_of
 from wisangub.process.coprocess import CoProcess

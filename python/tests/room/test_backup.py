@@ -6,13 +6,13 @@ import threading
 
 import pytest
 
-from model import wire
 from trials.room.cluster import Cluster
 from wisangub.refusal import Refusal
 from wisangub.room.fleet import LAST_NUMBER
 from wisangub.room.store import advance, backup, database
 from wisangub.room.store.store import Line, Store, whole
 from wisangub.room.worker.session import RESTORED
+from wisangub.snmp import wire
 
 from .bench import HELLO, Bench, bench
 from .test_database import BLANK, two_stores

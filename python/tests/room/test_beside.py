@@ -10,12 +10,12 @@ from . import needs
 
 needs.modules("aiohttp", "jinja2")
 
-from model import wire
 from trials.room import beside
 from trials.room.beside import Browser, Service
 from wisangub.room.store import database
 from wisangub.room.store.database import Failed, Row
 from wisangub.room.store.store import Store
+from wisangub.snmp import wire
 
 from .bench import PROGRAM, Bench, bench
 

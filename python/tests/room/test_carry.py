@@ -5,10 +5,10 @@ import time
 
 import pytest
 
-from model import wire
 from wisangub.room.store.database import Failed
 from wisangub.room.store.store import Line
 from wisangub.room.worker.session import Lost
+from wisangub.snmp import wire
 
 from .bench import ADDRESS, bench, carried
 from .test_worker import begin, carried_on

@@ -6,11 +6,11 @@ from typing import Any, Callable
 
 import pytest
 
-from model import wire
 from trials.room import chaos, chaos_checks
 from trials.room.chaos import Asked, Run
 from trials.room.chaos_checks import Outcome
 from trials.room.loopback import Fates, LoopbackSign
+from wisangub.snmp import wire
 
 from .bench import HELLO, Bench, bench
 

@@ -7,13 +7,13 @@ from . import needs
 
 needs.modules("aiohttp", "jinja2")
 
-from model import wire
 from wisangub.room.store import past
 from wisangub.room.store.store import Line
 from wisangub.room.store.users import Role
 from wisangub.room.web.app import ROUTES
 from wisangub.room.web.security import POLICY
 from wisangub.room.web.words import Clock, age_word, audit_words, minutes_word
+from wisangub.snmp import wire
 
 from .visits import NAMES, READER, WRITER, Bench, Visitor, Visitors, run
 

@@ -7,7 +7,7 @@ from model import wire
 from wisangub.endpoint import asking
 from wisangub.process.places import TOP
 from wisangub.room.worker import readings
-from wisangub.snmp import encoder
+from wisangub.snmp import wire as shipped
 from wisangub.snmp.mib import Mib
 
 CASES = [json.loads(line) for line in (TOP / "vectors/datagrams.jsonl").read_text().splitlines()]
@@ -22,7 +22,7 @@ def test_gets_are_those_of_the_vectors() -> None:
         names = [tuple(map(int, held["name"].split("."))) for held in message["bindings"]]
         if all(held["type"] == "NULL" for held in message["bindings"]):
             community = bytes.fromhex(message["community"].replace("-", ""))
-            assert encoder.get(community, message["request-id"], names).hex() == canonical
+            assert shipped.get(community, message["request-id"], names).hex() == canonical
             counted += 1
     assert counted > 10
 
@@ -42,7 +42,7 @@ def test_gets_are_those_of_the_model() -> None:
         community, least = chance.randbytes(chance.choice((0, 6, 127, 128, 300))), chance.choice((0, -1, -(2**31)))
         asked = least + number(31) if least != -1 else -1 - number(31)
         bindings = [(name, (wire.NULL, b"")) for name in names]
-        octets = encoder.get(community, asked, names)
+        octets = shipped.get(community, asked, names)
         assert octets == wire.written(wire.Message(wire.GET, community, asked, 0, 0, bindings))
         if len(octets) <= wire.MOST_DATAGRAM:
             assert wire.spelled(octets) == wire.Message(wire.GET, community, asked, 0, 0, bindings)
@@ -50,11 +50,11 @@ def test_gets_are_those_of_the_model() -> None:
 
 def test_a_get_asks_below_zero_and_is_answered_by_its_response_alone() -> None:
     asked = list(readings.names(Mib.read()).values())
-    octets = encoder.get(b"public", -(2**31), asked)
-    message = wire.spelled(octets)
+    octets = shipped.get(b"public", -(2**31), asked)
+    message = shipped.spelled(octets)
     assert message is not None and message.number == -(2**31) and [name for name, _ in message.bindings] == asked
     message.kind = wire.RESPONSE
-    reply = wire.written(message)
+    reply = shipped.written(message)
     assert asking.answer(reply, b"public", -(2**31)) == message
     for others in (octets, reply[:-1], b""):
         assert asking.answer(others, b"public", -(2**31)) is None

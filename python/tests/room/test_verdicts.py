@@ -1,4 +1,4 @@
-"""What a sign found wrong with a message, asked for by the worker, and the words of the pages and of wisangub.room.command."""
+"""What a sign found wrong with a message, asked for by the worker, and the words of pages and of the command."""
 
 import pathlib
 import time
@@ -6,10 +6,10 @@ from typing import Sequence
 
 import pytest
 
-from model import wire
 from wisangub.room.command import explain
 from wisangub.room.store.store import Command, News
 from wisangub.room.worker.program import Worker
+from wisangub.snmp import wire
 
 from .bench import ADDRESS, HELLO, Bench, bench
 

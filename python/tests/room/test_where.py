@@ -7,7 +7,6 @@ from typing import Any
 
 import pytest
 
-from model import wire
 from wisangub.endpoint.sockets import Waiting
 from wisangub.refusal import Refusal
 from wisangub.room import addresses
@@ -19,6 +18,7 @@ from wisangub.room.store.store import Store
 from wisangub.room.store.views import signs as sign_views
 from wisangub.room.worker.rounds import Pace, Worker
 from wisangub.room.worker.where import Where
+from wisangub.snmp import wire
 
 from .bench import HELLO, PROGRAM, TICK, Bench, bench
 from .test_signs import least_of, sign, used

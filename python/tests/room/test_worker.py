@@ -8,12 +8,12 @@ import time
 
 import pytest
 
-from model import wire
 from trials.room.loopback import Fates
 from trials.room.usage import children
 from wisangub.process.coprocess import CoProcess
 from wisangub.room.worker import session
 from wisangub.room.worker.session import Lost, Session, is_command
+from wisangub.snmp import wire
 
 from .bench import ADDRESS, HELLO, PACE, TEXT, Bench, bench, carried
 

@@ -4,7 +4,7 @@ import json
 import pathlib
 import time
 
-from model import wire
+from wisangub.snmp import wire
 
 from .bench import HELLO, bench
 from .test_worker import begin

@@ -2,9 +2,11 @@
 
 import random
 
-from model import text, wire
+from model import text
+from model import wire as model_wire
 from trials.wrong_signs.load import edited
 from trials.wrong_signs.table import MUTANTS
+from wisangub.snmp import wire
 from wisangub.tester import bench, kept
 from wisangub.tester.chapters import ALL
 from wisangub.tester.classify import rule_of
@@ -139,11 +141,13 @@ def test_a_reply_with_other_names_is_named_by_its_request() -> None:
 
 def test_names_that_are_kept_are_read_the_same() -> None:
     for content in (wire.name_content(HEIGHT), b"\x2b", b"\x81\0", wire.name_content(HEIGHT)):
-        assert kept.name(wire.Reader(content, 0, len(content))) == kept.READ_NAME(wire.Reader(content, 0, len(content)))
+        assert kept.name(model_wire.Reader(content, 0, len(content))) == kept.READ_NAME(
+            model_wire.Reader(content, 0, len(content))
+        )
     for _ in range(2):
         try:
-            kept.name(wire.Reader(b"..\x80\1", 2, 4))
-        except wire.Fault as fault:
+            kept.name(model_wire.Reader(b"..\x80\1", 2, 4))
+        except model_wire.Fault as fault:
             assert (fault.kind, fault.offset) == ("BadName", 2)
         else:
             raise AssertionError("octets that spell no name")

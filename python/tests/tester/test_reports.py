@@ -3,11 +3,12 @@
 import json
 import xml.etree.ElementTree as ET
 
-from model import text, wire
+from model import text
 from model.changes import Change, Refused
 from model.sign import Sign
 from trials.wrong_signs.load import sign_of
 from trials.wrong_signs.table import MUTANTS
+from wisangub.snmp import wire
 from wisangub.tester import bench
 from wisangub.tester.chapters import ALL
 from wisangub.tester.compare import Kind

@@ -3,8 +3,9 @@
 import random
 from typing import Callable
 
-from model import text, wire
+from model import text
 from model.sign import Sign
+from wisangub.snmp import wire
 from wisangub.tester import bench
 from wisangub.tester.chapters import ALL
 from wisangub.tester.chapters.block import Block

@@ -2,8 +2,9 @@
 
 from dataclasses import dataclass, field
 
-from model import text, wire
+from model import text
 from model.sign import Sign
+from wisangub.snmp import wire
 from wisangub.tester import bench
 from wisangub.tester.clock import SimulatedClock
 from wisangub.tester.objects import Row, integer, octets, scalar

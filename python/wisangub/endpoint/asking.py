@@ -3,9 +3,8 @@
 import socket
 import time
 
-from model import wire
-from wisangub.snmp.datagrams import status_word
-from wisangub.snmp.encoder import get
+from wisangub.snmp import wire
+from wisangub.snmp.names import status_word
 
 from .log import Log
 from .sockets import Address, Waiting, received, sent
@@ -50,7 +49,7 @@ def once(
         family = socket.AF_INET6 if len(to) == 4 else socket.AF_INET
         with socket.socket(family, socket.SOCK_DGRAM) as own:
             own.connect(to)
-            octets = get(community, number, asked)
+            octets = wire.get(community, number, asked)
             if log:
                 log.datagram("reading", to, octets)
             return None if sent(own, octets) else awaited(own, waiting, community, number, asked, log)

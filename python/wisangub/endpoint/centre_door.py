@@ -5,9 +5,9 @@ import socket
 import time
 from typing import Iterable
 
-from model import wire
 from wisangub.process.coprocess import CoProcess
 from wisangub.refusal import Refusal, reason, say, tell
+from wisangub.snmp import wire
 from wisangub.snmp.mib import Mib
 
 from . import endings

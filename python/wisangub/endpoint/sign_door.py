@@ -5,12 +5,13 @@ from binascii import hexlify, unhexlify
 
 from wisangub.process.coprocess import CoProcess
 from wisangub.refusal import Refusal, reason, say, tell
+from wisangub.snmp.wire import MOST_DATAGRAM
 
 from .clock import running
 from .keeper import Keeper
 from .limit import Limit
 from .log import Log
-from .sockets import MOST_DATAGRAM, Address, Waiting, received
+from .sockets import Address, Waiting, received
 from .sorts import Sort, sort_of
 
 AT_ONCE = 16  # datagrams that are recorded with one sync, and handed over together

@@ -7,8 +7,8 @@ import socket
 from typing import Any, Callable
 
 from wisangub.refusal import Refusal
+from wisangub.snmp.wire import MOST_DATAGRAM
 
-MOST_DATAGRAM = 1472  # octets of a datagram of this profile
 MOST_FAULTS = 100  # of earlier datagrams, that are passed over at once
 MOST_WAIT = 86_400.0  # seconds that are waited for at once
 Address = tuple[Any, ...]

@@ -3,8 +3,8 @@
 import re
 
 from wisangub.refusal import Refusal
-from wisangub.snmp.datagrams import status_word
 from wisangub.snmp.mib import Mib
+from wisangub.snmp.names import status_word
 
 WORD = re.compile(r'"((?:[^"\\]|\\.)*)"(?= |$)|([^ "]+)(?= |$)')
 FIELDS = ("MEMORY", "NUMBER", "TEXT", "OWNER", "BEACON", "PIXEL", "RUN", "MINUTES", "PRIORITY", "ADDRESS")

@@ -2,7 +2,7 @@
 
 from typing import Sequence
 
-from model import wire
+from wisangub.snmp import wire
 
 from .compare import Kind, Mismatch
 from .messages import spelled, status_of

@@ -3,8 +3,8 @@
 from dataclasses import dataclass
 from enum import Enum
 
-from model import wire
-from model.names import KINDS, TYPES
+from wisangub.snmp import wire
+from wisangub.snmp.names import KINDS, TYPES
 
 from .messages import spelled
 from .objects import STATUSES, Name, spoken

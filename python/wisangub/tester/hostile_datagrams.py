@@ -1,11 +1,11 @@
-"""Datagrams that nobody in order sends, and what each end makes of them: python3 -m trials.hostile hands them to both ends, and
-conform/ to a sign under test."""
+"""Datagrams that nobody in order sends, and what each end makes of them: python3 -m trials.hostile hands them to both
+ends, and the tester to a sign under test."""
 
 import random
 from collections.abc import Iterator, Sequence
 from typing import TypeVar
 
-from model import wire
+from wisangub.snmp import wire
 
 MOST_DATAGRAM = wire.MOST_DATAGRAM
 DMS = (1, 3, 6, 1, 4, 1, 1206, 4, 2, 3)

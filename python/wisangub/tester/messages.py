@@ -2,7 +2,7 @@
 
 import functools
 
-from model import wire
+from wisangub.snmp import wire
 
 from .objects import NULL
 

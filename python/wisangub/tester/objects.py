@@ -2,9 +2,8 @@
 
 from dataclasses import dataclass
 
-from model import wire
-from model.names import COLUMNS, SCALARS
-from model.objects import DMS
+from wisangub.snmp import wire
+from wisangub.snmp.names import COLUMNS, DMS, SCALARS
 
 Name = tuple[int, ...]
 Value = tuple[int, int | bytes | Name]

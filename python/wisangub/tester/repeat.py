@@ -1,6 +1,6 @@
 """A sequence that a report printed, run once more from the known state."""
 
-from model import wire
+from wisangub.snmp import wire
 from wisangub.tester.sign.pair import Inconclusive
 
 from .compare import fields

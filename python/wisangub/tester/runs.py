@@ -3,7 +3,7 @@
 from dataclasses import dataclass, field
 from typing import Sequence
 
-from model import wire
+from wisangub.snmp import wire
 from wisangub.tester.sign.pair import Exchange, Inconclusive, Pair
 from wisangub.tester.state.known import Known
 

@@ -2,7 +2,7 @@
 
 from typing import Callable, Mapping
 
-from model import wire
+from wisangub.snmp import wire
 
 from .objects import scalar
 

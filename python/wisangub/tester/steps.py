@@ -3,7 +3,7 @@
 from dataclasses import dataclass, replace
 from typing import Callable, Sequence, Union
 
-from model import wire
+from wisangub.snmp import wire
 
 from .messages import written
 from .objects import NULL, Binding, Name

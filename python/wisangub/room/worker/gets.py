@@ -8,7 +8,7 @@ from wisangub.endpoint.asking import Name, Values, said
 from wisangub.endpoint.sockets import connected, received, sent
 from wisangub.refusal import Refusal, reason
 from wisangub.room.fleet import Sign
-from wisangub.snmp import encoder
+from wisangub.snmp import wire
 
 SENDS, PATIENCE = 3, 1.0  # how often a Get goes out, and the seconds from one time to the next
 
@@ -18,7 +18,7 @@ class Get:
 
     def __init__(self, sign: Sign, number: int, asked: list[Name], end: Callable[[Values | str], None]) -> None:
         self.sign, self.number, self.asked, self.end = sign, number, asked, end
-        self.octets = encoder.get(sign.reader, number, asked)
+        self.octets = wire.get(sign.reader, number, asked)
         self.door: socket.socket = connected(sign.host, sign.port)
         self.sends, self.due = 0, 0.0
 

@@ -1,6 +1,6 @@
 """The step of the profile (docs/PROFILE.md, "Commands") that a job is at, from the requests that go out."""
 
-from model import wire
+from wisangub.snmp import wire
 from wisangub.snmp.mib import Mib
 
 MODIFY, VALIDATE = 6, 7  # that are written to dmsMessageStatus

@@ -3,8 +3,8 @@
 from dataclasses import dataclass, field
 from enum import Enum
 
-from model import wire
-from model.names import KINDS
+from wisangub.snmp import wire
+from wisangub.snmp.names import KINDS
 from wisangub.tester.messages import spelled
 from wisangub.tester.objects import Name, column_of, row_of, scalar, scalar_of, spoken
 

@@ -2,7 +2,7 @@
 
 from typing import Callable, Iterator
 
-from model import wire
+from wisangub.snmp import wire
 from wisangub.tester import spelling
 from wisangub.tester.context import Context
 from wisangub.tester.objects import NULL, scalar

@@ -2,7 +2,7 @@
 
 from typing import Iterator
 
-from model import wire
+from wisangub.snmp import wire
 from wisangub.tester import spelling
 from wisangub.tester.spelling import NOWHERE
 from wisangub.tester.steps import Raw

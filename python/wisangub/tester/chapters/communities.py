@@ -3,7 +3,7 @@
 from dataclasses import replace
 from typing import Iterator
 
-from model import wire
+from wisangub.snmp import wire
 from wisangub.tester.context import Context, activate
 from wisangub.tester.objects import NULL, Row, cell, integer, scalar
 from wisangub.tester.steps import Ask, get, get_next, put

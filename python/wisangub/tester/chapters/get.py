@@ -3,9 +3,9 @@
 from dataclasses import replace
 from typing import Iterator
 
-from model import wire
-from model.objects import DMS
 from model.sign import Sign
+from wisangub.snmp import wire
+from wisangub.snmp.names import DMS
 from wisangub.tester.context import Context
 from wisangub.tester.objects import NULL, Name, Row, cell, column_of, integer, octets, row_of, scalar
 from wisangub.tester.steps import Ask, get, looks

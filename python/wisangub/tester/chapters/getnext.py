@@ -2,9 +2,9 @@
 
 from typing import Iterator
 
-from model import wire
-from model.objects import DMS
 from model.sign import Sign
+from wisangub.snmp import wire
+from wisangub.snmp.names import DMS
 from wisangub.tester.context import Context
 from wisangub.tester.objects import NULL, Name, integer, octets, scalar
 from wisangub.tester.steps import Ask, get_next

@@ -2,7 +2,7 @@
 
 from typing import Iterator
 
-from model import wire
+from wisangub.snmp import wire
 from wisangub.tester.context import Context
 from wisangub.tester.objects import NULL, Binding, integer, octets, scalar
 from wisangub.tester.steps import Ask, Raw, Step, Wait

@@ -2,8 +2,8 @@
 
 import random
 
-from model import wire
-from model.names import SCALARS
+from wisangub.snmp import wire
+from wisangub.snmp.names import SCALARS
 from wisangub.tester.context import ADDRESS, Context
 from wisangub.tester.hostile_datagrams import Maker
 from wisangub.tester.objects import (

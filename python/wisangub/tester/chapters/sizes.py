@@ -2,7 +2,7 @@
 
 from typing import Iterator, Sequence
 
-from model import wire
+from wisangub.snmp import wire
 from wisangub.tester.context import Context
 from wisangub.tester.objects import NULL, Binding, Name, Row, octets, scalar
 from wisangub.tester.steps import FIRST_NUMBER, Ask, Step, get, get_next, put

@@ -1,6 +1,6 @@
 """Pictures of texts as our sign draws them, as SVG inside a page."""
 
-from model import wire
+from wisangub.snmp import wire
 from wisangub.tester.context import Context
 from wisangub.tester.found import Difference
 from wisangub.tester.objects import column_of

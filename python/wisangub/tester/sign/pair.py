@@ -2,7 +2,7 @@
 
 from dataclasses import dataclass, field
 
-from model import wire
+from wisangub.snmp import wire
 from wisangub.tester.clock import Clock
 from wisangub.tester.compare import Kind, Mismatch, mismatch
 from wisangub.tester.messages import spelled

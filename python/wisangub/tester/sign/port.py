@@ -2,7 +2,7 @@
 
 from dataclasses import dataclass, field
 
-from model import wire
+from wisangub.snmp import wire
 from wisangub.tester.clock import Clock
 from wisangub.tester.messages import spelled
 from wisangub.tester.steps import FIRST_NUMBER, LAST_NUMBER

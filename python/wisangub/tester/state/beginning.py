@@ -2,8 +2,8 @@
 
 from dataclasses import dataclass
 
-from model import wire
 from model.sign import Sign
+from wisangub.snmp import wire
 from wisangub.tester import classify
 from wisangub.tester.compare import Kind, Mismatch, mismatch, value_words
 from wisangub.tester.context import Context

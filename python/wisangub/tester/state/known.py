@@ -2,7 +2,7 @@
 
 from dataclasses import dataclass, field
 
-from model import wire
+from wisangub.snmp import wire
 from wisangub.tester.context import Context, activate
 from wisangub.tester.messages import spelled
 from wisangub.tester.objects import Name, Row, Value, scalar

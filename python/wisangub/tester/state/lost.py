@@ -2,7 +2,7 @@
 
 from typing import TYPE_CHECKING
 
-from model import wire
+from wisangub.snmp import wire
 from wisangub.tester.messages import spelled
 from wisangub.tester.objects import EXECUTIVE, SHOWN_CELLS, Name, Row, Value, row_of, scalar, scalar_of
 from wisangub.tester.steps import looks

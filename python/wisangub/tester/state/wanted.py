@@ -3,9 +3,9 @@
 from dataclasses import dataclass
 from typing import Iterable
 
-from model import wire
 from model.codes import BLANK_1
 from model.state import CENTRAL
+from wisangub.snmp import wire
 from wisangub.tester.context import Context
 from wisangub.tester.messages import spelled
 from wisangub.tester.objects import NO_ADDRESS, OWN_CODES, Name, Row, Value, integer, octets, scalar

@@ -1,0 +1,27 @@
+"""Names of objects and words of values, beside the MIB's and the model's."""
+
+from model import names as model
+from model.objects import DMS
+from wisangub.snmp import names
+from wisangub.snmp.mib import Mib
+
+
+def test_names_are_those_of_the_mib() -> None:
+    mib = Mib.read()
+    for word, name in names.OBJECTS.items():
+        assert mib.objects[name] == word
+    assert set(mib.words) >= set(names.OBJECTS)
+    assert mib.name(names.scalar("dmsActivateMessage")) == "dmsActivateMessage.0"
+    assert mib.name(names.cell("dmsMessageStatus", names.Memory.CHANGEABLE, 7)) == "dmsMessageStatus.3.7"
+
+
+def test_names_and_words_are_those_of_the_model() -> None:
+    assert names.DMS == DMS
+    for word in ("COLUMNS", "SCALARS", "KINDS", "TYPES"):
+        assert getattr(names, word) == getattr(model, word)
+
+
+def test_statuses_of_rows_are_those_of_the_mib() -> None:
+    words = Mib.read().words["dmsMessageStatus"]
+    assert [int(status) for status in names.RowStatus] == sorted(words)
+    assert all(words[status].lower() == status.name.replace("_", "").lower() for status in names.RowStatus)
