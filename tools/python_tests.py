@@ -25,7 +25,7 @@ FOLDERS = (
     "tools/*/tests",
     "measures/tests",
     "model/tests",
-    *(f"python/tests/{part}" for part in ("snmp", "process", "endpoint")),
+    *(f"python/tests/{part}" for part in ("package", "snmp", "process", "endpoint")),
 )
 SLOW = ("python/tests/tester/test_signs.py", "tools/tries/tests/test_planted.py")  # a minute of a processor each
 

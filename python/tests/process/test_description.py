@@ -24,7 +24,7 @@ def test_a_description_ends_with_its_line_end_and_a_newline() -> None:
     for after in (b"\n", b"\r\n", b"", b"\n\n\r\n# more\n"):
         found = read(BENCH.rstrip(b"\n") + after)
         assert found == BENCH and description.digest(BENCH) == hashlib.sha256(BENCH).hexdigest(), after
-    assert description.digest(None) == "bench"
+    assert description.BENCH == BENCH and description.digest(None) == "bench"
 
 
 def test_what_is_no_description_is_refused_by_its_line() -> None:

@@ -3,11 +3,11 @@
 import re
 import subprocess
 
-from model import multi
-
 MOST_TEXT = 512
 WAIT = 2.0  # seconds for a call of the program
 FAULT = re.compile(r"^fault (\d+) at (\d+)$", re.MULTILINE)
+# a bracket that is doubled, a tag, or another octet; a bracket that nothing closes or opens is none of them
+PIECE = re.compile(rb"\[\[|\]\]|\[[^\]]*\]|[^\[\]]", re.DOTALL)
 SAID = re.compile(r"^(.*) at octet \d+(?:: (.*))?$", re.MULTILINE)
 
 
@@ -18,19 +18,18 @@ def is_plain(octet: int) -> bool:
 
 def spelled(text: bytes) -> tuple[bytes, list[int]]:
     """The text for a command line, which takes no octet above 127 and no 0, and for each of its octets where it stood.
-    A character by its number is the same to a sign; within a tag such an octet is a fault, whatever it is."""
-    if all(map(is_plain, text)):
-        return text, list(range(len(text) + 1))
-    items, fault = multi.items(text)
-    ends = [at for _, at in items[1:]] + [len(text) if fault is None else fault[1]]
-    made, places = b"", list[int]()
-    for (item, at), end in zip(items, ends):
-        is_named = item[0] == "character" and not is_plain(item[1])
-        piece = b"[hc%X]" % item[1] if is_named else text[at:end]
-        made, places = made + piece, places + [at] * len(piece)
-    rest = text[ends[-1] if items else 0 :]
-    made += bytes(octet if is_plain(octet) else ord("?") for octet in rest)
-    return made, places + list(range(len(text) - len(rest), len(text) + 1))
+    A character by its number is the same to a sign; within a tag such an octet is a fault, whatever it is, and so is
+    all that follows a bracket without another."""
+    made, places, at = b"", list[int](), 0
+    while found := PIECE.match(text, at):
+        piece = found[0] if len(found[0]) > 1 or is_plain(found[0][0]) else b"[hc%X]" % found[0][0]
+        made, places, at = made + plain(piece), places + [at] * len(piece), found.end()
+    return made + plain(text[at:]), places + list(range(at, len(text) + 1))
+
+
+def plain(octets: bytes) -> bytes:
+    """The octets that can stand in a word, and a question mark for each that cannot."""
+    return bytes(octet if is_plain(octet) else ord("?") for octet in octets)
 
 
 def lack(program: str, description: bytes | None, text: bytes, code: int, at: int) -> str:

@@ -6,7 +6,7 @@ from collections.abc import Callable
 
 import pytest
 
-from upkeep import code, crates, documents, drawing, rows, tools, words
+from upkeep import code, crates, documents, drawing, rows, shipped, tools, words
 from upkeep.bars import BARS, NOT_YET, Bar
 from upkeep.tree import Tree
 
@@ -96,7 +96,8 @@ def test_what_crates_owe(made: MakesTree) -> None:
 
 
 def test_doors(made: MakesTree) -> None:
-    page = "pub mod meant;\npub mod kept;\npub mod open;\nmod shut;\n\npub use kept::A;\npub use open::{B, C};\npub use shut::D;\n"
+    modules = "pub mod meant;\npub mod kept;\npub mod open;\nmod shut;\n"
+    page = f"{modules}\npub use kept::A;\npub use open::{{B, C}};\npub use shut::D;\n"
     tree = made(
         crates_txt="one:\n", crates__one__src__lib_rt=page, docs__DECISIONS_md="Two paths lead to `one::kept`.\n"
     )
@@ -291,3 +292,16 @@ def test_lines_of_code(made: MakesTree) -> None:
 
 def test_bars_that_do_not_hold_yet() -> None:
     assert {bar.name for bar in NOT_YET}.isdisjoint(bar.name for bar in BARS)
+
+
+def test_what_is_shipped(made: MakesTree) -> None:
+    good = "import os\nimport aiohttp\nfrom . import model\nfrom wisangub.snmp import wire\n"
+    tree = made(
+        python__wisangub__one_py=good + "def late() -> None:\n    from model.sign import Sign\n",
+        python__wisangub__room__two_py="import trials.room\nimport requests, tools\n",
+        python__tests__three_py="import model\n",
+    )
+    assert shipped.alone(tree) == [
+        f"python/wisangub/{place}: imports {word}, which is not shipped"
+        for place, word in (("one.py:6", "model"), ("room/two.py:1", "trials"), ("room/two.py:2", "requests"))
+    ] + ["python/wisangub/room/two.py:2: imports tools, which is not shipped"]

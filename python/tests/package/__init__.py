@@ -1,0 +1,1 @@
+"""Tests of the package as a whole: what it imports, and how it is installed."""
