@@ -48,6 +48,20 @@ filled() {
         -e "s/@RECOMMENDS@/${recommends:-}/g" "$1"
 }
 
+# entries: the commands that python/pyproject.toml gives an installation, each with its module
+entries() {
+    python3 - "$source/python/pyproject.toml" <<'END'
+import sys
+import tomllib
+
+with open(sys.argv[1], "rb") as file:
+    scripts = tomllib.load(file)["project"]["scripts"]
+for name, (module, function) in ((name, entry.split(":")) for name, entry in sorted(scripts.items())):
+    assert function == "run", name
+    print(name, module)
+END
+}
+
 # command_of NAME MODULE: a command in $usr/bin that runs the module, with the release's own folders in its path
 command_of() {
     cat > "$usr/bin/$1" <<END
@@ -58,7 +72,7 @@ import sys
 
 HOME = pathlib.Path(__file__).resolve().parents[1] / "share/wisangub"
 sys.path[:1] = [str(HOME / "python"), str(HOME)]
-from wisangub.$2 import run  # noqa: E402
+from $2 import run  # noqa: E402
 
 sys.exit(run())
 END
@@ -67,7 +81,7 @@ END
 
 # tree: the release under $usr, for the interpreter $python
 tree() {
-    local share=$usr/share/wisangub page section
+    local share=$usr/share/wisangub page section command module
     mkdir -p "$usr/bin" "$share/python" "$share/docs" "$usr"/share/{doc/wisangub,man/man1,man/man7}
     install -m 755 "$program" "$usr/bin/wisangub-signtool"
     cp -R "$source"/model "$source"/mibs "$source"/signs "$source"/vectors "$share/"
@@ -75,10 +89,8 @@ tree() {
     cp -R "$source"/docs/{PROFILE,COVERAGE,JOURNAL,CONFORMANCE,CONTROL,C}.md "$source"/docs/pictures "$share/docs/"
     rm -rf "$share"/model/tests "$share"/model/signtool
     find "$share" -name '*.py' -exec sed -i '1{/^#!/d}' {} + -exec chmod 644 {} +
-    command_of wisangub-sign endpoint.sign
-    command_of wisangub-centre endpoint.centre
-    command_of wisangub-conform tester.__main__
-    command_of wisangub-control room.__main__
+    entries > "$room/entries"
+    while read -r command module; do command_of "$command" "$module"; done < "$room/entries"
     for page in "$source"/tools/release/man/*.[17]; do
         section=${page##*.}
         filled "$page" | gzip -9n > "$usr/share/man/man$section/${page##*/}.gz"

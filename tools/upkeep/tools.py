@@ -44,7 +44,7 @@ def has_help(tree: Tree) -> list[str]:
         if not re.search(
             r"ArgumentParser\(|--help|from \.cli import main|import main\b|import run\b|def run\(", tree.text(name)
         )
-        and "options(__doc__)" not in tree.text(name)
+        and "options(__doc__" not in tree.text(name)
     ]
 
 

@@ -14,6 +14,7 @@ def test_in_a_checkout() -> None:
 
 
 def test_in_a_release() -> None:
+    assert places.installed().name == "wisangub-signtool"
     with mock.patch.object(places, "IS_CHECKOUT", False):
         assert places.called("wisangub-conform") == "wisangub-conform"
         assert places.called("wisangub-control users") == "wisangub-control users"

@@ -41,7 +41,7 @@ def seconds(word: str) -> float:
 
 def asked_for() -> argparse.Namespace:
     """The options, as far as they go together."""
-    words = options(__doc__)
+    words = options(__doc__, "wisangub-centre")
     words.add_argument(
         "--to", required=True, metavar="HOST:PORT", help="where the sign is; an IPv6 address stands in brackets"
     )

@@ -6,7 +6,7 @@ import dataclasses
 import os
 
 from wisangub.process.coprocess import CoProcess
-from wisangub.process.places import SIGNTOOL
+from wisangub.process.places import SIGNTOOL, add_version
 from wisangub.refusal import Refusal, say
 
 from .files import octets_aside, opened
@@ -18,9 +18,10 @@ from .records import SECTOR, SHORTEST, Head
 MOST_NUMBER = 2**31 - 1  # of a request
 
 
-def options(about: str | None) -> argparse.ArgumentParser:
+def options(about: str | None, command: str) -> argparse.ArgumentParser:
     """The options that both doors have."""
     words = argparse.ArgumentParser(description=about, formatter_class=argparse.RawDescriptionHelpFormatter)
+    add_version(words, command)
     words.add_argument("--signtool", default=str(SIGNTOOL), metavar="PATH", help="the program that answers lines")
     words.add_argument("--sign", metavar="FILE", help="the description of the sign, as in signs/; else the bench sign")
     words.add_argument(

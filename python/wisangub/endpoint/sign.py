@@ -1,8 +1,8 @@
 """A sign on a UDP port: a door between a socket and `signtool sign`.
 
-    wisangub-sign [--port 1161] [--host 127.0.0.1 | --listen HOST:PORT] [--signtool PATH] [--sign FILE] [--journal FILE [--fresh]
-        [--accept-damage] [--need-journal] [--down power|process] [--most-recorded N]] [--log FILE|- [--json]]
-        [--no-ticks] [--lose N] [--quiet]
+    wisangub-sign [--port 1161] [--host 127.0.0.1 | --listen HOST:PORT] [--signtool PATH] [--sign FILE]
+        [--journal FILE [--fresh] [--accept-damage] [--need-journal] [--down power|process] [--most-recorded N]]
+        [--log FILE|- [--json]] [--no-ticks] [--lose N] [--quiet]
 
 Each datagram goes to the sign as a line and its reply back to where it came from; each second is a tick. With a journal
 the sign goes on where it was (docs/JOURNAL.md); what the time without a process was, a loss of power or seconds, is
@@ -33,7 +33,7 @@ from .sockets import Waiting, bound, host_and_port, named
 
 def asked_for() -> argparse.Namespace:
     """The options, as far as they go together."""
-    words = options(__doc__)
+    words = options(__doc__, "wisangub-sign")
     words.add_argument("--host", default="127.0.0.1", help="an IPv4 or IPv6 address, or a name")
     words.add_argument("--port", type=int, default=1161)
     words.add_argument("--listen", metavar="HOST:PORT", help="both in one; an IPv6 address stands in brackets")

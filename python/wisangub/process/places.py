@@ -1,16 +1,39 @@
-"""Where the program stands, and what a command is called: in a checkout of the repository, or in a release of it."""
+"""Where the program and what is read stand, and what a command is called: in a checkout of the repository, in a release
+of it, or in an installed wheel."""
 
 import argparse
 import os
 import pathlib
+import shutil
+import sys
 
-TOP = pathlib.Path(__file__).resolve().parents[3]
+from wisangub import __version__
+
+PACKAGE = pathlib.Path(__file__).resolve().parents[1]
+DATA = PACKAGE / "data"  # what a wheel has of the repository: setup.py says it
+TOP = DATA if DATA.is_dir() else PACKAGE.parents[1]
 BUILT = TOP / "crates/signtool/out/signtool"
 RELEASED = TOP.parents[1] / "bin/wisangub-signtool"  # of share/wisangub
 IS_CHECKOUT = (TOP / "crates").is_dir()
-SIGNTOOL = BUILT if IS_CHECKOUT else RELEASED
 PROFILE = TOP / "docs/PROFILE.md"
-HOMES = [str(TOP / "python"), str(TOP)]  # where this package is found, and the model
+HOMES = [str(PACKAGE.parent), str(PACKAGE.parents[1])]  # where this package is found, and the model of a checkout
+
+
+def installed() -> pathlib.Path:
+    """The program of a release, or for a wheel the one beside its commands, or the first in the path."""
+    beside = pathlib.Path(sys.prefix) / "bin/wisangub-signtool"
+    found = next((str(place) for place in (RELEASED, beside) if place.is_file()), shutil.which("wisangub-signtool"))
+    return pathlib.Path(found or RELEASED)
+
+
+SIGNTOOL = BUILT if IS_CHECKOUT else installed()
+
+
+def add_version(options: argparse.ArgumentParser, command: str) -> None:
+    """The option --version of a command."""
+    options.add_argument(
+        "--version", action="version", version=f"{command} {__version__}", help="the command's name and version"
+    )
 
 
 def program(path: str) -> str:

@@ -11,7 +11,7 @@ import argparse
 import sys
 
 from wisangub.endpoint.sockets import Waiting, host_and_port
-from wisangub.process.places import SIGNTOOL, called
+from wisangub.process.places import SIGNTOOL, add_version, called
 from wisangub.refusal import status_of, tell
 
 from . import fleet, start
@@ -27,6 +27,7 @@ def arguments() -> argparse.ArgumentParser:
         description=__doc__,
         formatter_class=argparse.RawDescriptionHelpFormatter,
     )
+    add_version(words, "wisangub-control")
     words.add_argument("--fleet", required=True, metavar="FILE", help="the signs, as in signs/fleet.toml")
     words.add_argument("--database", default="room.sqlite", metavar="WHERE", help=database.WHERE)
     words.add_argument("--create", action="store_true", help=database.CREATE)

@@ -6,7 +6,7 @@ import pathlib
 import sys
 
 from model import text
-from wisangub.process.places import SIGNTOOL, called
+from wisangub.process.places import SIGNTOOL, add_version, called
 from wisangub.tester.report.picture import pictures
 from wisangub.tester.sign.link import UdpLink
 from wisangub.tester.sign.oracle import Oracle, made
@@ -27,6 +27,7 @@ def arguments() -> argparse.ArgumentParser:
     parser = argparse.ArgumentParser(
         prog=called("wisangub-conform"), description="compares a sign over UDP with the proved one, reply by reply"
     )
+    add_version(parser, "wisangub-conform")
     parser.add_argument("--to", required=True, metavar="HOST:PORT", help="where the sign under test answers")
     parser.add_argument(
         "--sign", required=True, type=pathlib.Path, metavar="DESCRIPTION", help="its description, as in signs/"

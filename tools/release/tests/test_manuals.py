@@ -34,7 +34,7 @@ def said(words: list[str]) -> str:
 def in_manual(name: str) -> set[str]:
     """The long options of a manual page."""
     text = (MAN / f"{name}.1").read_text(encoding="utf-8")
-    return set(re.findall(r"Fl -([a-z][a-z-]*)", text)) - {"help", "version"}
+    return set(re.findall(r"Fl -([a-z][a-z-]*)", text)) - {"help"}
 
 
 @pytest.mark.parametrize("name", COMMANDS)
@@ -47,7 +47,7 @@ def test_options(name: str) -> None:
 @pytest.mark.skipif(not PROGRAM.exists(), reason="the program is not built")
 def test_options_of_the_program() -> None:
     wanted = set().union(*(options(said([str(PROGRAM), part])) for part in PARTS))
-    assert wanted == in_manual("wisangub-signtool")
+    assert wanted == in_manual("wisangub-signtool") - {"version"}  # of the program itself
 
 
 @pytest.mark.skipif(not PROGRAM.exists(), reason="the program is not built")

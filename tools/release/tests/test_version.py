@@ -20,6 +20,11 @@ def test_the_newest_changes_are_of_this_version() -> None:
     assert re.findall(r"(?m)^## (\S+)", text)[0] == version()
 
 
+def test_the_package_is_of_this_version() -> None:
+    text = (TOP / "python/wisangub/__init__.py").read_text(encoding="utf-8")
+    assert re.findall(r'(?m)^__version__ = "(.*?)"', text) == [version()]
+
+
 def test_one_place(tmp_path: pathlib.Path) -> None:
     folder = tmp_path / "crates/one/src"
     folder.mkdir(parents=True)
