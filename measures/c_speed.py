@@ -8,8 +8,8 @@ out). Times of calls are the least of forty passes. Requests a second are those 
 signd and snmpd take turns, and the middle turn of each is told. snmpd has the sign's own objects, name for name, with
 its directive `override`, beside all of its own; so that the first three kinds are the same datagrams to both, and the
 next three are of the objects that are its own. A walk is 200 GetNexts, each of the name that the one before it read. A
-SET writes a number (a row's run-time priority; nsCacheDefaultTimeout); one that is kept a text of 12 octets, which signd
-has on the disk before it answers, and snmpd (sysContact) in its persistent file.
+SET writes a number (a row's run-time priority; nsCacheDefaultTimeout); one that is kept a text of 12 octets, which
+signd has on the disk before it answers, and snmpd (sysContact) in its persistent file.
 """
 
 from __future__ import annotations

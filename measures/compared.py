@@ -71,7 +71,8 @@ def compared(page: str, measures: list[Counted]) -> tuple[int, list[str]]:
         more = round(measure.instructions) - rows[place]
         if more > MOST_MORE * rows[place]:
             found.append(
-                f"{measure.topic}: {measure.name}: {round(measure.instructions):,} instructions, {rows[place]:,} recorded, "
+                f"{measure.topic}: {measure.name}: {round(measure.instructions):,} instructions, "
+                f"{rows[place]:,} recorded, "
                 f"{100 * more / rows[place]:.1f} per cent more"
             )
     for first, name in rows:

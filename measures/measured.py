@@ -2,7 +2,7 @@
 """Prints tables of the measures: the times of the proved calls and of those by hand, and their instructions.
 
     measures/measured.py [--instructions] [--times] [TOPIC ..]
-    measures/measured.py --compare measures/MEASURED.md [TOPIC ..]     which take more instructions than the page records
+    measures/measured.py --compare measures/MEASURED.md [TOPIC ..]   which take more instructions than the page records
 
 It runs the program that measures/run.sh builds, crates/dms_measures/out/measure; its `--list` names the topics. Times
 are the least of interleaved passes of two milliseconds or more. Instructions are counted by callgrind (Debian's package

@@ -1,4 +1,5 @@
-"""The model of model as a co-process, one line in and its answer out: a stand-in for `signtool sign` and `signtool centre`.
+"""The model of model as a co-process, one line in and its answer out: a stand-in for `signtool sign` and `signtool
+centre`.
 
     model/signtool sign [--sign]       model/signtool centre [--sign]
 

@@ -39,7 +39,7 @@ STEPS = (
     Step("library for C", "python3 -m trials.c_library --short --program {program}", 720),
     Step("helps", "tools/helps.sh", 400),
     Step("control room", "env -C python python3 -m tests.room.short --signtool {program}", 900),
-    Step("tests of tools, types", "tools/python_tests.py", 900),
+    Step("tests of tools, types", "tools/python_tests.py", 1800),
     Step("house", "tools/house.py --check", 60),
     Step("table of objects", "tools/objects.py --check", 60),
     Step("table of definitions", "tools/definitions.py --check", 60),

@@ -1,13 +1,14 @@
 #!/usr/bin/env python3
-"""Looks that nothing calls itself to a depth that its input decides: `tools/call_depths.py` prints `N passed, N failed`.
+"""Looks that nothing calls itself to a depth that its input decides: `tools/call_depths.py` prints `N passed, N
+failed`.
 
     tools/call_depths.py [--program crates/signtool/out/signtool] [--library crates/wisangub_c/out/libwisangub_c.a]
 
 What calls itself, by itself or through others, is looked for in the built program and in the library for C (objdump of
-binutils prints their instructions), in the libraries of the crates that the kit's compiler left (these have the calls of
-the sources, before some become loops), and in proofs/, where a call of a function's own has its measure. Each such cycle
-has to be a row of tools/depths/bounds.py, which says what bounds its depth; the number is looked up in the sources. A row
-whose cycle is gone fails too. What is not built here is skipped by name.
+binutils prints their instructions), in the libraries of the crates that the kit's compiler left (these have the calls
+of the sources, before some become loops), and in proofs/, where a call of a function's own has its measure. Each such
+cycle has to be a row of tools/depths/bounds.py, which says what bounds its depth; the number is looked up in the
+sources. A row whose cycle is gone fails too. What is not built here is skipped by name.
 """
 
 from __future__ import annotations

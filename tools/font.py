@@ -3,8 +3,9 @@
 
     tools/font.py lines DRAWING             prints the font's lines
     tools/font.py drawing FONT              prints the drawing of a font's lines
-    tools/font.py write SIGN..              puts the fonts into descriptions: below each line `# font FILE` come the lines
-                                            of the drawing FILE (beside the description) up to the next `# font` or `end`
+    tools/font.py write SIGN..              puts the fonts into descriptions: below a line `# font FILE` come the lines
+                                            of the drawing FILE (beside the description) up to the next `# font` or
+                                            `end`
     tools/font.py check SIGN..              fails where `write` would change a description, or where a drawing does not
                                             come back from its own lines
 

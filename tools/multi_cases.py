@@ -3,8 +3,8 @@
 
 usage: tools/multi_cases.py VECTORS.jsonl > crates/dms_text_tests/src/multi/cases.rt
 
-Each vector has `text` and `canonical` (octets in hexadecimal), `spots` (first, past, item) and `fault` (code, place, or null).
-Taken are short texts of printable ASCII, as many as LIMIT.
+Each vector has `text` and `canonical` (octets in hexadecimal), `spots` (first, past, item) and `fault` (code, place, or
+null). Taken are short texts of printable ASCII, as many as LIMIT.
 """
 import argparse
 import json

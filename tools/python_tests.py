@@ -1,12 +1,14 @@
 #!/usr/bin/env python3
-"""Runs pytest in each folder of tests of the tools, and mypy: `tools/python_tests.py` prints `N passed, N failed`.
+"""Runs pytest in each folder of tests of the tools, mypy, black, isort and flake8: it prints `N passed, N failed`.
 
     tools/python_tests.py [FOLDER ..]
-    tools/python_tests.py --quick | --types                 the tests that take seconds, or mypy alone
+    tools/python_tests.py --quick | --types | --layout      tests of seconds; mypy alone; black, isort and flake8
+    tools/python_tests.py --layout --changed                of the files alone that are not as main has them
 
 The tests of the tester and of the control room are run by `tests.tester.short` and `tests.room.short`. A folder is a
-run of its own, as in a fresh clone. Both programs are taken of this Python, or of the system's where this one has them
-not, and are skipped by name where neither has.
+run of its own, as in a fresh clone. The programs are taken of this Python, or of the system's where this one has them
+not, and are skipped by name where neither has. black keeps in its own cache which files are as it would have them: over
+all files it takes a minute or some the first time, and then seconds.
 """
 
 from __future__ import annotations
@@ -19,6 +21,8 @@ import subprocess
 import sys
 from collections.abc import Sequence
 
+from steps.changed import changed_python
+
 TOP = pathlib.Path(__file__).resolve().parent.parent
 PYTHONS = (sys.executable, "/usr/bin/python3")
 FOLDERS = (
@@ -28,6 +32,13 @@ FOLDERS = (
     *(f"python/tests/{part}" for part in ("package", "snmp", "process", "endpoint")),
 )
 SLOW = ("python/tests/tester/test_signs.py", "tools/tries/tests/test_planted.py")  # a minute of a processor each
+
+CONFIGURED = "python/pyproject.toml"
+LAYOUTS = {  # .flake8 has the options of flake8
+    "black": ["--check", "--quiet", "--config", CONFIGURED],
+    "isort": ["--check-only", "--filter-files", "--settings-path", CONFIGURED],
+    "flake8": [],
+}
 
 
 def python_with(module: str) -> str | None:
@@ -62,9 +73,27 @@ def tested(python: str, folder: str, left_out: Sequence[str] = ()) -> tuple[int,
 
 def typed(python: str) -> tuple[int, int]:
     """Whether the types of all Python here fit."""
-    status, said = ran(python, "-m", "mypy", "--config-file", "python/pyproject.toml", "--cache-dir", os.devnull)
+    status, said = ran(python, "-m", "mypy", "--config-file", CONFIGURED, "--cache-dir", os.devnull)
     print(said[-6000:] if status else f"mypy: {said.strip()}", flush=True)
     return int(not status), int(bool(status))
+
+
+def laid_out(files: Sequence[str]) -> list[tuple[int, int]]:
+    """Whether black, isort and flake8 would have these files so, or all below these folders."""
+    found = []
+    for name, options in LAYOUTS.items():
+        python = python_with(name)
+        if python is None:
+            print(f"skipped {name}: it is not here")
+            continue
+        status, said = ran(python, "-m", name, *options, *files)
+        more = f"\n{said[-6000:]}" if said.strip() else ""
+        print(
+            f"{name}: other than {CONFIGURED} and .flake8 say{more}" if status else f"{name}: as it is laid out",
+            flush=True,
+        )
+        found.append((int(not status), int(bool(status))))
+    return found
 
 
 def main() -> int:
@@ -72,21 +101,26 @@ def main() -> int:
     words.add_argument("folders", nargs="*", metavar="FOLDER", help="the tests of these folders alone, without mypy")
     words.add_argument("--quick", action="store_true", help=f"without {', '.join(SLOW)}, and without mypy")
     words.add_argument("--types", action="store_true", help="mypy alone")
+    words.add_argument("--layout", action="store_true", help="black, isort and flake8 alone")
+    words.add_argument("--changed", action="store_true", help="of --layout: the files that are not as main has them")
     asked = words.parse_args()
     every = sorted(str(path.relative_to(TOP)) for pattern in FOLDERS for path in TOP.glob(pattern))
     results = []
-    if asked.types:
+    if asked.types or asked.layout:
         pass
     elif python := python_with("pytest"):
         results += [tested(python, folder, SLOW if asked.quick else ()) for folder in asked.folders or every]
     else:
         print("skipped pytest: python3-pytest is not here")
-    if asked.folders or asked.quick:
+    if asked.folders or asked.quick or asked.layout:
         pass
     elif python := python_with("mypy"):
         results.append(typed(python))
     else:
         print("skipped mypy: it is not here")
+    if asked.layout or not (asked.folders or asked.quick or asked.types):
+        files = changed_python(TOP) if asked.changed else None
+        results += laid_out(["."] if files is None else files) if files != [] else [(1, 0)]
     failed = sum(failed for _, failed in results)
     print(f"{sum(passed for passed, _ in results)} passed, {failed} failed")
     return 1 if failed else 0

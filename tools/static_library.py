@@ -3,12 +3,12 @@
 
     tools/static_library.py [--target aarch64-unknown-linux-gnu] [--standing] [--processors N] CRATE
 
-The crates below are taken as tools/build.py or `rt ci` proved them, from the sources that stand here, so the crate alone
-is proved, in some minutes. Those of which no proof stands are proved first, as tools/build.py does it and where it finds
-them again. A library that was made from the same is taken as it is, in a second.
+The crates below are taken as tools/build.py or `rt ci` proved them, from the sources that stand here, so the crate
+alone is proved, in some minutes. Those of which no proof stands are proved first, as tools/build.py does it and where
+it finds them again. A library that was made from the same is taken as it is, in a second.
 
-With --standing no other crate is proved: where one lacks, nothing is built, a line `skipped libCRATE.a: why` says which,
-and the exit status is 3. So it is where there is no kit; but a library that is there is then taken unseen.
+With --standing no other crate is proved: where one lacks, nothing is built, a line `skipped libCRATE.a: why` says
+which, and the exit status is 3. So it is where there is no kit; but a library that is there is then taken unseen.
 """
 
 from __future__ import annotations

@@ -53,7 +53,8 @@ OF_CONTROL = [f"python/tests/room/test_{part}.py" for part in ("fleet", "reading
 OWN = (
     Step("model", "python3 -m trials.compare_model --program {program} --seconds 40", 900, "", 41),
     Step("tests of the tester", "tools/python_tests.py --quick python/tests/tester", 899, "", 25),
-    Step("types", "tools/python_tests.py --types", 898, "", 26),
+    Step("types", "tools/python_tests.py --types", 1198, "", 26),
+    Step("layout of Python", "tools/python_tests.py --layout --changed", 600, "", 10),
     Step("tests of tools", "tools/python_tests.py --quick", 897, "", 20),
     Step("parts of the control room", f"tools/python_tests.py --quick {' '.join(OF_CONTROL)}", 600, "", 4),
 )

@@ -1,6 +1,8 @@
-"""The library for C against the vectors, the program and hostile callers: `python3 -m trials.c_library` prints `N passed, N failed`.
+"""The library for C against the vectors, the program and hostile callers: `python3 -m trials.c_library` prints `N
+passed, N failed`.
 
-    python3 -m trials.c_library [--short] [--library crates/wisangub_c/out/libwisangub_c.a] [--aarch64 LIBRARY] [--program PATH]
+    python3 -m trials.c_library [--short] [--library crates/wisangub_c/out/libwisangub_c.a] [--aarch64 LIBRARY]
+        [--program PATH]
         [--seconds 60] [--seed 1]
 
 Without --library it is taken as it stands, and made where it is of other sources, by tools/static_library.py. Needed is

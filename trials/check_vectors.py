@@ -1,8 +1,10 @@
-"""Runs the program over vectors/*.jsonl: `python3 -m trials.check_vectors [--program PATH] [--count N]` prints `N passed, N failed`.
+"""Runs the program over vectors/*.jsonl: `python3 -m trials.check_vectors [--program PATH] [--count N]` prints `N
+passed, N failed`.
 
-Datagrams go through `decode`, texts through `items`, `check` and `pages`, codes through `code` and `activation`, requests through `answer`, scripts
-through `replay`. What `decode`, `items` and `check` print with --json is made into lines again, which have to be those
-that are wanted without. Names of objects are those of mibs/DMS-PROFILE-MIB. With --count only so many cases of each file are taken.
+Datagrams go through `decode`, texts through `items`, `check` and `pages`, codes through `code` and `activation`,
+requests through `answer`, scripts through `replay`. What `decode`, `items` and `check` print with --json is made into
+lines again, which have to be those that are wanted without. Names of objects are those of mibs/DMS-PROFILE-MIB. With
+--count only so many cases of each file are taken.
 """
 
 import argparse

@@ -2,9 +2,10 @@
 
     python3 -m trials.compare_coprocess [--signtool PATH] [--count 4000] [--seed 1] [--sign FILE]
 
-Two pairs of a sign and a centre are spoken to, one of each kind. What a centre sends is handed to its sign, and what a sign
-replies to its centre, now and then changed in an octet; between them come ticks, power losses, commands, datagrams of
-vectors/ and lines that are none. Each answer has to be the same. It prints what differs, and last `N passed, N failed`.
+Two pairs of a sign and a centre are spoken to, one of each kind. What a centre sends is handed to its sign, and what a
+sign replies to its centre, now and then changed in an octet; between them come ticks, power losses, commands, datagrams
+of vectors/ and lines that are none. Each answer has to be the same. It prints what differs, and last `N passed, N
+failed`.
 """
 
 import argparse
@@ -72,7 +73,8 @@ class Lines:
             memory, number = self.chance.choice([(3, 1), (3, 2), (4, 1), (4, 9), (2, 1)])
             return (
                 f"publish {memory} {number} {self.chance.choice(TEXTS)} {self.chance.choice(['-', '6d65'])} "
-                f"{self.chance.choice('01')} {self.chance.choice('01')} {self.chance.choice([0, 50, 255])} {minutes} {priority} {address}"
+                f"{self.chance.choice('01')} {self.chance.choice('01')} {self.chance.choice([0, 50, 255])} "
+                f"{minutes} {priority} {address}"
             )
         return f"blank {self.chance.choice([1, 255, 65535])} {minutes} {priority} {address}"
 

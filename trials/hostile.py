@@ -1,6 +1,7 @@
 """Puts hostile datagrams through `signtool replay`, at both ends, and looks that nothing was harmed.
 
-    python3 -m trials.hostile [--count 20000] [--seed 1] [--program crates/signtool/out/signtool] [--print | --udp [--door PATH]]
+    python3 -m trials.hostile [--count 20000] [--seed 1] [--program crates/signtool/out/signtool] [--print | --udp
+        [--door PATH]]
 
 A publication to the bench sign is carried out datagram by datagram, and before each of its events a share of hostile
 datagrams is handed to the sign and to the centre: requests and replies whose fields are changed (forms of lengths, tag
@@ -11,8 +12,8 @@ end could tell from its partner: a SET that is in order and has the writing comm
 waits for. A script holds at most 1,048,576 octets, so as many scripts are run as the count needs. Of each report every
 line is foretold, the number of the sign's replies too, by the reader of model.
 
-It prints what each script took, and last `N passed, M failed`. With --print it prints the first script alone. With --udp
-the datagrams to the sign, and those that are left out too, go to a sign's door over UDP, wisangub-sign or that of
+It prints what each script took, and last `N passed, M failed`. With --print it prints the first script alone. With
+--udp the datagrams to the sign, and those that are left out too, go to a sign's door over UDP, wisangub-sign or that of
 --door (examples/signd.c), and each reply has to be the model's.
 """
 

@@ -1,4 +1,5 @@
-"""Calls of the program for trials/refuse_memory.sh: `python3 -m trials.memory_cases FOLDER` writes NAME.words and NAME.input.
+"""Calls of the program for trials/refuse_memory.sh: `python3 -m trials.memory_cases FOLDER` writes NAME.words and
+NAME.input.
 
 Requests, dropped datagrams, refusals, a publication, and requests whose replies are too big; then what reads a sign's
 description. The words of a call stand one a line.

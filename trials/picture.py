@@ -1,11 +1,12 @@
-"""Looks at the program's pictures with a browser: `trials/picture.sh [--program PATH] [--keep FOLDER]` prints `N passed, N failed`.
+"""Looks at the program's pictures with a browser: `trials/picture.sh [--program PATH] [--keep FOLDER]` prints `N
+passed, N failed`.
 
     python3 -m trials.picture --read [--program PATH]      without a browser
 
-Each picture of `signtool pages --svg` is drawn by headless Chromium at some moments. The middle of each lamp must have the colour that
-the text's cell has then: a page is up for its time, a flash begins with its first time where the page comes up (model lays the
-text out). With --keep the pictures stay as PNG files; docs/ has three of them. With --read the document's own paths and animations
-are read, at each tenth of its first twenty seconds.
+Each picture of `signtool pages --svg` is drawn by headless Chromium at some moments. The middle of each lamp must have
+the colour that the text's cell has then: a page is up for its time, a flash begins with its first time where the page
+comes up (model lays the text out). With --keep the pictures stay as PNG files; docs/ has three of them. With --read the
+document's own paths and animations are read, at each tenth of its first twenty seconds.
 """
 
 import argparse

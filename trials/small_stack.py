@@ -1,12 +1,13 @@
-"""Runs each call of the program over its largest inputs with a small stack: `python3 -m trials.small_stack` prints `N passed, N failed`.
+"""Runs each call of the program over its largest inputs with a small stack: `python3 -m trials.small_stack` prints `N
+passed, N failed`.
 
     python3 -m trials.small_stack [--program crates/signtool/out/signtool] [--stack 256] [--only WORD] [--list]
 
 The stack has 256 KB (`ulimit -s 256`), a thirty-second of what a process has else. The inputs are those of
-trials/largest_inputs.py: descriptions and scripts of 1,048,576 octets, of many lines and of long ones, with their fault on
-the first line and on the last; texts of 512 octets and more; datagrams of most bindings; co-processes with 10,000 lines.
-A call has to end in a minute with its status and its first words, and not by a signal; where no status is said beforehand
-it is 0 or 1. With --only the calls whose name has that word; --list says their names alone.
+trials/largest_inputs.py: descriptions and scripts of 1,048,576 octets, of many lines and of long ones, with their fault
+on the first line and on the last; texts of 512 octets and more; datagrams of most bindings; co-processes with 10,000
+lines. A call has to end in a minute with its status and its first words, and not by a signal; where no status is said
+beforehand it is 0 or 1. With --only the calls whose name has that word; --list says their names alone.
 """
 
 from __future__ import annotations

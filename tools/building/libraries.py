@@ -1,5 +1,5 @@
-"""The libraries over which `rt` works in a crate: those in out/rlib/ of each crate below, beside its own sums of what they
-were made from."""
+"""The libraries over which `rt` works in a crate: those in out/rlib/ of each crate below, beside its own sums of what
+they were made from."""
 
 from __future__ import annotations
 

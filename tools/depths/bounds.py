@@ -143,6 +143,7 @@ BOUNDS = (
     Bound(
         ("std_collections::btree::node::Node::destroy",),
         20,
-        "a call for each level of a tree that has five keys or more in each node but its first: 2^44 keys have 20 levels",
+        "a call for each level of a tree that has five keys or more in each node but its first: "
+        "2^44 keys have 20 levels",
     ),
 )

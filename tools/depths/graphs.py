@@ -8,7 +8,8 @@ Calls = dict[str, set[str]]
 
 
 def cycles(calls: Calls) -> list[tuple[str, ...]]:
-    """The sets of functions each of which calls all others of its set, and itself (Tarjan, without a call of its own)."""
+    """The sets of functions each of which calls all others of its set, and itself (Tarjan, without a call of its
+    own)."""
     place: dict[str, int] = {}
     lowest: dict[str, int] = {}
     open_names: list[str] = []

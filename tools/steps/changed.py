@@ -1,4 +1,4 @@
-"""Which crates changed, as git tells: by what is checked out, and by what git does not track yet."""
+"""Which crates and files in Python changed, as git tells: by what is checked out, and by what it does not track yet."""
 
 from __future__ import annotations
 
@@ -26,6 +26,18 @@ def base(top: pathlib.Path) -> str | None:
     found = [told(top, "merge-base", "HEAD", name) for name in MAINS]
     known = [commit.strip() for commit in [*found, told(top, "rev-parse", "HEAD")] if commit]
     return known[0] if known else None
+
+
+def changed_python(top: pathlib.Path) -> list[str] | None:
+    """The files in Python that are not as main has them; nothing where git does not tell."""
+    since = base(top)
+    if since is None:
+        return None
+    tracked = told(top, "diff", "--name-only", "--no-renames", "-z", since, "--", "*.py")
+    others = told(top, "ls-files", "--others", "--exclude-standard", "-z", "--", "*.py")
+    if tracked is None or others is None:
+        return None
+    return sorted(name for name in {*tracked.split("\0"), *others.split("\0")} if name and (top / name).is_file())
 
 
 def names_of(paths: Iterable[str]) -> set[str]:

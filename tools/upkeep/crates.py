@@ -47,7 +47,8 @@ def named(tree: Tree) -> list[str]:
 
 
 def headings(text: str, wanted: set[str]) -> list[tuple[str, str]]:
-    """The houses of a page in its order, each with its text: a heading, or a row of a table that begins with its name."""
+    """The houses of a page in its order, each with its text: a heading, or a row of a table that begins with its
+    name."""
     marks = list(re.finditer(r"(?m)^(?:#+ |\| \*\*)([A-Za-z ]+)", text))
     ends = [mark.start() for mark in marks[1:]] + [len(text)]
     parts = [(mark[1].strip().lower(), text[mark.end() : end]) for mark, end in zip(marks, ends)]

@@ -52,7 +52,8 @@ def of_names(tree: Tree) -> list[str]:
 
 
 def of_words(tree: Tree) -> list[str]:
-    """Crates of which crates.txt says nothing or too much, or not why they are apart, or another reason than the page."""
+    """Crates of which crates.txt says nothing or too much, or not why they are apart, or another reason than the
+    page."""
     known, reasons = [name for names in families(tree).values() for name in names], told(tree)
     found = []
     for crate, (what, apart) in said(tree).items():

@@ -12,7 +12,8 @@ OTHER = re.compile(r'\s*$|<|.*\),$|.*";$| {4}b?"')
 
 
 def has_words(lines: list[str], at: int) -> bool:
-    """Whether words stand above this line, before any other row. An answer has those of its line, which begins with `>`."""
+    """Whether words stand above this line, before any other row. An answer has those of its line, which begins with
+    `>`."""
     for line in reversed(lines[:at]):
         if WORDS.match(line):
             return True

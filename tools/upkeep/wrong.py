@@ -39,7 +39,8 @@ def listed(tree: Tree) -> list[str]:
 
 
 def promises(tree: Tree, crate: str) -> bool:
-    """Whether public functions of a crate have clauses; laws have no body, and what is measured or run has no clause."""
+    """Whether public functions of a crate have clauses; laws have no body, and what is measured or run has no
+    clause."""
     heads = [
         public["head"]
         for name in crates.sources(tree, crate)

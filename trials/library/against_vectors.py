@@ -58,7 +58,8 @@ def requests(named: Named) -> None:
 
 
 def datagrams(named: Named) -> None:
-    """Each datagram to both ends as they start: the sign's reply is the model's, and the central system sends nothing."""
+    """Each datagram to both ends as they start: the sign's reply is the model's, and the central system sends
+    nothing."""
     with named.talk() as talk:
         for case in cases("datagrams"):
             octets = case["octets"] or "-"

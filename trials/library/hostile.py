@@ -47,8 +47,8 @@ def told(trial: Trial, call: int) -> tuple[int, list[str]]:
 
 
 def refusals(trial: Trial) -> None:
-    """A talk with each of its allocations refused, in turn: what wants memory says so once, nothing has changed, and when
-    it is asked again it is answered as ever. The first number at which none is refused ends it."""
+    """A talk with each of its allocations refused, in turn: what wants memory says so once, nothing has changed, and
+    when it is asked again it is answered as ever. The first number at which none is refused ends it."""
     _, wanted = told(trial, 0)
     for call in itertools.count(1):
         refused, found = told(trial, call)

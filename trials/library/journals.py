@@ -95,8 +95,8 @@ def accepted(trial: Trial) -> None:
 
 
 def killed_anew(trial: Trial) -> None:
-    """A journal of form 1 is written anew by doors that are killed at any moment: it is whole in one form, and all lines
-    are there. The old file is kept once."""
+    """A journal of form 1 is written anew by doors that are killed at any moment: it is whole in one form, and all
+    lines are there. The old file is kept once."""
     journal, older = trial.folder / "anew.journal", trial.folder / "anew.journal.form1"
     lines = [head(1), *MOMENT, *(b"ticks %d" % (1 + number % 7) for number in range(LONG))]
     octets = records.older(lines)

@@ -44,8 +44,8 @@ class Late(Exception):
 
 
 class Trial:
-    """A folder with the examples, what passed and what failed. In the short form nothing begins after the moment `ends`,
-    and after LAST more seconds what still runs is stopped."""
+    """A folder with the examples, what passed and what failed. In the short form nothing begins after the moment
+    `ends`, and after LAST more seconds what still runs is stopped."""
 
     def __init__(
         self, folder: pathlib.Path, program: pathlib.Path, chance: random.Random, ends: float = float("inf")

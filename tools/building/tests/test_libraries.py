@@ -38,7 +38,8 @@ def rt() -> types.ModuleType:
     module = types.ModuleType("rt")
     module.Crate = Crate  # type: ignore[attr-defined]
     module.handles_of = lambda top: ""  # type: ignore[attr-defined]
-    module.crates_of = lambda top: [Crate(name) for name in ("low", "high", "beside", "program")]  # type: ignore[attr-defined]
+    names = ("low", "high", "beside", "program")
+    module.crates_of = lambda top: [Crate(name) for name in names]  # type: ignore[attr-defined]
     return module
 
 

@@ -5,7 +5,7 @@ import subprocess
 
 import pytest
 
-from steps.changed import base, changed
+from steps.changed import base, changed, changed_python
 
 
 def git(top: pathlib.Path, *words: str) -> None:
@@ -41,6 +41,17 @@ def test_what_is_changed_in_place_added_and_not_tracked(top: pathlib.Path) -> No
     write(top, "crates/high/proofs/Added.antt")
     git(top, "add", "crates/high")
     assert changed(top) == ["high", "low", "middle"]
+
+
+def test_python_that_is_changed_added_and_not_tracked(top: pathlib.Path) -> None:
+    assert changed_python(top) == []
+    write(top, "tools/one.py")
+    git(top, "add", "tools/one.py")
+    write(top, "python/two.py")
+    write(top, "python/two.css")
+    assert changed_python(top) == ["python/two.py", "tools/one.py"]
+    (top / "tools/one.py").unlink()
+    assert changed_python(top) == ["python/two.py"]
 
 
 def test_what_no_check_reads_does_not_count(top: pathlib.Path) -> None:
