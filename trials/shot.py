@@ -12,10 +12,10 @@ import subprocess
 import sys
 import tempfile
 
+from trials.wrong_signs import bench
 from trials.wrong_signs.load import sign_of
 from trials.wrong_signs.table import MUTANTS
 from wisangub.process.places import TOP
-from wisangub.tester import bench
 from wisangub.tester.chapters import ALL
 from wisangub.tester.report.page import as_html
 from wisangub.tester.report.picture import pictures
@@ -32,7 +32,7 @@ def report() -> str:
     session = bench.session(description, wrong, requests=500)
     results = bench.run(session)
     for difference in results.differences():
-        difference.pictures = pictures(difference, session.context, session.pair.oracle)
+        difference.pictures = pictures(difference, session.context)
     about = About("127.0.0.1:1161", SIGN, "model", None, 1, 500, False, "a simulated clock", "model")
     return as_html(results, about, not_tested(session.context, results, ALL))
 

@@ -10,13 +10,14 @@ import sys
 from dataclasses import dataclass
 
 from model import text
-from wisangub.tester import bench
 from wisangub.tester.chapters import ALL
-from wisangub.tester.kept import keep
 from wisangub.tester.rules import RULES
-from wisangub.tester.sign.oracle import made
+from wisangub.tester.sign.judge import Judge, SignJudge
+from wisangub.tester.sign.oracle import Oracle, made
 
+from . import bench
 from .load import Mutant, sign_of, unload
+from .model_cache import keep
 from .table import MUTANTS
 
 MOST_DATAGRAMS = 10
@@ -31,19 +32,27 @@ class Outcome:
     words: str
 
 
+def judges(program: str, description: bytes) -> tuple[Oracle, Judge]:
+    """What the sign is beside: the program, or the model in this process."""
+    if program == "model":
+        return bench.ModelOracle(description), bench.ModelJudge(description)
+    return made(program, description), SignJudge(program, description)
+
+
 def tried(mutant: Mutant, description: bytes, program: str, is_short: bool = False) -> Outcome:
     """The whole test of a wrong sign, up to its first difference; the short form begins with its rule's chapter."""
     wanted = RULES[mutant.rule].chapter
     description = description.replace(b"\nhas 1 0\n", b"\nhas " + mutant.has + b"\n")
     description = description.replace(b"\norder high\n", b"\norder " + mutant.order + b"\n")
-    oracle = made(program, description)
+    oracle, judge = judges(program, description)
     sign = sign_of([mutant], description)
     try:
-        session = bench.session(description, sign, oracle, requests=400, is_slow=True, most_differences=1)
+        session = bench.session(description, sign, oracle, judge, requests=400, is_slow=True, most_differences=1)
         chapters = sorted(ALL, key=lambda chapter: chapter.name != wanted) if is_short else ALL
         found = session.run(chapters).differences()
     finally:
         oracle.end()
+        judge.end()
         unload([mutant])
     if not found:
         return Outcome(mutant.name, False, f"{wanted}: nothing differs")

@@ -13,12 +13,12 @@ import time
 import traceback
 
 from trials.wrong_signs.__main__ import BENCH, tried
+from trials.wrong_signs.model_cache import keep
 from trials.wrong_signs.table import MUTANTS
-from wisangub.tester.kept import keep
 
 MODULES = tuple(
     f"tests.tester.test_{part}"
-    for part in ("signs", "udp", "parts", "reports", "ways", "seconds", "watch", "ask_vectors")
+    for part in ("signs", "judge", "udp", "parts", "reports", "ways", "seconds", "watch", "ask_vectors")
 )
 
 

@@ -1,18 +1,21 @@
 """The parts by themselves: rules, comparison, ticks, steps."""
 
+import ast
 import random
 
 from model import text
 from model import wire as model_wire
+from trials.wrong_signs import bench, model_cache
 from trials.wrong_signs.load import edited
 from trials.wrong_signs.table import MUTANTS
+from wisangub.process.places import TOP
 from wisangub.snmp import wire
-from wisangub.tester import bench, kept
 from wisangub.tester.chapters import ALL
 from wisangub.tester.classify import rule_of
 from wisangub.tester.clock import SimulatedClock
 from wisangub.tester.compare import Kind, fields, mismatch
 from wisangub.tester.context import Context
+from wisangub.tester.described import described
 from wisangub.tester.objects import integer, scalar
 from wisangub.tester.repeat import steps_of
 from wisangub.tester.rules import CHAPTERS, RULES, is_in_profile
@@ -24,6 +27,21 @@ HEIGHT = scalar(2, 3)
 
 def response(number: int = 7, status: int = 0, index: int = 0, value: int = 14, community: bytes = b"public") -> bytes:
     return wire.written(wire.Message(wire.RESPONSE, community, number, status, index, [(HEIGHT, integer(value))]))
+
+
+def imports(source: str) -> set[str]:
+    """The packages that a module imports."""
+    nodes = list(ast.walk(ast.parse(source)))
+    names = [alias.name for node in nodes if isinstance(node, ast.Import) for alias in node.names]
+    names += [node.module or "" for node in nodes if isinstance(node, ast.ImportFrom) and not node.level]
+    return {name.split(".")[0] for name in names}
+
+
+def test_the_tester_imports_no_model() -> None:
+    modules = list((TOP / "python/wisangub/tester").rglob("*.py"))
+    assert len(modules) > 50
+    for module in modules:
+        assert not imports(module.read_text(encoding="utf-8")) & {"model", "trials", "tools"}, module
 
 
 def test_every_rule_stands_in_the_profile() -> None:
@@ -100,8 +118,8 @@ def test_chapters_are_made_for_any_sign() -> None:
         b"size 1 1\ncommunities a b\nrows 0 0\norder swapped\nhas 0 0\ndefaults 0 0 0 0 9 2 2 0 0\nfirst 1\n"
         b"font 9 height 1 space 0 line 0 version 0000\nend\n"
     )
-    described = text.described(bare)
-    context = Context(described, (described.reader, described.writer), requests=100, is_slow=True)
+    sign = described(bare)
+    context = Context(sign, (sign.reader, sign.writer), bench.ModelJudge(bare), requests=100, is_slow=True)
     for chapter in ALL:
         for block in chapter.blocks(context):
             assert all(step.rule == "" or step.rule in RULES for step in block.steps), block.name
@@ -116,8 +134,8 @@ def test_each_mutant_is_one_edit_of_a_rule() -> None:
 
 
 def test_random_requests_are_the_same_for_a_seed() -> None:
-    described = text.bench()
-    context = Context(described, (described.reader, described.writer), seed=5, requests=60)
+    sign = described(text.BENCH)
+    context = Context(sign, (sign.reader, sign.writer), bench.ModelJudge(text.BENCH), seed=5, requests=60)
     chapter = ALL[-1]
     for number in (1, 2):
         octets = [
@@ -141,12 +159,12 @@ def test_a_reply_with_other_names_is_named_by_its_request() -> None:
 
 def test_names_that_are_kept_are_read_the_same() -> None:
     for content in (wire.name_content(HEIGHT), b"\x2b", b"\x81\0", wire.name_content(HEIGHT)):
-        assert kept.name(model_wire.Reader(content, 0, len(content))) == kept.READ_NAME(
+        assert model_cache.name(model_wire.Reader(content, 0, len(content))) == model_cache.READ_NAME(
             model_wire.Reader(content, 0, len(content))
         )
     for _ in range(2):
         try:
-            kept.name(model_wire.Reader(b"..\x80\1", 2, 4))
+            model_cache.name(model_wire.Reader(b"..\x80\1", 2, 4))
         except model_wire.Fault as fault:
             assert (fault.kind, fault.offset) == ("BadName", 2)
         else:

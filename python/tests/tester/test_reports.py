@@ -6,10 +6,10 @@ import xml.etree.ElementTree as ET
 from model import text
 from model.changes import Change, Refused
 from model.sign import Sign
+from trials.wrong_signs import bench
 from trials.wrong_signs.load import sign_of
 from trials.wrong_signs.table import MUTANTS
 from wisangub.snmp import wire
-from wisangub.tester import bench
 from wisangub.tester.chapters import ALL
 from wisangub.tester.compare import Kind
 from wisangub.tester.context import Context
@@ -28,7 +28,7 @@ def found(name: str, *only: str) -> tuple[Results, Context]:
     session = bench.session(text.BENCH, wrong, requests=0, most_differences=1)
     results = bench.run(session, only)
     for difference in results.differences():
-        difference.pictures = pictures(difference, session.context, session.pair.oracle)
+        difference.pictures = pictures(difference, session.context)
     return results, session.context
 
 

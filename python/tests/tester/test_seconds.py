@@ -5,8 +5,8 @@ from typing import Callable
 
 from model import text
 from model.sign import Sign
+from trials.wrong_signs import bench
 from wisangub.snmp import wire
-from wisangub.tester import bench
 from wisangub.tester.chapters import ALL
 from wisangub.tester.chapters.block import Block
 from wisangub.tester.clock import SimulatedClock

@@ -1,10 +1,12 @@
 """Right signs show nothing; wrong ones are found, over a simulated clock."""
 
 from model import text
+from trials.wrong_signs import bench
 from trials.wrong_signs.__main__ import BENCH, tried
 from trials.wrong_signs.table import MUTANTS
 from wisangub.process.places import SIGNTOOL, TOP
-from wisangub.tester import bench, soak
+from wisangub.tester import soak
+from wisangub.tester.sign.judge import SignJudge
 from wisangub.tester.sign.oracle import made
 
 SIGNS = [TOP / "signs/roadside.sign", TOP / "signs/gantry.sign"]
@@ -33,11 +35,12 @@ def test_the_program_beside_the_model_shows_nothing() -> None:
     if not SIGNTOOL.exists():
         skip(f"no program at {SIGNTOOL}")
     for description in (text.BENCH, SIGNS[0].read_bytes()):
-        oracle = made(str(SIGNTOOL), description)
+        oracle, judge = made(str(SIGNTOOL), description), SignJudge(str(SIGNTOOL), description)
         try:
-            results = bench.run(bench.session(description, oracle=oracle, requests=400, is_slow=True))
+            results = bench.run(bench.session(description, oracle=oracle, judge=judge, requests=400, is_slow=True))
         finally:
             oracle.end()
+            judge.end()
         assert results.is_clean(), [difference.title for difference in results.differences()]
 
 

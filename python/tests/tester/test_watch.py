@@ -8,15 +8,16 @@ import sys
 import tempfile
 
 from model import text
+from trials.wrong_signs.bench import ModelJudge, ModelOracle
 from wisangub.process.places import TOP
 from wisangub.tester.centre.watch import Habit, Watch
 from wisangub.tester.context import ADDRESS, Context, activate
+from wisangub.tester.described import described
 from wisangub.tester.objects import Row, integer, scalar
-from wisangub.tester.sign.oracle import ModelOracle
 from wisangub.tester.steps import Ask, get, put
 
 ROW = Row(3, 1)
-CONTEXT = Context(text.bench(), (b"public", b"admin"))
+CONTEXT = Context(described(text.BENCH), (b"public", b"admin"), ModelJudge(text.BENCH))
 CODE = CONTEXT.code(ROW, CONTEXT.crc(b"A"), address=ADDRESS)
 WRITE = put(ROW.text(b"A"), ROW.owner(b""), ROW.beacon(0), ROW.pixel(0), ROW.priority(100))
 PUBLICATION: list[Ask | None] = [

@@ -4,8 +4,8 @@ from dataclasses import dataclass, field
 
 from model import text
 from model.sign import Sign
+from trials.wrong_signs import bench
 from wisangub.snmp import wire
-from wisangub.tester import bench
 from wisangub.tester.clock import SimulatedClock
 from wisangub.tester.objects import Row, integer, octets, scalar
 from wisangub.tester.session import Session

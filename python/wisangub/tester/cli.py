@@ -5,9 +5,10 @@ import datetime
 import pathlib
 import sys
 
-from model import text
 from wisangub.process.places import SIGNTOOL, add_version, called
+from wisangub.refusal import Refusal
 from wisangub.tester.report.picture import pictures
+from wisangub.tester.sign.judge import Judge, SignJudge
 from wisangub.tester.sign.link import UdpLink
 from wisangub.tester.sign.oracle import Oracle, made
 from wisangub.tester.sign.pair import Pair
@@ -17,6 +18,7 @@ from wisangub.tester.sign.ticks import Ticks
 from .chapters import ALL, NAMES
 from .clock import RealClock
 from .context import Context
+from .described import Bad, described
 from .repeat import repeat
 from .report import files, page, terminal, words
 from .results import Results
@@ -102,12 +104,12 @@ def about_of(asked: argparse.Namespace) -> words.About:
     )
 
 
-def test(asked: argparse.Namespace, description: bytes, oracle: Oracle) -> int:
-    described, clock = text.described(description), RealClock()
-    communities = (described.reader, described.writer)
+def test(asked: argparse.Namespace, description: bytes, oracle: Oracle, judge: Judge) -> int:
+    sign, clock = described(description), RealClock()
+    communities = (sign.reader, sign.writer)
     link = UdpLink(*address(asked.to), clock)
     pair = Pair(Port(link, clock, asked.wait), oracle, clock, Ticks(clock), communities)
-    context = Context(described, communities, asked.seed, asked.requests, asked.slow)
+    context = Context(sign, communities, judge, asked.seed, asked.requests, asked.slow)
     watcher = terminal.watcher()
     session = Session(pair, context, watcher)
     try:
@@ -118,7 +120,7 @@ def test(asked: argparse.Namespace, description: bytes, oracle: Oracle) -> int:
         watcher.close()
         link.close()
     for difference in results.differences():
-        difference.pictures = pictures(difference, context, oracle)
+        difference.pictures = pictures(difference, context)
     about, not_tested = about_of(asked), words.not_tested(context, results, ALL)
     print("\n".join(terminal.ending(results, about, not_tested)), flush=True)
     write_files(asked, results, about, not_tested)
@@ -131,13 +133,15 @@ def main() -> int:
         description = described_with(asked.sign, asked.communities)
         address(asked.to)
         oracle = made(asked.signtool, description)
-    except (OSError, ValueError, text.Bad) as fault:
-        print(f"{asked.sign}: line {fault.line}" if isinstance(fault, text.Bad) else fault, file=sys.stderr)
+        judge = SignJudge(asked.signtool, description)
+    except (OSError, ValueError, Bad, Refusal) as fault:
+        print(f"{asked.sign}: {fault}" if isinstance(fault, Bad) else fault, file=sys.stderr)
         return 2
     try:
-        return test(asked, description, oracle)
+        return test(asked, description, oracle, judge)
     except KeyboardInterrupt:
         print("interrupted", file=sys.stderr)
         return 2
     finally:
         oracle.end()
+        judge.end()

@@ -3,20 +3,24 @@
 import functools
 from dataclasses import dataclass
 
-from model import layout
-from model.codes import BLANK, BLANK_1, NO_END, NOBODY, Activation, MessageId, checksum
-from model.description import Description
+from wisangub.snmp.names import COLUMNS, SCALARS
+from wisangub.tester.sign.judge import Judge
 
-from .objects import Binding, Row, octets, scalar
+from .checksum import checksum
+from .described import Description
+from .objects import Binding, Name, Row, octets, scalar
 from .steps import Ask, put
 
 ADDRESS = bytes([192, 0, 2, 1])
+NOBODY = bytes(4)
+NO_END = 65535  # minutes
 
 
 @dataclass
 class Context:
     described: Description
     communities: tuple[bytes, bytes]
+    judge: Judge
     seed: int = 1
     requests: int = 2000
     is_slow: bool = False
@@ -54,15 +58,15 @@ class Context:
 
     @property
     def defaults(self) -> tuple[int, ...]:
-        return tuple(self.described.face.defaults)
+        return self.described.face.defaults
 
     @functools.cached_property
     def characters(self) -> list[bytes]:
         """Texts of one character that fit under the defaults, those that are seen first, and the narrowest."""
         font = self.described.face.known_font(self.defaults[4])
         found = sorted(
-            (not any(map(any, rows)), width, number)
-            for number, (width, rows) in font.glyphs.items()
+            (not glyph.is_lit, glyph.width, number)
+            for number, glyph in font.glyphs.items()
             if number < 256 and number not in b"[]"
         )
         texts = [bytes([number]) for _, _, number in found]
@@ -74,28 +78,41 @@ class Context:
 
     def fault(self, text: bytes, defaults: tuple[int, ...] | None = None) -> tuple[int, int] | None:
         """The fault of a text on this sign, under its defaults or others."""
-        return layout.laid_out(self.described.face, defaults or self.defaults, text)[1]
+        return self.judge.fault(text, defaults or self.defaults)
 
     def crc(self, text: bytes, beacon: int = 0, pixel: int = 0) -> int:
         return checksum(text, beacon, pixel)
 
     def code(self, row: Row, crc: int, priority: int = 255, minutes: int = NO_END, address: bytes = ADDRESS) -> bytes:
-        named = MessageId(row.memory, row.number, crc)
-        return Activation(minutes, priority, named, address).octets(self.described.swapped)
+        return minutes.to_bytes(2, "big") + bytes([priority]) + self.message_code(row, crc) + address
 
     def blank_code(
         self, number: int = 1, priority: int = 255, minutes: int = NO_END, address: bytes = ADDRESS
     ) -> bytes:
-        return self.code(Row(BLANK, number), 0, priority, minutes, address)
+        return self.code(Row(7, number), 0, priority, minutes, address)
 
     def message_code(self, row: Row, crc: int) -> bytes:
         """The code of five octets."""
-        return MessageId(row.memory, row.number, crc).octets(self.described.swapped)
+        spelled = crc.to_bytes(2, "little" if self.described.swapped else "big")
+        return bytes([row.memory]) + row.number.to_bytes(2, "big") + spelled
+
+    @property
+    def blank(self) -> bytes:
+        """The code of blank message 1, of five octets."""
+        return self.message_code(Row(7, 1), 0)
+
+    @functools.cached_property
+    def instances(self) -> list[Name]:
+        """The names of all that the sign has, in order."""
+        rows = [*self.permanent, *self.rows, Row(5, 1), *[Row(7, number) for number in range(1, 256)]]
+        return sorted(
+            [*(scalar(*place) for place in SCALARS), *(row.cell(column) for row in rows for column in COLUMNS)]
+        )
 
     @property
     def known_code(self) -> bytes:
         """What is activated in the known state: blank message 1."""
-        return Activation(NO_END, 255, BLANK_1, NOBODY).octets(self.described.swapped)
+        return self.blank_code(address=NOBODY)
 
     @property
     def refused_code(self) -> bytes:

@@ -18,14 +18,14 @@ import sys
 import time
 from typing import Any
 
-from model import text
+from wisangub.process.description import BENCH
 from wisangub.process.places import TOP
 from wisangub.tester.report.words import sequence
+from wisangub.tester.sign.judge import SignJudge
 from wisangub.tester.sign.oracle import Oracle, made
 
 from . import bench
 from .compare import fields
-from .kept import keep
 from .results import Results
 
 OPTIONS = ("under_test", "signtool", "sign", "faulty", "requests", "seed", "commit")
@@ -77,13 +77,15 @@ def run(entry: dict[str, Any], description: bytes) -> dict[str, Any]:
     """One seed: what came of it is added to its options."""
     begun = time.monotonic()
     oracle, sign = made(entry["signtool"], description), made(entry["under_test"], description)
+    judge = SignJudge(entry["signtool"], description)
     try:
         seed, faulty, requests = entry["seed"], entry["faulty"], entry["requests"]
-        session = bench.session(description, Program(sign), oracle, seed, faulty, requests)
+        session = bench.session(description, Program(sign), oracle, judge, seed, faulty, requests)
         results = bench.run(session, ["random"])
     finally:
         oracle.end()
         sign.end()
+        judge.end()
     port = session.pair.port
     return entry | {
         "when": datetime.datetime.now(datetime.timezone.utc).isoformat(timespec="seconds"),
@@ -134,7 +136,7 @@ def soak(asked: argparse.Namespace, description: bytes) -> list[dict[str, Any]]:
     for held in ends:
         show(held, " (of the record)")
     left = [entry for entry in wanted if tuple(entry.values()) not in before]
-    with concurrent.futures.ProcessPoolExecutor(asked.jobs, initializer=keep) as pool:
+    with concurrent.futures.ProcessPoolExecutor(asked.jobs) as pool:
         for done in concurrent.futures.as_completed([pool.submit(run, entry, description) for entry in left]):
             held = done.result()
             if asked.record is not None:
@@ -157,7 +159,7 @@ def main() -> int:
     words.add_argument("--record", type=pathlib.Path, metavar="FILE")
     words.add_argument("--jobs", type=int, default=1, metavar="N", help="seeds at a time")
     asked = words.parse_args()
-    ends = soak(asked, asked.sign.read_bytes() if asked.sign else text.BENCH)
+    ends = soak(asked, asked.sign.read_bytes() if asked.sign else BENCH)
     clean, untold = sum(held["clean"] for held in ends), sum(held["not_told"] for held in ends)
     requests = sum(held["told_requests"] for held in ends)
     print(f"{requests} requests in {sum(held['cases'] for held in ends) - untold} sequences told, {untold} not told")

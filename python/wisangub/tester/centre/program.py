@@ -16,9 +16,10 @@ import sys
 from types import FrameType
 from typing import Protocol
 
-from model import text
 from wisangub.process.places import SIGNTOOL, called
+from wisangub.refusal import Refusal
 from wisangub.tester.clock import Clock, RealClock
+from wisangub.tester.described import Bad
 from wisangub.tester.sign.oracle import made
 
 from .watch import Watch
@@ -98,8 +99,8 @@ def main() -> int:
     asked = arguments().parse_args()
     try:
         sign = made(asked.signtool, asked.sign.read_bytes())
-    except (OSError, text.Bad) as fault:
-        print(f"{asked.sign}: line {fault.line}" if isinstance(fault, text.Bad) else fault, file=sys.stderr)
+    except (OSError, Bad, Refusal) as fault:
+        print(f"{asked.sign}: {fault}" if isinstance(fault, Bad) else fault, file=sys.stderr)
         return 2
     watch = Watch()
     for number in (signal.SIGINT, signal.SIGTERM):

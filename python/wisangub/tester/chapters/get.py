@@ -3,7 +3,6 @@
 from dataclasses import replace
 from typing import Iterator
 
-from model.sign import Sign
 from wisangub.snmp import wire
 from wisangub.snmp.names import DMS
 from wisangub.tester.context import Context
@@ -86,10 +85,10 @@ def alike(names: list[Name]) -> list[tuple[str, list[Name]]]:
 
 
 def blocks(context: Context) -> Iterator[Block]:
-    for rule, names in alike(Sign(context.described).instances()):
+    for rule, names in alike(context.instances):
         for step in looks(names, share=40):
             yield Block("every instance", rule, [step])
-    for step in looks(Sign(context.described).instances(), rule="reader reads"):
+    for step in looks(context.instances, rule="reader reads"):
         yield Block("every instance by the reader", "reader reads", [replace(step, is_writer=False)])
     for name in NO_INSTANCES + no_rows(context):
         yield Block("no instance", "get", [get(name), get(name, is_writer=False)])

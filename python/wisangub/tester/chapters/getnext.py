@@ -2,7 +2,6 @@
 
 from typing import Iterator
 
-from model.sign import Sign
 from wisangub.snmp import wire
 from wisangub.snmp.names import DMS
 from wisangub.tester.context import Context
@@ -65,7 +64,7 @@ PAST: list[Name] = [
 
 
 def blocks(context: Context) -> Iterator[Block]:
-    names = Sign(context.described).instances()
+    names = context.instances
     for at in range(0, len(names) - 1, 30):
         yield Block("after every instance", "getnext", [get_next(*names[at : min(at + 30, len(names) - 1)])])
     for at in range(0, len(names) - 1, 30):

@@ -3,8 +3,8 @@
 import itertools
 from dataclasses import dataclass
 
-from model import layout
 from wisangub.tester.context import Context
+from wisangub.tester.described import Font
 
 
 @dataclass(frozen=True)
@@ -20,6 +20,11 @@ class Sample:
 def made(rule: str, texts: list[bytes], first: int) -> list[Sample]:
     """Samples of one rule, so many of them looked at first."""
     return [Sample(text, rule, at < first) for at, text in enumerate(dict.fromkeys(texts)) if len(text) <= 512]
+
+
+def average(first: int, second: int) -> int:
+    """The spacing between two fonts' characters, half a column rounded up."""
+    return (first + second + 1) // 2
 
 
 def longest(context: Context, unit: bytes, between: bytes = b"", front: bytes = b"") -> int:
@@ -64,7 +69,7 @@ def rooms(context: Context) -> list[Sample]:
 def spread(context: Context, unit: bytes, most: int) -> list[tuple[int, bytes]]:
     """Rows of one character with their widths, up to a width."""
     font = context.described.face.known_font(context.defaults[4])
-    width = font.glyphs[unit[0]][0]
+    width = font.glyphs[unit[0]].width
     return [(count * width + (count - 1) * font.space, unit * count) for count in range(1, most // width + 1)]
 
 
@@ -114,7 +119,7 @@ def mixed(context: Context) -> list[Sample]:
     return made("room", found, 1)
 
 
-def mixtures(context: Context, font: layout.Font) -> list[tuple[int, bytes]]:
+def mixtures(context: Context, font: Font) -> list[tuple[int, bytes]]:
     """Characters of the default's font and of another in turn, begun with either, with their widths."""
     own = context.described.face.known_font(context.defaults[4])
     found: list[tuple[int, bytes]] = []
@@ -123,9 +128,9 @@ def mixtures(context: Context, font: layout.Font) -> list[tuple[int, bytes]]:
         return []
     for unit in context.characters[:1] + context.characters[-1:]:
         pair = [unit, b"[fo%d]" % font.number + bytes([other]) + b"[fo]"]
-        widths = own.glyphs[unit[0]][0] + font.glyphs[other][0]
+        widths = own.glyphs[unit[0]].width + font.glyphs[other].width
         for turns in (1, 2, 3):
-            width = turns * widths + (2 * turns - 1) * layout.average(own.space, font.space)
+            width = turns * widths + (2 * turns - 1) * average(own.space, font.space)
             found += [(width, b"".join(pair) * turns), (width, b"".join(pair[::-1]) * turns)]
     return found
 

@@ -4,7 +4,6 @@ from wisangub.snmp import wire
 from wisangub.tester.context import Context
 from wisangub.tester.found import Difference
 from wisangub.tester.objects import column_of
-from wisangub.tester.sign.oracle import Oracle
 from wisangub.tester.steps import Ask
 
 SHADES = ["#000000", "#ff0000", "#ffff00", "#00ff00", "#00ffff", "#0000ff", "#ff00ff", "#ffffff", "#ff8000", "#ffbf00"]
@@ -23,19 +22,19 @@ def text_of(difference: Difference) -> bytes | None:
     return found
 
 
-def pictures(difference: Difference, context: Context, oracle: Oracle) -> list[tuple[str, list[str]]]:
+def pictures(difference: Difference, context: Context) -> list[tuple[str, list[str]]]:
     """Captions and pages, as lines, of the text that the two judge otherwise; up to its fault where ours refuses it."""
     text = text_of(difference)
     if text is None or difference.rule.chapter not in JUDGING:
         return []
     spelled = text.decode("latin-1")
-    pages = oracle.pages(text)
+    pages = context.judge.pages(text)
     if pages:
         return [(f"{spelled} fits on our sign", pages)]
     fault = context.fault(text)
     if fault is None:
         return []
-    front = oracle.pages(text[: fault[1]]) if fault[1] else []
+    front = context.judge.pages(text[: fault[1]]) if fault[1] else []
     caption = f"{spelled}: our sign refuses it with code {fault[0]} at octet {fault[1]}"
     return [(caption + (", and draws what stands before" if front else ""), front)]
 

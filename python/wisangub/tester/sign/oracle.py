@@ -1,121 +1,85 @@
-"""The oracle: our own sign, the proved one as a co-process, or the model of model."""
+"""The oracle: our own sign, which is the program as a co-process, or what answers the same lines in its place."""
 
 import os
-import pathlib
-import subprocess
 from typing import Protocol
 
-from model import layout, text
-from model.sign import Sign
+from wisangub.process.coprocess import CoProcess
+from wisangub.process.places import TOP
+from wisangub.refusal import Refusal
+from wisangub.tester.described import Bad, ended
+
+MODEL = TOP / "model/signtool"  # what `model` stands for
 
 
 class Oracle(Protocol):
     """A sign that is asked in octets, and that may be begun anew."""
 
     def restart(self) -> None:
-        ...
+        """The sign as it is made."""
 
     def datagram(self, octets: bytes) -> bytes | None:
         """The reply, or None where nothing is sent."""
 
     def tick(self) -> None:
-        ...
-
-    def pages(self, message: bytes) -> list[str]:
-        """The pages of a text on this sign as lines, as `signtool pages` prints them; none where it is refused."""
+        """A second passes."""
 
     def end(self) -> None:
-        ...
-
-
-class ModelOracle:
-    """The sign of model."""
-
-    def __init__(self, description: bytes) -> None:
-        self.described = text.described(description)
-        self.sign = Sign(self.described)
-
-    def restart(self) -> None:
-        self.sign = Sign(self.described)
-
-    def datagram(self, octets: bytes) -> bytes | None:
-        return self.sign.receive(octets)[0]
-
-    def tick(self) -> None:
-        self.sign.tick()
-
-    def pages(self, message: bytes) -> list[str]:
-        face = self.described.face
-        pages, _ = layout.laid_out(face, face.defaults, message)
-        return [] if pages is None else layout.drawn(face, pages)
-
-    def end(self) -> None:
-        pass
+        """It is needed no more."""
 
 
 class CoProcessOracle:
-    """The program `signtool sign --sign`, spoken to line by line."""
+    """The program `signtool sign --sign`, spoken to line by line. Raises Bad where it makes no sign of the description,
+    and Refusal where it ends or does not answer as signtool does."""
 
     def __init__(self, program: str, description: bytes) -> None:
-        self.program, self.description = program, description
-        self.process: subprocess.Popen[bytes] | None = None
+        self._program = program
+        self._description, wrong = ended(description)
+        self._process: CoProcess | None = None
         self.restart()
+        if wrong:
+            self.end()
+            raise Bad(wrong)
 
     def restart(self) -> None:
         self.end()
-        self.process = subprocess.Popen([self.program, "sign", "--sign"], stdin=subprocess.PIPE, stdout=subprocess.PIPE)
-        self.write(self.description)
+        self._process = CoProcess(self._program, ["sign"], self._description)
+        self._process.write(self._description + b"state\n")
+        first = self._process.lines(1)[0]
+        if not first.startswith(b"shown "):
+            self.end()
+            raise Bad(first.decode("latin-1"))
+        self._process.lines(1)
 
-    def write(self, octets: bytes) -> None:
-        assert self.process is not None and self.process.stdin is not None
-        self.process.stdin.write(octets)
-        self.process.stdin.flush()
-
-    def answer(self, line: bytes) -> list[bytes]:
-        """The words of the answer to a line that is answered by one line."""
-        self.write(line + b"\n")
-        assert self.process is not None and self.process.stdout is not None
-        answer = self.process.stdout.readline()
-        if not answer.endswith(b"\n"):
-            raise EOFError(f"the program {self.program} ended: {answer.decode()}")
-        return answer.split()
+    def lines(self, line: bytes) -> list[bytes]:
+        """The whole answer to a line."""
+        assert self._process is not None
+        return self._process.ask(line)
 
     def datagram(self, octets: bytes) -> bytes | None:
-        words = self.answer(b"datagram " + (octets.hex().encode() or b"-"))
+        words = self.lines(b"datagram " + (octets.hex().encode() or b"-"))[-1].split()
         if words[0] == b"dropped":
             return None
         if words[0] not in (b"reply", b"accepted"):
-            raise EOFError(f"the program {self.program} answered {words!r}")
+            raise Refusal(f"the program {self._program} answered {words!r}")
         return bytes.fromhex(words[-1].decode())
 
     def tick(self) -> None:
-        self.answer(b"tick")
-
-    def pages(self, message: bytes) -> list[str]:
-        if b"\0" in message:
-            return []
-        call = [self.program.encode(), b"pages", b"--sign", b"--", message]
-        ended = subprocess.run(call, input=self.description, capture_output=True, timeout=10, check=False)
-        return ended.stdout.decode().splitlines() if ended.returncode == 0 else []
+        self.lines(b"tick")
 
     def end(self) -> None:
-        if self.process is None:
-            return
-        for stream in (self.process.stdin, self.process.stdout):
-            if stream is not None:
-                stream.close()
-        try:
-            self.process.wait(5)
-        except subprocess.TimeoutExpired:
-            self.process.kill()
-            self.process.wait()
-        self.process = None
+        if self._process is not None:
+            self._process.end()
+        self._process = None
 
 
-def made(program: str, description: bytes) -> Oracle:
-    """The oracle of this program; "model" stands for model."""
-    if program == "model":
-        return ModelOracle(description)
+def program_of(named: str) -> str:
+    """Where the program of this name is; "model" stands for model/signtool. Raises FileNotFoundError."""
+    program = str(MODEL) if named == "model" else named
     if not os.access(program, os.X_OK):
         raise FileNotFoundError(f"no program at {program}: tools/build.py builds it; --signtool model does without")
-    return CoProcessOracle(str(pathlib.Path(program)), description)
+    return program
+
+
+def made(named: str, description: bytes) -> CoProcessOracle:
+    """The oracle of this program; "model" stands for the model as a co-process."""
+    return CoProcessOracle(program_of(named), description)

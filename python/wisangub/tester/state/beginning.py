@@ -2,7 +2,6 @@
 
 from dataclasses import dataclass
 
-from model.sign import Sign
 from wisangub.snmp import wire
 from wisangub.tester import classify
 from wisangub.tester.compare import Kind, Mismatch, mismatch, value_words
@@ -73,7 +72,7 @@ class Beginning:
 
     def compare_all(self) -> None:
         """Every instance of both, one after the other: of those that read otherwise the first of each rule is told."""
-        names = [name for name in Sign(self.context.described).instances() if name not in self.pair.masked]
+        names = [name for name in self.context.instances if name not in self.pair.masked]
         told: set[str] = set()
         for look in looks(names):
             self.pair.pass_ticks()

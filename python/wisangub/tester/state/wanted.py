@@ -3,14 +3,13 @@
 from dataclasses import dataclass
 from typing import Iterable
 
-from model.codes import BLANK_1
-from model.state import CENTRAL
 from wisangub.snmp import wire
 from wisangub.tester.context import Context
 from wisangub.tester.messages import spelled
 from wisangub.tester.objects import NO_ADDRESS, OWN_CODES, Name, Row, Value, integer, octets, scalar
 from wisangub.tester.steps import Ask, Step, Wait, get, put
 
+CENTRAL = 8  # dmsMsgSourceMode of what the central system activated
 VERDICTS = (scalar(5, 9), scalar(6, 18), scalar(6, 19))
 
 
@@ -53,9 +52,8 @@ class Wanted:
 
     def settings(self) -> dict[Name, Value]:
         """What is set directly."""
-        blank = BLANK_1.octets(self.context.described.swapped)
         wanted = {scalar(4, member): integer(value) for member, value in enumerate(self.context.defaults, 1)}
-        wanted |= {scalar(6, member): octets(blank) for member in OWN_CODES}
+        wanted |= {scalar(6, member): octets(self.context.blank) for member in OWN_CODES}
         return wanted | {scalar(6, 10): integer(0), scalar(6, 13): integer(0)}
 
     def verdicts(self) -> dict[Name, Value]:
@@ -69,7 +67,7 @@ class Wanted:
         return {
             scalar(6, 3): octets(self.context.known_code),
             scalar(6, 4): integer(65535),
-            scalar(6, 5): octets(BLANK_1.octets(self.context.described.swapped)),
+            scalar(6, 5): octets(self.context.blank),
             scalar(6, 6): (wire.ADDRESS, NO_ADDRESS),
             scalar(6, 7): integer(CENTRAL),
             scalar(6, 17): integer(2),

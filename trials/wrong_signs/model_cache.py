@@ -10,8 +10,7 @@ from typing import Any
 from model import wire
 from model.description import Row
 from model.state import Shown
-
-from .objects import Name
+from wisangub.tester.objects import Name
 
 MOST_NAMES = 65_536
 NAMES: dict[bytes, Name] = {}
