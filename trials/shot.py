@@ -47,11 +47,11 @@ def draw(page: pathlib.Path, picture: pathlib.Path, width: int, height: int) -> 
 
 
 def main() -> int:
-    words = argparse.ArgumentParser(prog="python3 -m trials.shot", description="a report as a picture")
-    words.add_argument("picture", type=pathlib.Path, metavar="PICTURE.png")
-    words.add_argument("--html", type=pathlib.Path, metavar="REPORT.html", help="a page; else one is made")
-    words.add_argument("--size", nargs=2, type=int, default=(1080, 1800), metavar=("WIDTH", "HEIGHT"))
-    asked = words.parse_args()
+    parser = argparse.ArgumentParser(prog="python3 -m trials.shot", description="a report as a picture")
+    parser.add_argument("picture", type=pathlib.Path, metavar="PICTURE.png")
+    parser.add_argument("--html", type=pathlib.Path, metavar="REPORT.html", help="a page; else one is made")
+    parser.add_argument("--size", nargs=2, type=int, default=(1080, 1800), metavar=("WIDTH", "HEIGHT"))
+    asked = parser.parse_args()
     if shutil.which("chromium") is None:
         print("chromium is not there: apt-get install chromium", file=sys.stderr)
         return 2

@@ -64,15 +64,15 @@ def tried(mutant: Mutant, description: bytes, program: str, is_short: bool = Fal
 
 
 def main() -> int:
-    words = argparse.ArgumentParser(
+    parser = argparse.ArgumentParser(
         prog="python3 -m trials.wrong_signs", description="whether the tester finds the wrong signs"
     )
-    words.add_argument("--only", action="append", default=[])
-    words.add_argument("--sign", type=pathlib.Path, help="a description; else the bench sign")
-    words.add_argument("--signtool", default="model", help="the program that is the oracle; else the model")
-    words.add_argument("--jobs", type=int, default=1)
-    words.add_argument("--loud", action="store_true")
-    asked = words.parse_args()
+    parser.add_argument("--only", action="append", default=[])
+    parser.add_argument("--sign", type=pathlib.Path, help="a description; else the bench sign")
+    parser.add_argument("--signtool", default="model", help="the program that is the oracle; else the model")
+    parser.add_argument("--jobs", type=int, default=1)
+    parser.add_argument("--loud", action="store_true")
+    asked = parser.parse_args()
     description = asked.sign.read_bytes() if asked.sign else BENCH
     chosen = [mutant for mutant in MUTANTS if not asked.only or any(part in mutant.name for part in asked.only)]
     passed = failed = 0

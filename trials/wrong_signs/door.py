@@ -33,11 +33,13 @@ class Wrong:
 
 
 def main() -> int:
-    words = argparse.ArgumentParser(prog="python3 -m trials.wrong_signs.door", description="a wrong sign on a UDP port")
-    words.add_argument("names", nargs="+", metavar="NAME", choices=[mutant.name for mutant in MUTANTS])
-    words.add_argument("--port", type=int, default=1161)
-    words.add_argument("--sign", required=True, type=pathlib.Path)
-    asked = words.parse_args()
+    parser = argparse.ArgumentParser(
+        prog="python3 -m trials.wrong_signs.door", description="a wrong sign on a UDP port"
+    )
+    parser.add_argument("names", nargs="+", metavar="NAME", choices=[mutant.name for mutant in MUTANTS])
+    parser.add_argument("--port", type=int, default=1161)
+    parser.add_argument("--sign", required=True, type=pathlib.Path)
+    asked = parser.parse_args()
     sign = Wrong(sign_of([mutant for mutant in MUTANTS if mutant.name in asked.names], asked.sign.read_bytes()))
     signal.signal(signal.SIGTERM, stop)
     with socket.socket(socket.AF_INET, socket.SOCK_DGRAM) as door:

@@ -52,12 +52,12 @@ def mutant(at: int, until: float) -> tuple[str, str, str]:
 
 
 def main() -> int:
-    words = argparse.ArgumentParser(
+    parser = argparse.ArgumentParser(
         prog="env -C python python3 -m tests.tester.short", description="the short form of the tester's tests"
     )
-    words.add_argument("--jobs", type=int, default=4)
-    words.add_argument("--seconds", type=float, default=150, help="after so many no wrong sign is begun")
-    asked = words.parse_args()
+    parser.add_argument("--jobs", type=int, default=4)
+    parser.add_argument("--seconds", type=float, default=150, help="after so many no wrong sign is begun")
+    asked = parser.parse_args()
     until = time.monotonic() + asked.seconds
     counts = {"passed": 0, "failed": 0, "skipped": 0}
     with concurrent.futures.ProcessPoolExecutor(asked.jobs, initializer=keep) as pool:

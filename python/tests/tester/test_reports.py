@@ -13,7 +13,7 @@ from wisangub.snmp import wire
 from wisangub.tester.chapters import ALL
 from wisangub.tester.compare import Kind
 from wisangub.tester.context import Context
-from wisangub.tester.found import Difference
+from wisangub.tester.differences import Difference
 from wisangub.tester.objects import Name, Value, scalar
 from wisangub.tester.report import files, page, terminal, words
 from wisangub.tester.report.picture import pictures

@@ -16,7 +16,7 @@ from wisangub.tester.report import terminal, words
 from wisangub.tester.results import ChapterResult
 from wisangub.tester.session import Session
 from wisangub.tester.sign.simulated import SimulatedLink
-from wisangub.tester.state.settling import LONGEST
+from wisangub.tester.state.validation_ticks import LONGEST
 from wisangub.tester.steps import Step, Wait, get, put
 
 ROW, TIME = Row(3, 1), scalar(4, 8)
@@ -67,7 +67,7 @@ def is_near(session: Session, link: Choosy) -> bool:
 def test_a_lost_reply_is_no_sign_that_rows_settle_at_once() -> None:
     left = [1]
     session, link = over(lambda octets: is_asked(octets, 7) and left.pop() == 1 if left else False)
-    assert session.beginning.begin() and link.lost == 1 and is_near(session, link)
+    assert session.preflight.begin() and link.lost == 1 and is_near(session, link)
     for ask in (put(ROW.status(6)), put(ROW.status(7)), get(ROW.cell(9))):
         exchange = session.pair.do(ask)
         assert exchange is not None and exchange.mismatch is None
@@ -80,7 +80,7 @@ def test_ticks_are_learnt_where_looks_are_lost_or_late() -> None:
     for late in (None, 0.06, 0.3):
         chance = random.Random(7)
         session, link = over(lambda octets: spelled(octets) is not None and chance.random() < 0.2, late)
-        assert session.beginning.begin() and link.lost > 10 and is_near(session, link), late
+        assert session.preflight.begin() and link.lost > 10 and is_near(session, link), late
 
 
 def test_a_late_look_is_no_bracket_of_a_tick() -> None:
@@ -92,8 +92,8 @@ def test_a_late_look_is_no_bracket_of_a_tick() -> None:
 
     session, link = over(is_look, 0.06)
     begun = session.pair.clock.now()
-    assert session.beginning.begin() and link.lost > 10 and not session.pair.ticks.is_learnt()
-    assert session.known.is_unlearnt() and session.pair.clock.now() - begun < 20 * LONGEST
+    assert session.preflight.begin() and link.lost > 10 and not session.pair.ticks.is_learnt()
+    assert session.reset.is_unlearnt() and session.pair.clock.now() - begun < 20 * LONGEST
     assert session.pair.port.passed_over == 0
 
 
@@ -112,7 +112,7 @@ class Slipping(Sign):
 def test_what_does_not_come_again_is_counted_and_is_no_difference() -> None:
     sign = Slipping(text.bench())
     session = bench.session(text.BENCH, sign)
-    assert session.beginning.begin()
+    assert session.preflight.begin()
     session.pair.clock.sleep_until(session.pair.ticks.upcoming() + 0.5)
     result = ChapterResult(ALL[0])
     session.results.chapters.append(result)
@@ -149,12 +149,12 @@ def test_a_validation_that_the_sign_took_after_a_tick_is_no_difference() -> None
     session.pair.port.link.close()
     link = Held(session.pair.clock, lambda _: False)
     session.pair.port.link = link
-    assert session.beginning.begin()
+    assert session.preflight.begin()
     result = ChapterResult(ALL[0])
     session.results.chapters.append(result)
     steps: list[Step] = [put(ROW.status(6)), put(ROW.status(7)), get(scalar(5, 2)), Wait(1)]
     steps.append(get(scalar(5, 2), ROW.cell(9)))
-    session.known.reach_or_end()
+    session.reset.reach_or_end()
     session.pair.clock.sleep_until(session.pair.ticks.upcoming() - 0.1)
     session.block(result, Block("a validation at a tick", "settled", steps), [])
     assert link.left == 0 and session.results.is_clean() and not result.once and not result.untold

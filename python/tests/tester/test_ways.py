@@ -71,7 +71,7 @@ def begun() -> tuple[Session, Losing]:
     assert isinstance(session.pair.port.link, SimulatedLink)
     losing = Losing(session.pair.port.link)
     session.pair.port.link = losing
-    assert session.beginning.begin() and not session.results.before
+    assert session.preflight.begin() and not session.results.before
     return session, losing
 
 
@@ -123,7 +123,7 @@ def test_what_an_unanswered_set_did_is_read() -> None:
             assert exchange is not None and exchange.is_lost, ask
             same = session.pair.do(get(TIME, ROW.cell(3), ROW.cell(9), scalar(6, 17)))
             assert same is not None and same.mismatch is None, ask
-            held = session.known.read([TIME])[TIME]
+            held = session.reset.read([TIME])[TIME]
             assert held == integer(30 if is_request_lost else 9)
 
 

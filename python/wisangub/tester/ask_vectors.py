@@ -51,17 +51,17 @@ def compare(door: socket.socket, to: tuple[str, int], wanted: list[dict[str, Any
 
 
 def main() -> int:
-    words = argparse.ArgumentParser(
+    parser = argparse.ArgumentParser(
         prog=called("wisangub-conform vectors"),
         description=__doc__,
         formatter_class=argparse.RawDescriptionHelpFormatter,
     )
-    words.add_argument("--to", default="127.0.0.1:1161", metavar="HOST:PORT", help="where the sign is")
-    words.add_argument("--wait", type=float, default=0.5, metavar="SECONDS", help="how long a reply may take")
-    options = words.parse_args()
+    parser.add_argument("--to", default="127.0.0.1:1161", metavar="HOST:PORT", help="where the sign is")
+    parser.add_argument("--wait", type=float, default=0.5, metavar="SECONDS", help="how long a reply may take")
+    options = parser.parse_args()
     host, _, port = options.to.rpartition(":")
     if not host or not port.isdigit():
-        words.error(f"--to wants HOST:PORT, not {options.to}")
+        parser.error(f"--to wants HOST:PORT, not {options.to}")
     every = cases(TOP / "vectors/requests.jsonl")
     wanted = [case for case in every if not case["changes"]]
     with socket.socket(socket.AF_INET, socket.SOCK_DGRAM) as door:

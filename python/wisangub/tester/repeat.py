@@ -42,7 +42,7 @@ def repeat(session: Session, sequence: str) -> int:
     except ValueError:
         print("a sequence is octets in hexadecimal digits, or tick, with commas between them")
         return 2
-    session.beginning.reach_first()
+    session.preflight.reach_first()
     try:
         run = session.runner.anew(steps)
     except Inconclusive as fault:

@@ -4,7 +4,7 @@ from dataclasses import dataclass, field
 from typing import Protocol
 
 from .chapters import Chapter
-from .found import Difference
+from .differences import Difference
 
 
 @dataclass

@@ -5,9 +5,9 @@ from typing import Sequence
 
 from wisangub.snmp import wire
 from wisangub.tester.sign.pair import Exchange, Inconclusive, Pair
-from wisangub.tester.state.known import Known
+from wisangub.tester.state.reset import Reset
 
-from .found import Signature, object_of, signature
+from .differences import Signature, object_of, signature
 from .messages import spelled
 from .objects import is_validation
 from .steps import Ask, Step, Wait
@@ -31,14 +31,14 @@ class Run:
 @dataclass
 class Runner:
     pair: Pair
-    known: Known
+    reset: Reset
     most_seconds: float = 40.0  # that a difference is made smaller
     runs: int = 0
     answered: set[tuple[object, ...]] = field(default_factory=set)  # what SETs were answered, by their likes
 
     def steps(self, steps: Sequence[Step]) -> Run | None:
         """The steps, from the state of now, up to the first difference."""
-        if is_timed(steps) and self.known.is_unlearnt():
+        if is_timed(steps) and self.reset.is_unlearnt():
             raise Inconclusive("the moment of the sign's ticks is not known")
         sent: list[bytes | None] = []
         for at, step in enumerate(steps):
@@ -68,7 +68,7 @@ class Runner:
         self.runs += 1
         for left in range(TRIES, 0, -1):
             try:
-                self.known.reach_or_end(is_timed(steps), is_alike)
+                self.reset.reach_or_end(is_timed(steps), is_alike)
                 self.pair.begin()
                 if after_a_tick and is_timed(steps):
                     self.pair.ticks.wait(1)

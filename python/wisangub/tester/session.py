@@ -4,15 +4,15 @@ from dataclasses import dataclass, field, replace
 from typing import Sequence
 
 from wisangub.tester.sign.pair import Inconclusive, Pair
-from wisangub.tester.state.beginning import Beginning
-from wisangub.tester.state.known import Known
-from wisangub.tester.state.wanted import Unreachable
+from wisangub.tester.state.known_state import Unreachable
+from wisangub.tester.state.preflight import Preflight
+from wisangub.tester.state.reset import Reset
 
 from . import classify
 from .chapters import ALL, Block, Chapter
 from .compare import Kind
 from .context import Context
-from .found import Difference, subject
+from .differences import Difference, subject
 from .results import ChapterResult, Results, Watcher
 from .rules import RULES, Rule
 from .runs import Run, Runner
@@ -32,22 +32,22 @@ class Session:
     results: Results = field(default_factory=Results)
 
     def __post_init__(self) -> None:
-        self.known = Known(self.pair, self.context)
-        self.runner = Runner(self.pair, self.known, self.most_seconds)
-        self.beginning = Beginning(self.pair, self.known, self.context, self.results, self.watcher)
+        self.reset = Reset(self.pair, self.context)
+        self.runner = Runner(self.pair, self.reset, self.most_seconds)
+        self.preflight = Preflight(self.pair, self.reset, self.context, self.results, self.watcher)
 
     def is_enough(self) -> bool:
         return self.most_differences is not None and len(self.results.differences()) >= self.most_differences
 
     def run(self, chapters: Sequence[Chapter]) -> Results:
-        is_heard = self.beginning.begin()
+        is_heard = self.preflight.begin()
         for chapter in chapters if is_heard else []:
             if self.is_enough():
                 break
             if not chapter.is_slow or self.context.is_slow:
                 self.chapter(chapter)
         if is_heard:
-            self.known.reach()
+            self.reset.reach()
         return self.results
 
     # --- chapters --------------------------------------------------------------------------------------------
@@ -80,7 +80,7 @@ class Session:
                 self.pair.begin()
                 run = self.runner.steps(block.steps)
         except Unreachable as fault:
-            self.beginning.tell_unreached(fault.unreached)
+            self.preflight.tell_unreached(fault.unreached)
             return self.again(result, block, history) if not self.is_enough() else None
         except Inconclusive:
             self.pair.is_dirty = True
@@ -117,10 +117,10 @@ class Session:
     def made_small(self, run: Run, steps: list[Step], is_shrunk: bool) -> tuple[Run, bool]:
         """The difference in few datagrams, and whether it was seen again, with ticks that were learnt anew."""
         try:
-            self.known.learn_anew()
+            self.reset.learn_anew()
             return shrunk(self.runner, run, steps, is_shrunk)
         except Unreachable as fault:
-            self.beginning.tell_unreached(fault.unreached)
+            self.preflight.tell_unreached(fault.unreached)
             return run, False
 
     def is_told(self, result: ChapterResult, rule: Rule, run: Run) -> bool:

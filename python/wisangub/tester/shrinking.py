@@ -6,7 +6,7 @@ from typing import Sequence
 from wisangub.tester.sign.pair import Inconclusive
 
 from .compare import Kind
-from .found import Signature
+from .differences import Signature
 from .runs import Run, Runner
 from .steps import Ask, Raw, Step, Wait, datagrams
 

@@ -5,9 +5,10 @@ from dataclasses import replace
 
 from wisangub.tester.context import Context
 
-from .rooms import (
+from .edge_texts import (
     Sample,
     closed,
+    edges,
     fonts_at_closing,
     full,
     gaps,
@@ -16,7 +17,6 @@ from .rooms import (
     made,
     mixed,
     mixed_parts,
-    rooms,
     spacings,
     touching,
 )
@@ -215,7 +215,7 @@ def samples(context: Context) -> list[Sample]:
         + gaps(context)
         + closed(context)
         + fonts_at_closing(context)
-        + rooms(context)
+        + edges(context)
         + mixed(context)
         + mixed_parts(context)
         + heights(context)

@@ -7,7 +7,7 @@ from wisangub.tester.objects import Row, scalar
 from wisangub.tester.steps import Step
 
 from .block import Block, Chapter, fill, look, look_at, modify, settle
-from .rooms import Sample
+from .edge_texts import Sample
 from .texts import samples
 
 VERDICT = (scalar(5, 9), scalar(6, 18), scalar(6, 19))

@@ -4,7 +4,7 @@ import json
 import xml.etree.ElementTree as ET
 from typing import Any
 
-from wisangub.tester.found import Difference
+from wisangub.tester.differences import Difference
 from wisangub.tester.results import Results
 
 from .terminal import difference_lines

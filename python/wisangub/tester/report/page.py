@@ -3,7 +3,7 @@
 import html
 import pathlib
 
-from wisangub.tester.found import Difference
+from wisangub.tester.differences import Difference
 from wisangub.tester.results import ChapterResult, Results
 
 from .picture import pages_of, svg

@@ -2,7 +2,7 @@
 
 from wisangub.snmp import wire
 from wisangub.tester.context import Context
-from wisangub.tester.found import Difference
+from wisangub.tester.differences import Difference
 from wisangub.tester.objects import column_of
 from wisangub.tester.steps import Ask
 

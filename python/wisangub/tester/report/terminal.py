@@ -4,7 +4,7 @@ import sys
 from typing import Any, TextIO
 
 from wisangub.tester.chapters import Chapter
-from wisangub.tester.found import Difference
+from wisangub.tester.differences import Difference
 from wisangub.tester.results import ChapterResult, Results
 
 from .words import About, how_sure, origin, sequence, verdict

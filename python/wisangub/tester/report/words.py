@@ -7,7 +7,7 @@ from wisangub.process.places import called
 from wisangub.tester.chapters import Chapter
 from wisangub.tester.compare import fields
 from wisangub.tester.context import Context
-from wisangub.tester.found import Difference
+from wisangub.tester.differences import Difference
 from wisangub.tester.results import Results
 
 NOT_SEEN = [

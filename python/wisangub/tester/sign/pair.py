@@ -7,7 +7,7 @@ from wisangub.tester.clock import Clock
 from wisangub.tester.compare import Kind, Mismatch, mismatch
 from wisangub.tester.messages import spelled
 from wisangub.tester.objects import Name, Row, is_validation, row_of, scalar
-from wisangub.tester.state.lost import is_command, is_known
+from wisangub.tester.state.unanswered import is_command, is_known
 from wisangub.tester.steps import Ask, Raw, Step, Wait, get
 
 from .oracle import Oracle

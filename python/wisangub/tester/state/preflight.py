@@ -6,32 +6,32 @@ from wisangub.snmp import wire
 from wisangub.tester import classify
 from wisangub.tester.compare import Kind, Mismatch, mismatch, value_words
 from wisangub.tester.context import Context
-from wisangub.tester.found import Difference
-from wisangub.tester.objects import Name, row_of, scalar, spoken
+from wisangub.tester.differences import Difference
+from wisangub.tester.messages import spelled
+from wisangub.tester.objects import Name, Value, integer, octets, row_of, scalar, spoken
 from wisangub.tester.results import Results, Watcher
 from wisangub.tester.rules import RULES, Rule
 from wisangub.tester.sign.pair import Exchange, Pair
 from wisangub.tester.steps import Ask, Wait, get, looks
 
-from . import before
-from .known import Known
-from .wanted import Unreached
+from .known_state import Unreached
+from .reset import Reset
 
 CAUSE = scalar(6, 17)
 READS = (Kind.STATUS, Kind.BINDINGS, Kind.VALUE)
 
 
 @dataclass
-class Beginning:
+class Preflight:
     pair: Pair
-    known: Known
+    reset: Reset
     context: Context
     results: Results
     watcher: Watcher
 
     def begin(self) -> bool:
         """Whether anything answers; then both are in the known state, but for what was told."""
-        if not before.is_heard(self.known):
+        if not _is_heard(self.reset):
             self.results.is_silent = True
             return False
         self.configure()
@@ -40,13 +40,13 @@ class Beginning:
         return True
 
     def configure(self) -> None:
-        for name, wanted, have in before.differing(self.known, before.described(self.context)):
+        for name, wanted, have in _differing(self.reset, _described(self.context)):
             read = "nothing" if have is None else value_words(have)
             self.results.configuration.append((spoken(name), value_words(wanted), read))
             self.add(self.configuration_difference(name))
             self.pair.masked.add(name)
 
-        for name, wanted, have in before.differing(self.known, before.first_state(self.context)):
+        for name, wanted, have in _differing(self.reset, _first_state(self.context)):
             read = "nothing" if have is None else value_words(have)
             self.results.set_back.append((spoken(name), value_words(wanted), read))
 
@@ -64,7 +64,7 @@ class Beginning:
         """The known state for the first time; what cannot be brought there is told, and left out from here on."""
         self.pair.touched.update(self.context.rows)
         for _ in range(3):
-            unreached = self.known.reach(observe=True)
+            unreached = self.reset.reach(observe=True)
             if not unreached:
                 break
             self.tell_unreached(unreached)
@@ -131,7 +131,7 @@ class Beginning:
             return RULES["set"]
         rule = classify.rule_of(exchange.octets, exchange.ours, exchange.theirs, exchange.mismatch)
         if rule.key == "deciding" and exchange.mismatch.kind is Kind.STATUS:
-            cause = self.known.read([CAUSE])[CAUSE]
+            cause = self.reset.read([CAUSE])[CAUSE]
             if cause is not None and isinstance(cause[1], int):
                 return RULES[classify.BY_CAUSE.get(cause[1], "deciding")]
         return rule
@@ -145,3 +145,45 @@ def note(unreached: list[Unreached]) -> str:
     if others:
         said += f"; nor can {others}" + (" and others" if len(unreached) > 4 else "")
     return said
+
+
+# --- what is read before anything is sent that changes the sign ---
+
+
+def _described(context: Context) -> dict[Name, Value]:
+    """What the description says of the instances that no request changes."""
+    held = context.described
+    wanted = {
+        scalar(2, 3): integer(held.face.height),
+        scalar(2, 4): integer(held.face.width),
+        scalar(4, 11): integer(3),
+        scalar(5, 1): integer(len(held.permanent)),
+        scalar(5, 3): integer(held.changeable),
+        scalar(5, 6): integer(held.volatile),
+    }
+    for row, message in zip(context.permanent, held.permanent):
+        wanted |= {
+            row.cell(3): octets(message.text),
+            row.cell(4): octets(message.owner),
+            row.cell(6): integer(message.beacon),
+            row.cell(7): integer(message.pixel),
+            row.cell(8): integer(message.priority),
+        }
+    return wanted
+
+
+def _first_state(context: Context) -> dict[Name, Value]:
+    """What the description says of the defaults, and rows that nobody uses: requests may have changed them."""
+    defaults = {scalar(4, member): integer(value) for member, value in enumerate(context.defaults, 1)}
+    return defaults | {row.cell(9): integer(1) for row in context.rows}
+
+
+def _differing(reset: Reset, wanted: dict[Name, Value]) -> list[tuple[Name, Value, Value | None]]:
+    """Each object that reads otherwise, with what is described and what is read."""
+    have = reset.read(list(wanted))
+    return [(name, value, have[name]) for name, value in wanted.items() if have[name] != value]
+
+
+def _is_heard(reset: Reset) -> bool:
+    """Whether anything answers."""
+    return spelled(reset.ask_height() or b"") is not None

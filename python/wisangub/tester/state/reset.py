@@ -9,9 +9,9 @@ from wisangub.tester.objects import Name, Row, Value, scalar
 from wisangub.tester.sign.pair import Pair
 from wisangub.tester.steps import Ask, get, looks, put
 
-from .lost import ours_reads
-from .settling import Settling
-from .wanted import VERDICTS, Unreachable, Unreached, Wanted
+from .known_state import VERDICTS, KnownState, Unreachable, Unreached
+from .unanswered import ours_reads
+from .validation_ticks import ValidationTicks
 
 ROUNDS = 4
 MOST_KEPT = 400  # datagrams after which ours is begun anew
@@ -19,15 +19,15 @@ Read = dict[Name, Value | None]
 
 
 @dataclass
-class Known:
+class Reset:
     pair: Pair
     context: Context
     last: dict[Name, tuple[Ask, bytes | None]] = field(default_factory=dict)
     is_together: bool = False  # whether ours is handed what brings the sign under test there
 
     def __post_init__(self) -> None:
-        self.objects = Wanted(self.context)
-        self.settling = Settling(self.pair)
+        self.objects = KnownState(self.context)
+        self.validation = ValidationTicks(self.pair)
 
     def wanted(self) -> dict[Name, Value]:
         """What is to be read. Of a validation's verdict that stays which both have, where they go there together."""
@@ -79,7 +79,7 @@ class Known:
             if not wrong and is_watched:
                 return []
             self.repair(wrong, observe and not is_watched)
-            is_watched |= self.pair.ticks.is_learnt() and not self.pair.ticks.is_old() or self.settling.is_at_once()
+            is_watched |= self.pair.ticks.is_learnt() and not self.pair.ticks.is_old() or self.validation.is_at_once()
         have = self.read(list(wanted := self.wanted()))
         unreached = [
             self.unreached(name, value, have.get(name)) for name, value in wanted.items() if have.get(name) != value
@@ -115,7 +115,7 @@ class Known:
 
     def empty(self, row: Row) -> None:
         """A row becomes not used, at the end of its validation where it has one."""
-        self.settling.watch(row)
+        self.validation.watch(row)
         self.put(put(row.status(8)), row.cell(9))
 
     def validate(self, row: Row) -> None:
@@ -123,7 +123,7 @@ class Known:
         self.put(put(row.status(6)), *self.objects.verdicts())
         asked = self.pair.clock.now()
         self.put(put(row.status(7)), *self.objects.verdicts())
-        self.settling.watch_asked(row, asked)
+        self.validation.watch_asked(row, asked)
         self.put(put(row.status(8)), row.cell(9))
         self.pair.touched.add(row)
 
@@ -135,7 +135,7 @@ class Known:
         Where both are alike they may go there together, and keep the verdict of their last validation: no tick has
         to be waited for.
         """
-        observe |= self.settling.is_to_be_learnt() and bool(self.context.rows)
+        observe |= self.validation.is_to_be_learnt() and bool(self.context.rows)
         if not observe and not self.pair.is_dirty:
             return []
         unreached: list[Unreached] = []
@@ -152,11 +152,11 @@ class Known:
 
     def is_unlearnt(self) -> bool:
         """Whether rows settle at moments that are not known yet."""
-        return self.settling.is_unlearnt() and bool(self.context.rows)
+        return self.validation.is_unlearnt() and bool(self.context.rows)
 
     def learn_anew(self) -> None:
         """The known state, and a tick that is seen, whatever was known of them."""
-        self.settling.begin_anew()
+        self.validation.begin_anew()
         self.pair.is_dirty = True
         self.reach_or_end()
 

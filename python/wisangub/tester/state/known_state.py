@@ -45,7 +45,7 @@ class Unreached:
 
 
 @dataclass
-class Wanted:
+class KnownState:
     """What the objects of a sign read in the known state."""
 
     context: Context

@@ -38,7 +38,7 @@ def longest(context: Context, unit: bytes, between: bytes = b"", front: bytes = 
     return 0
 
 
-def rooms(context: Context) -> list[Sample]:
+def edges(context: Context) -> list[Sample]:
     """Texts at the edge of the matrix, and one past it."""
     one = context.character()
     found: list[bytes] = []

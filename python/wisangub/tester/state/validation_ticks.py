@@ -16,7 +16,7 @@ MOST_MISSED = 5  # times that the end of a validation is not seen, until no more
 
 
 @dataclass
-class Settling:
+class ValidationTicks:
     """A tick is learnt only between a look that was answered in time and the next one that was.
 
     A reply that is late says of its tick only on which side of the look it was, so it is passed over.
