@@ -10,19 +10,20 @@ from trials.wrong_signs.load import edited
 from trials.wrong_signs.table import MUTANTS
 from wisangub.process.places import TOP
 from wisangub.snmp import wire
+from wisangub.snmp.names import scalar
 from wisangub.tester.chapters import ALL
 from wisangub.tester.classify import rule_of
 from wisangub.tester.clock import SimulatedClock
 from wisangub.tester.compare import Kind, fields, mismatch
 from wisangub.tester.context import Context
 from wisangub.tester.described import described
-from wisangub.tester.objects import integer, scalar
+from wisangub.tester.objects import integer
 from wisangub.tester.repeat import steps_of
 from wisangub.tester.rules import CHAPTERS, RULES, is_in_profile
 from wisangub.tester.sign.ticks import Ticks
 from wisangub.tester.steps import Wait, get, put
 
-HEIGHT = scalar(2, 3)
+HEIGHT = scalar("vmsSignHeightPixels")
 
 
 def response(number: int = 7, status: int = 0, index: int = 0, value: int = 14, community: bytes = b"public") -> bytes:
@@ -105,7 +106,7 @@ def test_a_period_is_learnt_no_nearer_than_it_was_seen() -> None:
 
 def test_sequences_are_read_back() -> None:
     communities = (b"public", b"admin")
-    asks = [get(HEIGHT), put((scalar(4, 8), integer(3)))]
+    asks = [get(HEIGHT), put((scalar("defaultPageOnTime"), integer(3)))]
     spelled = [ask.octets(70000 + at, communities) for at, ask in enumerate(asks)]
     steps = steps_of(",".join([spelled[0].hex(), "tick", spelled[1].hex(), "3000"]), communities)
     assert isinstance(steps[1], Wait) and steps[0].octets(70000, communities) == spelled[0]  # type: ignore[union-attr]
@@ -150,7 +151,7 @@ def test_random_requests_are_the_same_for_a_seed() -> None:
 
 def test_a_reply_with_other_names_is_named_by_its_request() -> None:
     asked = get(HEIGHT).octets(7, (b"public", b"admin"))
-    other = wire.written(wire.Message(wire.RESPONSE, b"admin", 7, 0, 0, [(scalar(2, 4), integer(9))]))
+    other = wire.written(wire.Message(wire.RESPONSE, b"admin", 7, 0, 0, [(scalar("vmsSignWidthPixels"), integer(9))]))
     same = wire.written(wire.Message(wire.RESPONSE, b"admin", 7, 0, 0, [(HEIGHT, integer(9))]))
     differs = mismatch(same, other)
     assert differs is not None and differs.kind is Kind.BINDINGS

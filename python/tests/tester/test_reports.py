@@ -10,11 +10,12 @@ from trials.wrong_signs import bench
 from trials.wrong_signs.load import sign_of
 from trials.wrong_signs.table import MUTANTS
 from wisangub.snmp import wire
+from wisangub.snmp.names import scalar
 from wisangub.tester.chapters import ALL
 from wisangub.tester.compare import Kind
 from wisangub.tester.context import Context
 from wisangub.tester.differences import Difference
-from wisangub.tester.objects import Name, Value, scalar
+from wisangub.tester.objects import Name, Value
 from wisangub.tester.report import files, page, terminal, words
 from wisangub.tester.report.picture import pictures
 from wisangub.tester.results import Results
@@ -69,7 +70,7 @@ class Stubborn(Sign):
     """A sign whose pages' time cannot be written."""
 
     def change(self, name: Name, value: Value, is_writer: bool) -> Change:
-        if name == scalar(4, 8):
+        if name == scalar("defaultPageOnTime"):
             raise Refused(wire.GENERAL)
         return super().change(name, value, is_writer)
 

@@ -7,11 +7,12 @@ from model import text
 from model.sign import Sign
 from trials.wrong_signs import bench
 from wisangub.snmp import wire
+from wisangub.snmp.names import Memory, RowStatus, scalar
 from wisangub.tester.chapters import ALL
 from wisangub.tester.chapters.block import Block
 from wisangub.tester.clock import SimulatedClock
 from wisangub.tester.messages import spelled
-from wisangub.tester.objects import Row, integer, scalar
+from wisangub.tester.objects import Column, Row, integer
 from wisangub.tester.report import terminal, words
 from wisangub.tester.results import ChapterResult
 from wisangub.tester.session import Session
@@ -19,8 +20,8 @@ from wisangub.tester.sign.simulated import SimulatedLink
 from wisangub.tester.state.validation_ticks import LONGEST
 from wisangub.tester.steps import Step, Wait, get, put
 
-ROW, TIME = Row(3, 1), scalar(4, 8)
-LOOK = get(ROW.cell(9))
+ROW, TIME = Row(Memory.CHANGEABLE, 1), scalar("defaultPageOnTime")
+LOOK = get(ROW.cell(Column.STATUS))
 Loses = Callable[[bytes], bool]
 
 
@@ -68,11 +69,15 @@ def test_a_lost_reply_is_no_sign_that_rows_settle_at_once() -> None:
     left = [1]
     session, link = over(lambda octets: is_asked(octets, 7) and left.pop() == 1 if left else False)
     assert session.preflight.begin() and link.lost == 1 and is_near(session, link)
-    for ask in (put(ROW.status(6)), put(ROW.status(7)), get(ROW.cell(9))):
+    for ask in (
+        put(ROW.status(RowStatus.MODIFY_REQ)),
+        put(ROW.status(RowStatus.VALIDATE_REQ)),
+        get(ROW.cell(Column.STATUS)),
+    ):
         exchange = session.pair.do(ask)
         assert exchange is not None and exchange.mismatch is None
     session.pair.clock.sleep_until(session.pair.clock.now() + 1.2)
-    exchange = session.pair.do(get(ROW.cell(9)))
+    exchange = session.pair.do(get(ROW.cell(Column.STATUS)))
     assert exchange is not None and exchange.mismatch is None
 
 
@@ -152,8 +157,13 @@ def test_a_validation_that_the_sign_took_after_a_tick_is_no_difference() -> None
     assert session.preflight.begin()
     result = ChapterResult(ALL[0])
     session.results.chapters.append(result)
-    steps: list[Step] = [put(ROW.status(6)), put(ROW.status(7)), get(scalar(5, 2)), Wait(1)]
-    steps.append(get(scalar(5, 2), ROW.cell(9)))
+    steps: list[Step] = [
+        put(ROW.status(RowStatus.MODIFY_REQ)),
+        put(ROW.status(RowStatus.VALIDATE_REQ)),
+        get(scalar("dmsNumChangeableMsg")),
+        Wait(1),
+    ]
+    steps.append(get(scalar("dmsNumChangeableMsg"), ROW.cell(Column.STATUS)))
     session.reset.reach_or_end()
     session.pair.clock.sleep_until(session.pair.ticks.upcoming() - 0.1)
     session.block(result, Block("a validation at a tick", "settled", steps), [])

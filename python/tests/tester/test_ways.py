@@ -6,15 +6,16 @@ from model import text
 from model.sign import Sign
 from trials.wrong_signs import bench
 from wisangub.snmp import wire
+from wisangub.snmp.names import Memory, RowStatus, scalar
 from wisangub.tester.clock import SimulatedClock
-from wisangub.tester.objects import Row, integer, octets, scalar
+from wisangub.tester.objects import Column, Row, integer, octets
 from wisangub.tester.session import Session
 from wisangub.tester.sign.port import Port
 from wisangub.tester.sign.simulated import SimulatedLink
 from wisangub.tester.steps import Ask, get, put
 
-HEIGHT, TIME = scalar(2, 3), scalar(4, 8)
-ROW = Row(3, 1)
+HEIGHT, TIME = scalar("vmsSignHeightPixels"), scalar("defaultPageOnTime")
+ROW = Row(Memory.CHANGEABLE, 1)
 WRITER = (b"public", b"admin")
 
 
@@ -111,9 +112,9 @@ def test_a_late_reply_is_passed_over_by_number_and_octets() -> None:
 def test_what_an_unanswered_set_did_is_read() -> None:
     sets = [
         put((TIME, integer(9))),
-        put(ROW.status(6)),
+        put(ROW.status(RowStatus.MODIFY_REQ)),
         put(ROW.text(b"A"), ROW.priority(7)),
-        put((scalar(6, 3), octets(bytes(12)))),
+        put((scalar("dmsActivateMessage"), octets(bytes(12)))),
     ]
     for is_request_lost in (True, False):
         session, losing = begun()
@@ -121,7 +122,9 @@ def test_what_an_unanswered_set_did_is_read() -> None:
             losing.is_request_lost, losing.is_reply_lost = is_request_lost, not is_request_lost
             exchange = session.pair.do(ask)
             assert exchange is not None and exchange.is_lost, ask
-            same = session.pair.do(get(TIME, ROW.cell(3), ROW.cell(9), scalar(6, 17)))
+            same = session.pair.do(
+                get(TIME, ROW.cell(Column.TEXT), ROW.cell(Column.STATUS), scalar("dmsActivateMsgError"))
+            )
             assert same is not None and same.mismatch is None, ask
             held = session.reset.read([TIME])[TIME]
             assert held == integer(30 if is_request_lost else 9)
@@ -139,11 +142,15 @@ def test_a_request_waits_where_a_tick_is_near() -> None:
 
 def test_a_row_settles_at_both_in_the_same_tick() -> None:
     session, _ = begun()
-    for ask in (put(ROW.status(6)), put(ROW.status(7)), get(ROW.cell(9))):
+    for ask in (
+        put(ROW.status(RowStatus.MODIFY_REQ)),
+        put(ROW.status(RowStatus.VALIDATE_REQ)),
+        get(ROW.cell(Column.STATUS)),
+    ):
         exchange = session.pair.do(ask)
         assert exchange is not None and exchange.mismatch is None
     session.pair.clock.sleep_until(session.pair.ticks.upcoming() + 0.001)
-    exchange = session.pair.do(get(ROW.cell(9)))
+    exchange = session.pair.do(get(ROW.cell(Column.STATUS)))
     reply = wire.spelled(exchange.theirs or b"") if exchange is not None else None
     assert reply is not None and reply.bindings[0][1] == integer(4)
 

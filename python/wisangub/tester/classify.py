@@ -6,7 +6,7 @@ from wisangub.snmp import wire
 
 from .compare import Kind, Mismatch
 from .messages import spelled, status_of
-from .objects import Name, Value, column_of, row_of, scalar_of
+from .objects import Column, Name, Value, column_of, row_of, scalar_of
 from .rules import RULES, Rule
 from .steps import Ask, Step
 
@@ -74,7 +74,7 @@ def better(named: Rule | None, octets: bytes, ours: bytes | None, theirs: bytes 
         return found
     if differs.kind is Kind.STATUS and status_of(ours) == status_of(theirs) and named.chapter == "communities":
         return found  # both refuse for the same cause, and name another binding
-    if found.key == "verdicts" and named.key in SETTLING and column_of(differs.names[0]) == 9:
+    if found.key == "verdicts" and named.key in SETTLING and column_of(differs.names[0]) == Column.STATUS:
         return found
     if differs.kind is Kind.VALUE and named.chapter != found.chapter:
         return found if found.key in CERTAIN or named.chapter in GENERAL else named
@@ -151,7 +151,7 @@ def in_range(value: Value) -> bool:
 def general_error(request: wire.Message, name: Name, index: int) -> str:
     if name in [earlier for earlier, _ in request.bindings[: index - 1]]:
         return "twice"
-    if column_of(name) == 9:
+    if column_of(name) == Column.STATUS:
         return "statuses"
     if scalar_of(name) == (6, 3):
         return "deciding"

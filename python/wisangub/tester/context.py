@@ -3,12 +3,12 @@
 import functools
 from dataclasses import dataclass
 
-from wisangub.snmp.names import COLUMNS, SCALARS
+from wisangub.snmp.names import COLUMNS, SCALARS, Memory, scalar
 from wisangub.tester.sign.judge import Judge
 
 from .checksum import checksum
 from .described import Description
-from .objects import Binding, Name, Row, octets, scalar
+from .objects import Binding, Name, Row, instance, octets
 from .steps import Ask, put
 
 ADDRESS = bytes([192, 0, 2, 1])
@@ -28,8 +28,8 @@ class Context:
     @functools.cached_property
     def rows(self) -> list[Row]:
         """The rows that may be written."""
-        changeable = [Row(3, number + 1) for number in range(self.described.changeable)]
-        return changeable + [Row(4, number + 1) for number in range(self.described.volatile)]
+        changeable = [Row(Memory.CHANGEABLE, number + 1) for number in range(self.described.changeable)]
+        return changeable + [Row(Memory.VOLATILE, number + 1) for number in range(self.described.volatile)]
 
     @functools.cached_property
     def outermost(self) -> list[Row]:
@@ -39,7 +39,7 @@ class Context:
 
     @functools.cached_property
     def permanent(self) -> list[Row]:
-        return [Row(2, number + 1) for number in range(len(self.described.permanent))]
+        return [Row(Memory.PERMANENT, number + 1) for number in range(len(self.described.permanent))]
 
     @property
     def beyond(self) -> list[tuple[int, int]]:
@@ -89,7 +89,7 @@ class Context:
     def blank_code(
         self, number: int = 1, priority: int = 255, minutes: int = NO_END, address: bytes = ADDRESS
     ) -> bytes:
-        return self.code(Row(7, number), 0, priority, minutes, address)
+        return self.code(Row(Memory.BLANK, number), 0, priority, minutes, address)
 
     def message_code(self, row: Row, crc: int) -> bytes:
         """The code of five octets."""
@@ -99,14 +99,19 @@ class Context:
     @property
     def blank(self) -> bytes:
         """The code of blank message 1, of five octets."""
-        return self.message_code(Row(7, 1), 0)
+        return self.message_code(Row(Memory.BLANK, 1), 0)
 
     @functools.cached_property
     def instances(self) -> list[Name]:
         """The names of all that the sign has, in order."""
-        rows = [*self.permanent, *self.rows, Row(5, 1), *[Row(7, number) for number in range(1, 256)]]
+        rows = [
+            *self.permanent,
+            *self.rows,
+            Row(Memory.CURRENT, 1),
+            *[Row(Memory.BLANK, number) for number in range(1, 256)],
+        ]
         return sorted(
-            [*(scalar(*place) for place in SCALARS), *(row.cell(column) for row in rows for column in COLUMNS)]
+            [*(instance(*place) for place in SCALARS), *(row.cell(column) for row in rows for column in COLUMNS)]
         )
 
     @property
@@ -125,8 +130,8 @@ def activate(code: bytes, rule: str = "") -> Ask:
 
 
 def activation(code: bytes) -> Binding:
-    return scalar(6, 3), octets(code)
+    return scalar("dmsActivateMessage"), octets(code)
 
 
 def remaining(minutes: int) -> Binding:
-    return scalar(6, 4), (2, minutes)
+    return scalar("dmsMessageTimeRemaining"), (2, minutes)

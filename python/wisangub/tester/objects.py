@@ -1,9 +1,10 @@
 """The objects of a sign by name, and requests about them."""
 
+import enum
 from dataclasses import dataclass
 
 from wisangub.snmp import wire
-from wisangub.snmp.names import COLUMNS, DMS, SCALARS
+from wisangub.snmp.names import COLUMNS, DMS, SCALARS, TABLE, Memory, RowStatus, scalar
 
 Name = tuple[int, ...]
 Value = tuple[int, int | bytes | Name]
@@ -15,12 +16,20 @@ OWN_CODES = (8, 9, 12, 14, 15)
 STATUSES = {0: "noError", 1: "tooBig", 2: "noSuchName", 3: "badValue", 4: "readOnly", 5: "genErr"}
 
 
-def scalar(group: int, member: int) -> Name:
+class Column(enum.IntEnum):
+    """Columns of dmsMessageTable."""
+
+    MEMORY_TYPE, NUMBER, TEXT, OWNER, CRC, BEACON, PIXEL_SERVICE, PRIORITY, STATUS = range(1, 10)
+
+
+def instance(group: int, member: int) -> Name:
+    """The instance 0 of what has this place below dms, be there such an object or not."""
     return (*DMS, group, member, 0)
 
 
 def cell(column: int, memory: int, number: int) -> Name:
-    return (*DMS, 5, 8, 1, column, memory, number)
+    """A cell of the message table, be there such a row and column or not."""
+    return (*TABLE, int(column), int(memory), number)
 
 
 def after_dms(name: Name) -> Name | None:
@@ -42,7 +51,7 @@ def row_of(name: Name) -> tuple[int, int] | None:
 
 def is_validation(name: Name, value: Value) -> bool:
     """Whether a binding asks a row to validate."""
-    return column_of(name) == 9 and value == (wire.INTEGER, 7)
+    return column_of(name) == Column.STATUS and value == (wire.INTEGER, RowStatus.VALIDATE_REQ)
 
 
 def scalar_of(name: Name) -> tuple[int, int] | None:
@@ -67,10 +76,12 @@ def spoken(name: Name) -> str:
 
 
 def integer(number: int) -> Value:
-    return wire.INTEGER, number
+    """An INTEGER of a binding."""
+    return wire.INTEGER, int(number)
 
 
 def octets(held: bytes) -> Value:
+    """An OCTET STRING of a binding."""
     return wire.OCTETS, held
 
 
@@ -85,25 +96,39 @@ class Row:
         return cell(column, self.memory, self.number)
 
     def text(self, held: bytes) -> Binding:
-        return self.cell(3), octets(held)
+        return self.cell(Column.TEXT), octets(held)
 
     def owner(self, held: bytes) -> Binding:
-        return self.cell(4), octets(held)
+        return self.cell(Column.OWNER), octets(held)
 
     def beacon(self, held: int) -> Binding:
-        return self.cell(6), integer(held)
+        return self.cell(Column.BEACON), integer(held)
 
     def pixel(self, held: int) -> Binding:
-        return self.cell(7), integer(held)
+        return self.cell(Column.PIXEL_SERVICE), integer(held)
 
     def priority(self, held: int) -> Binding:
-        return self.cell(8), integer(held)
+        return self.cell(Column.PRIORITY), integer(held)
 
     def status(self, asked: int) -> Binding:
-        return self.cell(9), integer(asked)
+        return self.cell(Column.STATUS), integer(asked)
 
 
 # what a SET may change, and what reports of it: every scalar that is not fixed
-STATE_SCALARS = [scalar(*place) for place in SCALARS if place not in ((2, 3), (2, 4), (4, 11), (5, 1), (5, 3), (5, 6))]
-SHOWN_CELLS = [cell(column, 5, 1) for column in range(1, 10)]
-EXECUTIVE = [scalar(5, 9)] + [scalar(6, member) for member in (3, 4, 5, 6, 7, 17, 18, 19, 24)]
+STATE_SCALARS = [
+    instance(*place) for place in SCALARS if place not in ((2, 3), (2, 4), (4, 11), (5, 1), (5, 3), (5, 6))
+]
+SHOWN_CELLS = [cell(column, Memory.CURRENT, 1) for column in Column]
+REPORTS = (
+    "dmsValidateMessageError",
+    "dmsActivateMessage",
+    "dmsMessageTimeRemaining",
+    "dmsMsgTableSource",
+    "dmsMsgRequesterID",
+    "dmsMsgSourceMode",
+    "dmsActivateMsgError",
+    "dmsMultiSyntaxError",
+    "dmsMultiSyntaxErrorPosition",
+    "dmsActivateErrorMsgCode",
+)
+EXECUTIVE = [scalar(word) for word in REPORTS]

@@ -3,14 +3,15 @@
 from typing import Callable, Mapping
 
 from wisangub.snmp import wire
+from wisangub.snmp.names import scalar
 
-from .objects import scalar
+from .objects import instance
 
 Form = Callable[[int, bytes], bytes]  # the octets of an element, from its tag and its content
 
 PLACES = ("message", "version", "community", "pdu", "number", "status", "index", "list", "binding", "name", "value")
-HEIGHT = scalar(2, 3)
-NOWHERE = scalar(2, 5)  # no instance: a reply to it repeats the binding
+HEIGHT = scalar("vmsSignHeightPixels")
+NOWHERE = instance(2, 5)  # no instance: a reply to it repeats the binding
 
 
 def length_of(octets: int) -> Form:

@@ -4,12 +4,12 @@ from dataclasses import dataclass, field
 from enum import Enum
 
 from wisangub.snmp import wire
-from wisangub.snmp.names import KINDS
+from wisangub.snmp.names import KINDS, scalar
 from wisangub.tester.messages import spelled
-from wisangub.tester.objects import Name, column_of, row_of, scalar, scalar_of, spoken
+from wisangub.tester.objects import Column, Name, column_of, instance, row_of, scalar_of, spoken
 
 RowName = tuple[int, int]
-ERROR = scalar(6, 17)
+ERROR = scalar("dmsActivateMsgError")
 FIELDS = (3, 4, 6, 7, 8)
 COMMANDS = ((6, 3), (6, 4))
 SOON = 0.95  # seconds: what comes sooner than this after the same read polls faster than once a second
@@ -111,7 +111,7 @@ class Watch:
         if answer.status == wire.NO_ERROR:
             for name, _ in answer.bindings:
                 row = row_of(name)
-                if row is not None and column_of(name) == 5:
+                if row is not None and column_of(name) == Column.CRC:
                     self.row(row).is_read = True
 
     def set(self, moment: float, octets: bytes, message: wire.Message, answer: wire.Message) -> None:
@@ -124,7 +124,7 @@ class Watch:
                 break
         for name, (_, held) in message.bindings:
             row = row_of(name)
-            if row is not None and column_of(name) == 9 and isinstance(held, int):
+            if row is not None and column_of(name) == Column.STATUS and isinstance(held, int):
                 self.asked(moment, octets, row, held, is_taken)
             elif scalar_of(name) == (6, 3) and isinstance(held, bytes) and len(held) == 12:
                 self.activated(moment, octets, held, is_taken)
@@ -150,7 +150,7 @@ class Watch:
             known.is_read = False
             known.refused = set()
         elif asked == 7:
-            known.refused.add((*scalar(5, 8)[:-1], 1, 9, *row))
+            known.refused.add((*instance(5, 8)[:-1], 1, 9, *row))
 
     def activated(self, moment: float, octets: bytes, code: bytes, is_taken: bool) -> None:
         row = (code[3], int.from_bytes(code[4:6], "big"))

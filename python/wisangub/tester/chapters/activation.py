@@ -2,8 +2,9 @@
 
 from typing import Iterator
 
+from wisangub.snmp.names import Memory, scalar
 from wisangub.tester.context import ADDRESS, Context, activate, activation, remaining
-from wisangub.tester.objects import Row, integer, scalar
+from wisangub.tester.objects import Row, integer
 from wisangub.tester.steps import Step, Wait, get, put
 
 from .block import Block, Chapter, fill, look, message, modify, reports, unuse, validate
@@ -24,17 +25,24 @@ def without_rows(context: Context) -> Iterator[Block]:
     for row in numbers:
         yield Block("no such row", "deciding", tried(context, Row(*row), 0))
     for number, crc in ((1, 0), (2, 0), (255, 0x1234), (77, 0xFFFF)):
-        steps = [activate(context.code(Row(7, number), crc)), *look()]
+        steps = [activate(context.code(Row(Memory.BLANK, number), crc)), *look()]
         yield Block("a blank message", "shown", steps, True)
     yield Block(
         "an address", "shown", [activate(context.blank_code(3, address=bytes([255, 0, 1, 254]))), *look()], True
     )
     for crc in (0, 0x0F47, 1):
-        yield Block("the current buffer while it is blank", "deciding", [*tried(context, Row(5, 1), crc)], True)
-    named: list[Step] = [activate(context.code(Row(7, 9), 0x1234)), *tried(context, Row(5, 1), 0x1234)]
-    yield Block("the current buffer while it is blank", "deciding", [*named, *tried(context, Row(5, 1), 0)], True)
+        yield Block(
+            "the current buffer while it is blank", "deciding", [*tried(context, Row(Memory.CURRENT, 1), crc)], True
+        )
+    named: list[Step] = [
+        activate(context.code(Row(Memory.BLANK, 9), 0x1234)),
+        *tried(context, Row(Memory.CURRENT, 1), 0x1234),
+    ]
+    yield Block(
+        "the current buffer while it is blank", "deciding", [*named, *tried(context, Row(Memory.CURRENT, 1), 0)], True
+    )
     ended: list[Step] = [put(remaining(0), rule="remaining"), reports(rule="own activation")]
-    kept: list[Step] = [*ended, *tried(context, Row(5, 1), 0, minutes=9), *look()]
+    kept: list[Step] = [*ended, *tried(context, Row(Memory.CURRENT, 1), 0, minutes=9), *look()]
     yield Block("the current buffer after an end", "current buffer", kept, True)
 
 
@@ -55,16 +63,22 @@ def changeable(context: Context, row: Row) -> Iterator[Block]:
     put_up: list[Step] = [*message(row, text, b"owner", beacon, pixel, 3), activate(context.code(row, crc)), *look(row)]
     yield Block("a message of one's own", "shown", put_up, True)
     yield Block(
-        "the current buffer", "current buffer", [*tried(context, Row(5, 1), crc, address=bytes([10, 0, 0, 1])), *look()]
+        "the current buffer",
+        "current buffer",
+        [*tried(context, Row(Memory.CURRENT, 1), crc, address=bytes([10, 0, 0, 1])), *look()],
     )
-    ending = activate(context.code(Row(5, 1), crc, minutes=30))
+    ending = activate(context.code(Row(Memory.CURRENT, 1), crc, minutes=30))
     yield Block("the current buffer with an end", "current buffer", [ending, *look()])
-    yield Block("the current buffer, another checksum", "deciding", tried(context, Row(5, 1), crc ^ 1))
-    yield Block("the current buffer, no second", "deciding", tried(context, Row(5, 2), crc))
+    yield Block("the current buffer, another checksum", "deciding", tried(context, Row(Memory.CURRENT, 1), crc ^ 1))
+    yield Block("the current buffer, no second", "deciding", tried(context, Row(Memory.CURRENT, 2), crc))
     changed: list[Step] = [modify(row), put(row.text(b""), row.owner(b""), row.priority(9)), *look(rule="copied")]
     yield Block("the row is modified", "copied", changed)
     yield Block("a row that is modified", "deciding", [*tried(context, row, crc), *tried(context, row, 0)])
-    yield Block("the current buffer outlives the row", "current buffer", [unuse(row), *tried(context, Row(5, 1), crc)])
+    yield Block(
+        "the current buffer outlives the row",
+        "current buffer",
+        [unuse(row), *tried(context, Row(Memory.CURRENT, 1), crc)],
+    )
     yield Block("a row that is not used", "deciding", [*tried(context, row, 0), *tried(context, row, context.crc(b""))])
     yield Block("blank again", "accepted", [activate(context.blank_code(1)), *look()])
 
@@ -91,7 +105,7 @@ def unfit(context: Context, row: Row) -> Iterator[Block]:
 
 def order(context: Context) -> Iterator[Block]:
     """Codes with more than one cause."""
-    several = [Row(9, 0), Row(3, 0), Row(0, 65535)]
+    several = [Row(9, 0), Row(Memory.CHANGEABLE, 0), Row(0, 65535)]
     for row in several:
         yield Block("more than one cause", "deciding", tried(context, row, 0x1234, priority=0))
     for row in context.rows[:1]:
@@ -111,10 +125,14 @@ def reported(context: Context) -> Iterator[Block]:
         reports(rule="refused"),
     ]
     yield Block("what is reported", "refused", steps, True)
-    both = put((scalar(4, 8), integer(12)), activation(bad))
+    both = put((scalar("defaultPageOnTime"), integer(12)), activation(bad))
     yield Block("a refusal leaves the rest", "refused", [both, *look()], True)
-    accepted = put((scalar(4, 8), integer(12)), activation(good), (scalar(6, 10), integer(3)))
-    yield Block("an activation with other values", "accepted", [accepted, *look(), get(scalar(6, 3))], True)
+    accepted = put(
+        (scalar("defaultPageOnTime"), integer(12)), activation(good), (scalar("dmsShortPowerLossTime"), integer(3))
+    )
+    yield Block(
+        "an activation with other values", "accepted", [accepted, *look(), get(scalar("dmsActivateMessage"))], True
+    )
 
 
 def blocks(context: Context) -> Iterator[Block]:

@@ -3,9 +3,10 @@
 from typing import Callable, Iterator
 
 from wisangub.snmp import wire
+from wisangub.snmp.names import scalar
 from wisangub.tester import spelling
 from wisangub.tester.context import Context
-from wisangub.tester.objects import NULL, scalar
+from wisangub.tester.objects import NULL
 from wisangub.tester.spelling import HEIGHT, NOWHERE, PLACES, spelled
 from wisangub.tester.steps import Ask, Raw, fixed, get, get_next
 
@@ -16,7 +17,7 @@ from .block import Block, Chapter
 INSIDE = ("message", "pdu", "list", "binding")
 WRITE: dict[str, object] = {
     "kind": wire.SET,
-    "name": wire.name_content(scalar(4, 8)),
+    "name": wire.name_content(scalar("defaultPageOnTime")),
     "value": b"\7",
     "tag": wire.INTEGER,
 }

@@ -3,8 +3,9 @@
 from dataclasses import dataclass, field
 from typing import Callable, Iterator, Sequence
 
+from wisangub.snmp.names import RowStatus
 from wisangub.tester.context import Context
-from wisangub.tester.objects import EXECUTIVE, SHOWN_CELLS, STATE_SCALARS, Binding, Name, Row
+from wisangub.tester.objects import EXECUTIVE, SHOWN_CELLS, STATE_SCALARS, Binding, Column, Name, Row
 from wisangub.tester.steps import Ask, Step, Wait, get, looks, put
 
 
@@ -32,7 +33,7 @@ class Chapter:
 
 
 def modify(row: Row) -> Ask:
-    return put(row.status(6), rule="statuses")
+    return put(row.status(RowStatus.MODIFY_REQ), rule="statuses")
 
 
 def fill(
@@ -45,16 +46,16 @@ def fill(
 
 
 def validate(row: Row) -> Ask:
-    return put(row.status(7), rule="statuses")
+    return put(row.status(RowStatus.VALIDATE_REQ), rule="statuses")
 
 
 def unuse(row: Row) -> Ask:
-    return put(row.status(8), rule="statuses")
+    return put(row.status(RowStatus.NOT_USED_REQ), rule="statuses")
 
 
 def settle(row: Row, rule: str = "settled") -> list[Step]:
     """A row is asked to validate, and a tick passes."""
-    return [validate(row), Wait(1), get(row.cell(9), rule=rule)]
+    return [validate(row), Wait(1), get(row.cell(Column.STATUS), rule=rule)]
 
 
 def message(

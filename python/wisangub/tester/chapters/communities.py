@@ -4,8 +4,9 @@ from dataclasses import replace
 from typing import Iterator
 
 from wisangub.snmp import wire
+from wisangub.snmp.names import Memory, RowStatus, scalar
 from wisangub.tester.context import Context, activate
-from wisangub.tester.objects import NULL, Row, cell, integer, scalar
+from wisangub.tester.objects import NULL, Row, cell, instance, integer
 from wisangub.tester.steps import Ask, get, get_next, put
 
 from .block import Block, Chapter, look
@@ -30,29 +31,37 @@ def strangers(communities: tuple[bytes, bytes]) -> list[bytes]:
 
 
 def blocks(context: Context) -> Iterator[Block]:
-    reads = [get(scalar(2, 3)), get_next(scalar(2, 3)), get(cell(9, 5, 1), scalar(6, 5))]
+    reads = [
+        get(scalar("vmsSignHeightPixels")),
+        get_next(scalar("vmsSignHeightPixels")),
+        get(cell(9, 5, 1), scalar("dmsMsgTableSource")),
+    ]
     yield Block("the reader reads", "reader reads", [replace(read, is_writer=False) for read in reads])
     yield Block("the writer reads", "reader reads", reads)
     refusals = [
-        put((scalar(4, 8), integer(10))),
-        put((scalar(4, 8), integer(256))),
-        put((scalar(9, 9), integer(10))),
-        put((scalar(4, 8), integer(10)), (scalar(4, 8), integer(11))),
+        put((scalar("defaultPageOnTime"), integer(10))),
+        put((scalar("defaultPageOnTime"), integer(256))),
+        put((instance(9, 9), integer(10))),
+        put((scalar("defaultPageOnTime"), integer(10)), (scalar("defaultPageOnTime"), integer(11))),
         activate(context.blank_code(3)),
-        put((scalar(6, 4), integer(1))),
-        put((scalar(2, 3), NULL)),
+        put((scalar("dmsMessageTimeRemaining"), integer(1))),
+        put((scalar("vmsSignHeightPixels"), NULL)),
     ]
     if context.rows:
-        row = Row(3, 1) if context.described.changeable else Row(4, 1)
-        refusals += [put(row.status(6)), put(row.status(7)), put(row.text(b"A"))]
+        row = Row(Memory.CHANGEABLE, 1) if context.described.changeable else Row(Memory.VOLATILE, 1)
+        refusals += [
+            put(row.status(RowStatus.MODIFY_REQ)),
+            put(row.status(RowStatus.VALIDATE_REQ)),
+            put(row.text(b"A")),
+        ]
     yield Block("the reader writes", "reader writes", [replace(step, is_writer=False) for step in refusals])
     yield Block("nothing was written", "reader writes", look())
     yield Block("the reader writes nothing", "set", [replace(put(), is_writer=False), put()])
     for community in strangers(context.communities):
         asks = [
-            Ask(wire.GET, ((scalar(2, 3), NULL),), community=community),
-            Ask(wire.GET_NEXT, ((scalar(2, 3), NULL),), community=community),
-            Ask(wire.SET, ((scalar(4, 8), integer(20)),), community=community),
+            Ask(wire.GET, ((scalar("vmsSignHeightPixels"), NULL),), community=community),
+            Ask(wire.GET_NEXT, ((scalar("vmsSignHeightPixels"), NULL),), community=community),
+            Ask(wire.SET, ((scalar("defaultPageOnTime"), integer(20)),), community=community),
         ]
         yield Block("a community that is neither", "no community", asks)
     yield Block("nothing was written", "no community", look())

@@ -3,6 +3,7 @@
 import itertools
 from typing import Iterator
 
+from wisangub.snmp.names import Memory
 from wisangub.tester.context import Context, activate
 from wisangub.tester.objects import Row
 from wisangub.tester.steps import Step, Wait, put
@@ -24,7 +25,7 @@ def decide(context: Context, row: Row) -> Iterator[Block]:
         steps: list[Step] = [
             *[held.good, *judged(row, held.text), held.bad, later, *look(row, rule="not followed"), code, *look(row)],
             *[held.good, code, *look(row), held.bad, *look(rule="copied")],
-            *[activate(context.code(Row(5, 1), crc)), *look(rule="current buffer"), code, *look()],
+            *[activate(context.code(Row(Memory.CURRENT, 1), crc)), *look(rule="current buffer"), code, *look()],
             *[activate(context.blank_code(200)), low, reports()],
         ]
         yield Block(f"an activation under default {held.member}", "fits now", steps, True)

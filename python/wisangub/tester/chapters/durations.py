@@ -2,25 +2,26 @@
 
 from typing import Iterator
 
+from wisangub.snmp.names import Memory, scalar
 from wisangub.tester.context import Context, activate, remaining
-from wisangub.tester.objects import Binding, Row, octets, scalar
+from wisangub.tester.objects import Binding, Row, octets
 from wisangub.tester.steps import Step, Wait, get, put
 
 from .block import Block, Chapter, fill, look, message, modify, reports, validate
 from .telling import telling
 
-REMAINING = scalar(6, 4)
+REMAINING = scalar("dmsMessageTimeRemaining")
 
 
 def end_code(code: bytes) -> Binding:
-    return scalar(6, 15), octets(code)
+    return scalar("dmsEndDurationMessage"), octets(code)
 
 
 def at_end(context: Context) -> list[tuple[str, str, bytes]]:
     """End-duration codes, each with its rule."""
     codes = [
-        ("blank message 7", "own activation", context.message_code(Row(7, 7), 0)),
-        ("blank message 1", "remaining", context.message_code(Row(7, 1), 5)),
+        ("blank message 7", "own activation", context.message_code(Row(Memory.BLANK, 7), 0)),
+        ("blank message 1", "remaining", context.message_code(Row(Memory.BLANK, 1), 5)),
         ("the current buffer", "own current", b"\5\0\1\0\0"),
         ("the current buffer by another number", "own current", b"\5\0\7\x12\x34"),
         ("no type of memory", "own refused", b"\6\0\1\0\0"),
@@ -45,7 +46,7 @@ def at_once(context: Context) -> Iterator[Block]:
     yield Block("minutes after an end", "remaining", after, True)
     failed = activate(context.code(Row(9, 9), 0x99))
     yield Block("0 minutes after a refusal", "own refused", [failed, put(remaining(0)), *look()], True)
-    together = put(end_code(context.message_code(Row(7, 9), 0)), remaining(0))
+    together = put(end_code(context.message_code(Row(Memory.BLANK, 9), 0)), remaining(0))
     yield Block("0 minutes and their code at once", "remaining", [together, *look()], True)
 
 
@@ -76,7 +77,12 @@ def minutes(context: Context) -> Iterator[Block]:
 def nothing_left(context: Context) -> Iterator[Block]:
     """A duration of 0 minutes ends at the next tick."""
     ends: list[Step] = [activate(context.blank_code(200, 255, 0, bytes([10, 9, 8, 7]))), *look(), Wait(1), *look()]
-    yield Block("0 minutes by an activation", "ends", [put(end_code(context.message_code(Row(7, 7), 0))), *ends], True)
+    yield Block(
+        "0 minutes by an activation",
+        "ends",
+        [put(end_code(context.message_code(Row(Memory.BLANK, 7), 0))), *ends],
+        True,
+    )
     yield Block("an end that is refused", "own refused", [put(end_code(b"\3\0\0\0\0")), *ends], True)
     yield Block(
         "an end that keeps what is shown", "own current", [put(end_code(b"\5\0\1\0\0")), *ends, Wait(1), *look()], True
@@ -103,7 +109,7 @@ def nothing_left(context: Context) -> Iterator[Block]:
 
 def whole(context: Context) -> Iterator[Block]:
     """Whole minutes, to the tick."""
-    code = put(end_code(context.message_code(Row(7, 7), 0)))
+    code = put(end_code(context.message_code(Row(Memory.BLANK, 7), 0)))
     for begin in (activate(context.blank_code(200, 255, 1)), put(remaining(1))):
         late: list[Step] = [code, Wait(1), begin, Wait(59), reports(), Wait(1), reports(), Wait(1), reports()]
         yield Block("a minute", "ends", late, True)

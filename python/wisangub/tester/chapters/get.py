@@ -4,29 +4,29 @@ from dataclasses import replace
 from typing import Iterator
 
 from wisangub.snmp import wire
-from wisangub.snmp.names import DMS
+from wisangub.snmp.names import DMS, scalar
 from wisangub.tester.context import Context
-from wisangub.tester.objects import NULL, Name, Row, cell, column_of, integer, octets, row_of, scalar
+from wisangub.tester.objects import NULL, Column, Name, Row, cell, column_of, instance, integer, octets, row_of
 from wisangub.tester.steps import Ask, get, looks
 
 from .block import Block, Chapter, look, message
 
 NO_INSTANCES: list[Name] = [
-    scalar(2, 3)[:-1],
-    scalar(2, 3)[:-1] + (1,),
-    scalar(2, 3) + (0,),
-    scalar(4, 10),
-    scalar(4, 12),
-    scalar(5, 8),
-    scalar(5, 10),
-    scalar(6, 1),
-    scalar(6, 2),
-    scalar(6, 11),
-    scalar(6, 16),
-    scalar(6, 20),
-    scalar(6, 25),
-    scalar(7, 1),
-    scalar(1, 1),
+    scalar("vmsSignHeightPixels")[:-1],
+    scalar("vmsSignHeightPixels")[:-1] + (1,),
+    scalar("vmsSignHeightPixels") + (0,),
+    instance(4, 10),
+    instance(4, 12),
+    instance(5, 8),
+    instance(5, 10),
+    instance(6, 1),
+    instance(6, 2),
+    instance(6, 11),
+    instance(6, 16),
+    instance(6, 20),
+    instance(6, 25),
+    instance(7, 1),
+    instance(1, 1),
     DMS,
     DMS + (5, 8, 1, 3),
     DMS + (5, 8, 1, 3, 3),
@@ -44,9 +44,9 @@ NO_INSTANCES: list[Name] = [
     DMS + (5, 8, 1, 3, 3, 65537),
     DMS + (5, 8, 1, 9, 259, 1),
     DMS + (5, 8, 1, 259, 3, 1),
-    scalar(4, 257),
-    scalar(260, 1),
-    scalar(6, 3)[:-1] + (256,),
+    instance(4, 257),
+    instance(260, 1),
+    scalar("dmsActivateMessage")[:-1] + (256,),
 ]
 
 
@@ -68,9 +68,9 @@ def rule_for(name: Name) -> str:
     """What the values of an object are to be by."""
     row = row_of(name)
     if row is not None and row[0] == 7:
-        return "blank checksum" if column_of(name) == 5 else "blank rows"
+        return "blank checksum" if column_of(name) == Column.CRC else "blank rows"
     if row is not None:
-        return "checksum" if column_of(name) == 5 else "the table's rows"
+        return "checksum" if column_of(name) == Column.CRC else "the table's rows"
     place = tuple(name[len(DMS) : len(DMS) + 2])
     rules: dict[Name, str] = {(5, 2): "counts", (5, 5): "counts", (5, 4): "free memory", (5, 7): "free memory"}
     return rules.get(place, "values")
@@ -92,7 +92,7 @@ def blocks(context: Context) -> Iterator[Block]:
         yield Block("every instance by the reader", "reader reads", [replace(step, is_writer=False)])
     for name in NO_INSTANCES + no_rows(context):
         yield Block("no instance", "get", [get(name), get(name, is_writer=False)])
-    here, none = scalar(2, 3), scalar(2, 5)
+    here, none = scalar("vmsSignHeightPixels"), instance(2, 5)
     lists: list[list[Name]] = [
         [],
         [here, here],

@@ -3,9 +3,9 @@
 from typing import Iterator
 
 from wisangub.snmp import wire
-from wisangub.snmp.names import DMS
+from wisangub.snmp.names import DMS, scalar
 from wisangub.tester.context import Context
-from wisangub.tester.objects import NULL, Name, integer, octets, scalar
+from wisangub.tester.objects import NULL, Name, integer, octets
 from wisangub.tester.steps import Ask, get_next
 
 from .block import Block, Chapter
@@ -75,7 +75,7 @@ def blocks(context: Context) -> Iterator[Block]:
     around = gaps(names)
     for at in range(0, len(around), 30):
         yield Block("over every gap", "order", [get_next(*around[at : at + 30])])
-    here = scalar(2, 3)
+    here = scalar("vmsSignHeightPixels")
     for name in PAST:
         yield Block(
             "past the last",

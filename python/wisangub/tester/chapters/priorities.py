@@ -2,6 +2,7 @@
 
 from typing import Iterator
 
+from wisangub.snmp.names import Memory
 from wisangub.tester.context import Context, activate
 from wisangub.tester.objects import Row
 from wisangub.tester.steps import Step
@@ -20,7 +21,9 @@ def against(context: Context, shown: Row, crc: int, priority: int) -> list[Step]
 
 def blanks(context: Context) -> Iterator[Block]:
     for number in (1, 2, 100, 128, 254, 255):
-        yield Block(f"blank message {number} is shown", "priority", against(context, Row(7, number), 0, number), True)
+        yield Block(
+            f"blank message {number} is shown", "priority", against(context, Row(Memory.BLANK, number), 0, number), True
+        )
     low = [
         activate(context.blank_code(200, 255)),
         activate(context.blank_code(3, 200)),
@@ -32,9 +35,9 @@ def blanks(context: Context) -> Iterator[Block]:
     yield Block("the run-time priority counts, not the code's", "priority", low, True)
     buffer = [
         activate(context.blank_code(200, 255)),
-        activate(context.code(Row(5, 1), 0, 199)),
+        activate(context.code(Row(Memory.CURRENT, 1), 0, 199)),
         reports(),
-        activate(context.code(Row(5, 1), 0, 200)),
+        activate(context.code(Row(Memory.CURRENT, 1), 0, 200)),
         reports(),
     ]
     yield Block("a code of the current buffer", "priority", buffer, True)

@@ -3,8 +3,9 @@
 from typing import Iterator
 
 from wisangub.snmp import wire
+from wisangub.snmp.names import RowStatus, scalar
 from wisangub.tester.context import Context
-from wisangub.tester.objects import NULL, Binding, integer, octets, scalar
+from wisangub.tester.objects import NULL, Binding, integer, octets
 from wisangub.tester.steps import Ask, Raw, Step, Wait
 
 from .block import Block, Chapter, look
@@ -37,9 +38,9 @@ class Requests(Values):
                 self.chance.choice([6, 6, 6, 7, 7, 8, self.chance.choice([5, 9])])
             )
         if draw < 0.80:
-            return scalar(6, 3), octets(self.code())
+            return scalar("dmsActivateMessage"), octets(self.code())
         if draw < 0.84:
-            return scalar(6, 4), integer(self.chance.choice([0, 1, 2, 65535, 65536]))
+            return scalar("dmsMessageTimeRemaining"), integer(self.chance.choice([0, 1, 2, 65535, 65536]))
         if draw < 0.97:
             return self.setting()
         return self.name(), self.wild()
@@ -80,11 +81,11 @@ class Requests(Values):
             row, self.context.crc(text, beacon, 0), self.chance.choice([255, 100]), self.chance.choice([65535, 0, 1])
         )
         return [
-            Ask(wire.SET, (row.status(6),)),
+            Ask(wire.SET, (row.status(RowStatus.MODIFY_REQ),)),
             Ask(wire.SET, (row.text(text), row.beacon(beacon), row.priority(priority))),
-            Ask(wire.SET, (row.status(7),)),
+            Ask(wire.SET, (row.status(RowStatus.VALIDATE_REQ),)),
             Wait(1),
-            Ask(wire.SET, ((scalar(6, 3), octets(code)),)),
+            Ask(wire.SET, ((scalar("dmsActivateMessage"), octets(code)),)),
         ]
 
     def sequence(self, length: int) -> list[Step]:

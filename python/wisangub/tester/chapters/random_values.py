@@ -3,7 +3,7 @@
 import random
 
 from wisangub.snmp import wire
-from wisangub.snmp.names import SCALARS
+from wisangub.snmp.names import SCALARS, Memory, scalar
 from wisangub.tester.context import ADDRESS, Context
 from wisangub.tester.hostile_datagrams import Maker
 from wisangub.tester.objects import (
@@ -15,9 +15,9 @@ from wisangub.tester.objects import (
     Row,
     Value,
     cell,
+    instance,
     integer,
     octets,
-    scalar,
 )
 
 BOUNDS = [*range(13), 100, 127, 128, 254, 255, 256, 65534, 65535, 65536, -1, 2**31 - 1, 2**32 - 1]
@@ -30,8 +30,8 @@ class Values:
     def __init__(self, context: Context, seed: int) -> None:
         self.context, self.chance = context, random.Random(seed)
         self.maker = Maker(seed)
-        changeable = [row for row in context.rows if row.memory == 3]
-        volatile = [row for row in context.rows if row.memory == 4]
+        changeable = [row for row in context.rows if row.memory == Memory.CHANGEABLE]
+        volatile = [row for row in context.rows if row.memory == Memory.VOLATILE]
         self.rows = list(dict.fromkeys([*changeable[:2], *volatile[:1], *changeable[-1:], *volatile[-1:]]))
         self.held: dict[Row, tuple[bytes, int, int]] = {}
         one = context.character()
@@ -58,13 +58,13 @@ class Values:
         if draw < 0.85 and self.rows:
             return self.chance.choice(self.rows).cell(self.chance.randint(1, 9))
         if draw < 0.93:
-            return scalar(*self.chance.choice(list(SCALARS)))
+            return instance(*self.chance.choice(list(SCALARS)))
         near = self.chance.choice(
             [
                 cell(self.chance.randint(0, 10), self.chance.randint(1, 8), self.chance.choice([0, 1, 2, 255, 256])),
-                scalar(self.chance.randint(1, 7), self.chance.randint(0, 25)),
-                scalar(4, 1)[:-1],
-                scalar(6, 3) + (1,),
+                instance(self.chance.randint(1, 7), self.chance.randint(0, 25)),
+                scalar("defaultBackgroundColor")[:-1],
+                scalar("dmsActivateMessage") + (1,),
             ]
         )
         return near
@@ -88,12 +88,12 @@ class Values:
             [*[(4, member) for member in range(1, 10)], *[(6, member) for member in OWN_CODES], (6, 10)]
         )
         if self.chance.random() < 0.08:
-            return scalar(*place), self.wild()
+            return instance(*place), self.wild()
         if place[0] == 6 and place[1] in OWN_CODES:
-            return scalar(*place), octets(self.message_code())
+            return instance(*place), octets(self.message_code())
         most = {1: 9, 2: 9, 5: 4, 6: 4, 7: 4}.get(place[1], 255) if place[0] == 4 else 65535
         least = 2 if place in ((4, 6), (4, 7)) else 0
-        return scalar(*place), integer(self.chance.choice([least, most, self.chance.randint(least, most), most + 1]))
+        return instance(*place), integer(self.chance.choice([least, most, self.chance.randint(least, most), most + 1]))
 
     def field(self, row: Row) -> Binding:
         draw = self.chance.random()
@@ -123,14 +123,14 @@ class Values:
             row = self.chance.choice(self.rows)
             return row, self.context.crc(*self.held.get(row, (b"", 0, 0)))
         if draw < 0.65 or not self.context.permanent:
-            return Row(7, self.chance.choice([1, 2, 100, 254, 255, 0, 256])), self.chance.choice([0, 5])
+            return Row(Memory.BLANK, self.chance.choice([1, 2, 100, 254, 255, 0, 256])), self.chance.choice([0, 5])
         if draw < 0.85:
             at = self.chance.randrange(len(self.context.permanent))
             held = self.context.described.permanent[at]
             return self.context.permanent[at], self.context.crc(held.text, held.beacon, held.pixel)
         if draw < 0.95:
             held_text = self.held.get(self.chance.choice(self.rows), (b"", 0, 0)) if self.rows else (b"", 0, 0)
-            return Row(5, 1), self.chance.choice([0, self.context.crc(*held_text)])
+            return Row(Memory.CURRENT, 1), self.chance.choice([0, self.context.crc(*held_text)])
         return Row(self.chance.choice([0, 1, 6, 8]), 1), 0
 
     def message_code(self) -> bytes:

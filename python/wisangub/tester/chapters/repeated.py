@@ -4,8 +4,9 @@ import itertools
 from dataclasses import replace
 from typing import Iterator
 
+from wisangub.snmp.names import RowStatus, scalar
 from wisangub.tester.context import Context, activate, remaining
-from wisangub.tester.objects import Row, integer, octets, scalar
+from wisangub.tester.objects import Column, Row, instance, integer, octets
 from wisangub.tester.steps import Ask, Step, Wait, get, get_next, put
 
 from .block import Block, Chapter, fill, look, look_at, modify, unuse
@@ -21,23 +22,38 @@ def again(ask: Ask, times: int = 2) -> list[Step]:
 
 def scalars(context: Context) -> Iterator[Block]:
     for ask in (
-        get(scalar(2, 3)),
-        get_next(scalar(2, 3)),
-        get(scalar(2, 5)),
-        put((scalar(4, 8), integer(9))),
-        put((scalar(4, 8), integer(256))),
+        get(scalar("vmsSignHeightPixels")),
+        get_next(scalar("vmsSignHeightPixels")),
+        get(instance(2, 5)),
+        put((scalar("defaultPageOnTime"), integer(9))),
+        put((scalar("defaultPageOnTime"), integer(256))),
     ):
-        yield Block("a request repeated", "repeated", [*again(ask, 3), look_at(scalar(4, 8))])
+        yield Block("a request repeated", "repeated", [*again(ask, 3), look_at(scalar("defaultPageOnTime"))])
     number = next(GROUPS)
-    read, writes = get(scalar(4, 8)), [put((scalar(4, 8), integer(value))) for value in (9, 10)]
-    others = [get(scalar(2, 3)), get(scalar(2, 4)), writes[0], read, writes[1], read, get_next(scalar(4, 8))]
+    read, writes = get(scalar("defaultPageOnTime")), [
+        put((scalar("defaultPageOnTime"), integer(value))) for value in (9, 10)
+    ]
+    others = [
+        get(scalar("vmsSignHeightPixels")),
+        get(scalar("vmsSignWidthPixels")),
+        writes[0],
+        read,
+        writes[1],
+        read,
+        get_next(scalar("defaultPageOnTime")),
+    ]
     shared: list[Step] = [replace(ask, group=number) for ask in others]
-    yield Block("other requests with one number", "not looked at", [*shared, look_at(scalar(4, 8))], True)
-    first, second = again(put((scalar(4, 8), integer(1))))[0], again(put((scalar(4, 8), integer(2))))[0]
+    yield Block(
+        "other requests with one number", "not looked at", [*shared, look_at(scalar("defaultPageOnTime"))], True
+    )
+    first, second = (
+        again(put((scalar("defaultPageOnTime"), integer(1))))[0],
+        again(put((scalar("defaultPageOnTime"), integer(2))))[0],
+    )
     yield Block(
         "an earlier request comes late",
         "repeated",
-        [first, second, look_at(scalar(4, 8)), first, look_at(scalar(4, 8))],
+        [first, second, look_at(scalar("defaultPageOnTime")), first, look_at(scalar("defaultPageOnTime"))],
         True,
     )
     blank, refused = activate(context.blank_code(5, 255)), activate(context.code(Row(9, 1), 0x77))
@@ -52,19 +68,19 @@ def scalars(context: Context) -> Iterator[Block]:
     yield Block(
         "0 minutes repeated",
         "repeated",
-        [put((scalar(6, 15), octets(b"\7\0\7\0\0"))), *again(put(remaining(0))), *look()],
+        [put((scalar("dmsEndDurationMessage"), octets(b"\7\0\7\0\0"))), *again(put(remaining(0))), *look()],
         True,
     )
 
 
 def rows(context: Context, row: Row) -> Iterator[Block]:
     filled = fill(row, context.character())
-    validate = again(put(row.status(7)))
-    early: list[Step] = [filled, *again(put(row.status(7))), *again(modify(row)), *look(row)]
+    validate = again(put(row.status(RowStatus.VALIDATE_REQ)))
+    early: list[Step] = [filled, *again(put(row.status(RowStatus.VALIDATE_REQ))), *again(modify(row)), *look(row)]
     yield Block("a publication out of order", "repeated", early, True)
     twice: list[Step] = [*again(modify(row)), *again(filled), Wait(0), *validate, Wait(1), *look(row)]
     yield Block("commands of a row repeated", "repeated", twice, True)
-    late: list[Step] = [validate[0], look_at(row.cell(9)), *again(unuse(row)), validate[0], *look(row)]
+    late: list[Step] = [validate[0], look_at(row.cell(Column.STATUS)), *again(unuse(row)), validate[0], *look(row)]
     yield Block("a validation that comes late", "repeated", late)
 
 

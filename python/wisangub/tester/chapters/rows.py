@@ -2,14 +2,15 @@
 
 from typing import Iterator
 
+from wisangub.snmp.names import RowStatus
 from wisangub.tester.context import Context
-from wisangub.tester.objects import Row, scalar
+from wisangub.tester.objects import Column, Row, instance
 from wisangub.tester.steps import Step, Wait, put
 
 from .block import Block, Chapter, fill, look, look_at, message, modify, settle, unuse, validate
 
 BAD_TEXT = b"[zz]"
-COUNTS = [scalar(5, member) for member in range(1, 8)]
+COUNTS = [instance(5, member) for member in range(1, 8)]
 
 
 def reaching(context: Context, row: Row, status: int) -> list[Step]:
@@ -42,7 +43,7 @@ def transitions(context: Context, row: Row, is_settled: bool = True) -> Iterator
         yield Block(
             f"status {status}: fields", "fields", [*reaching(context, row, status), *writes(row), *look(row)], True
         )
-    refused = [step for ask in (*asks.values(), *writes(row)) for step in (ask, look_at(row.cell(9)))]
+    refused = [step for ask in (*asks.values(), *writes(row)) for step in (ask, look_at(row.cell(Column.STATUS)))]
     yield Block("status 3 asked and written", "statuses", [*reaching(context, row, 3), *refused, *look(row)], True)
     # a valid row is emptied in `counts`, one in error modified in `settling`
     for status, last in ((4, 6), (5, 8)) if is_settled else ():
@@ -56,11 +57,11 @@ def two_rows(context: Context, row: Row, other: Row) -> Iterator[Block]:
     text = context.character()
     begun: list[Step] = [modify(row), fill(row, text), modify(other), fill(other, text), Wait(0), validate(row)]
     tried: list[Step] = [
-        put(other.status(7)),
-        look_at(row.cell(9), other.cell(9)),
-        put(other.status(8)),
-        look_at(other.cell(9)),
-        put(other.status(6)),
+        put(other.status(RowStatus.VALIDATE_REQ)),
+        look_at(row.cell(Column.STATUS), other.cell(Column.STATUS)),
+        put(other.status(RowStatus.NOT_USED_REQ)),
+        look_at(other.cell(Column.STATUS)),
+        put(other.status(RowStatus.MODIFY_REQ)),
         fill(other, text),
         Wait(1),
         *look(row, other),
@@ -103,9 +104,17 @@ def counts(context: Context) -> Iterator[Block]:
         used = list(dict.fromkeys((*rows[:2], *rows[-1:])))
         steps: list[Step] = []
         for row in used:
-            steps += [modify(row), look_at(row.cell(9), rule="statuses"), look_at(*COUNTS, rule="free memory")]
+            steps += [
+                modify(row),
+                look_at(row.cell(Column.STATUS), rule="statuses"),
+                look_at(*COUNTS, rule="free memory"),
+            ]
         steps += [fill(used[0], context.character()), *settle(used[0]), look_at(*COUNTS, rule="counts")]
-        steps += [unuse(used[0]), look_at(used[0].cell(9), rule="statuses"), look_at(*COUNTS, rule="free memory")]
+        steps += [
+            unuse(used[0]),
+            look_at(used[0].cell(Column.STATUS), rule="statuses"),
+            look_at(*COUNTS, rule="free memory"),
+        ]
         steps += look(*used)
         yield Block("how many rows there are", "counts", steps, True)
 

@@ -2,8 +2,9 @@
 
 from typing import Iterator
 
+from wisangub.snmp.names import Memory, RowStatus, scalar
 from wisangub.tester.context import Context, activate, activation, remaining
-from wisangub.tester.objects import OWN_CODES, Binding, Name, Row, cell, integer, octets, scalar
+from wisangub.tester.objects import OWN_CODES, Binding, Column, Name, Row, cell, instance, integer, octets
 from wisangub.tester.steps import Ask, Step, put
 
 from .block import Block, Chapter, alone, look, look_at, message, modify
@@ -11,17 +12,17 @@ from .sets_values import RANGES, cells, scalars
 from .telling import Telling, telling
 
 READ_ONLY: list[Name] = [
-    scalar(2, 3),
-    scalar(2, 4),
-    scalar(4, 11),
-    *[scalar(5, member) for member in (1, 2, 3, 4, 5, 6, 7, 9)],
-    *[scalar(6, member) for member in (5, 6, 7, 17, 18, 19, 24)],
+    scalar("vmsSignHeightPixels"),
+    scalar("vmsSignWidthPixels"),
+    scalar("dmsColorScheme"),
+    *[instance(5, member) for member in (1, 2, 3, 4, 5, 6, 7, 9)],
+    *[instance(6, member) for member in (5, 6, 7, 17, 18, 19, 24)],
 ]
 NOTHING: list[Name] = [
-    scalar(4, 10),
-    scalar(6, 11),
-    scalar(6, 3)[:-1],
-    scalar(6, 4)[:-1] + (1,),
+    instance(4, 10),
+    instance(6, 11),
+    scalar("dmsActivateMessage")[:-1],
+    scalar("dmsMessageTimeRemaining")[:-1] + (1,),
     (1, 3, 6, 1, 2, 1, 1, 5, 0),
     (0, 0),
 ]
@@ -46,7 +47,9 @@ def refused_names(context: Context) -> Iterator[Block]:
             for column in range(1, 10)
         ]
         yield Block("rows that are not written", "written rows", alone(cells))
-    steps: list[Step] = [step for row in context.outermost for step in (put(row.status(6)), put(row.priority(7)))]
+    steps: list[Step] = [
+        step for row in context.outermost for step in (put(row.status(RowStatus.MODIFY_REQ)), put(row.priority(7)))
+    ]
     yield Block("rows that are written", "written rows", [*steps, *look(*context.outermost)], True)
     if context.rows:
         row = context.rows[0]
@@ -57,14 +60,14 @@ def refused_names(context: Context) -> Iterator[Block]:
 def causes(context: Context) -> Iterator[Block]:
     """Bindings with each cause, in pairs, in each order."""
     wrong: dict[str, Binding] = {
-        "noSuchName": (scalar(2, 3), integer(1)),
-        "badValue": (scalar(4, 1), integer(10)),
-        "good": (scalar(4, 3), integer(7)),
-        "other": (scalar(4, 4), integer(9)),
+        "noSuchName": (scalar("vmsSignHeightPixels"), integer(1)),
+        "badValue": (scalar("defaultBackgroundColor"), integer(10)),
+        "good": (scalar("defaultFlashOn"), integer(7)),
+        "other": (scalar("defaultFlashOff"), integer(9)),
     }
     if context.rows:
         wrong["genErr"] = context.rows[0].text(b"A")
-        wrong["failing"] = context.rows[0].status(7)
+        wrong["failing"] = context.rows[0].status(RowStatus.VALIDATE_REQ)
     for first in wrong.values():
         for second in wrong.values():
             yield Block(
@@ -77,30 +80,40 @@ def causes(context: Context) -> Iterator[Block]:
 
 def twice(context: Context) -> Iterator[Block]:
     """A name twice, and two commands."""
-    good, bad = (scalar(4, 8), integer(11)), (scalar(4, 8), integer(256))
-    nowhere = (scalar(2, 5), integer(1))
+    good, bad = (scalar("defaultPageOnTime"), integer(11)), (scalar("defaultPageOnTime"), integer(256))
+    nowhere = (instance(2, 5), integer(1))
     lists = [
         [good, good],
         [good, bad],
         [bad, good],
         [nowhere, nowhere],
-        [good, (scalar(4, 8), octets(b""))],
-        [good, (scalar(4, 9), integer(3)), good],
+        [good, (scalar("defaultPageOnTime"), octets(b""))],
+        [good, (scalar("defaultPageOffTime"), integer(3)), good],
     ]
-    yield Block("a name twice", "twice", [*[put(*bound) for bound in lists], look_at(scalar(4, 8), scalar(4, 9))])
+    yield Block(
+        "a name twice",
+        "twice",
+        [*[put(*bound) for bound in lists], look_at(scalar("defaultPageOnTime"), scalar("defaultPageOffTime"))],
+    )
     blank = activation(context.blank_code(9))
     commands = [
         [blank, remaining(3)],
         [remaining(3), blank],
         [remaining(3), remaining(3)],
-        [remaining(3), (scalar(6, 3), octets(b""))],
+        [remaining(3), (scalar("dmsActivateMessage"), octets(b""))],
     ]
-    commands += [[(scalar(6, 3), octets(b"")), remaining(3)], [remaining(3), (scalar(2, 3), integer(1)), blank]]
+    commands += [
+        [(scalar("dmsActivateMessage"), octets(b"")), remaining(3)],
+        [remaining(3), (scalar("vmsSignHeightPixels"), integer(1)), blank],
+    ]
     if context.rows:
-        commands += [[context.rows[0].status(6), remaining(3)], [remaining(3), context.rows[0].status(8)]]
         commands += [
-            [context.rows[0].status(6), context.rows[-1].status(6)],
-            [context.rows[0].status(6), context.rows[0].status(6)],
+            [context.rows[0].status(RowStatus.MODIFY_REQ), remaining(3)],
+            [remaining(3), context.rows[0].status(RowStatus.NOT_USED_REQ)],
+        ]
+        commands += [
+            [context.rows[0].status(RowStatus.MODIFY_REQ), context.rows[-1].status(RowStatus.MODIFY_REQ)],
+            [context.rows[0].status(RowStatus.MODIFY_REQ), context.rows[0].status(RowStatus.MODIFY_REQ)],
         ]
     yield Block("two commands", "twice", [*[put(*bound) for bound in commands], *look(*context.rows[:1])])
 
@@ -109,42 +122,68 @@ def everything(context: Context) -> list[Step]:
     """All that may be written and the fields of some rows, with a command, in one SET."""
     rows = context.rows[:4]
     bound: list[Binding] = [(name, integer(least)) for name, least, _ in RANGES]
-    bound += [(scalar(4, 5), integer(context.defaults[4]))]
-    bound += [(scalar(6, member), octets(context.message_code(Row(7, member), 0))) for member in OWN_CODES]
+    bound += [(scalar("defaultFont"), integer(context.defaults[4]))]
+    bound += [(instance(6, member), octets(context.message_code(Row(Memory.BLANK, member), 0))) for member in OWN_CODES]
     for at, row in enumerate(rows, 1):
         bound += [row.text(b"A" * at), row.owner(b"B" * at), row.beacon(at % 2), row.pixel(at % 2), row.priority(at)]
     return [*[modify(row) for row in rows], put(*bound, remaining(9)), *look(*rows)]
 
 
 def together(context: Context) -> Iterator[Block]:
-    many: list[Binding] = [(name, integer(least)) for name, least, _ in RANGES if name != scalar(6, 13)]
+    many: list[Binding] = [(name, integer(least)) for name, least, _ in RANGES if name != scalar("dmsTimeCommLoss")]
     yield Block("all at once", "set", [put(*many), *look()], True)
     yield Block("as much as may be written at once", "set", everything(context), True)
-    bad: list[Binding] = [(name, integer(most)) for name, _, most in RANGES] + [(scalar(4, 1), integer(10))]
+    bad: list[Binding] = [(name, integer(most)) for name, _, most in RANGES] + [
+        (scalar("defaultBackgroundColor"), integer(10))
+    ]
     yield Block("all or nothing", "order of causes", [put(*bad), *look()], True)
     refused = activation(context.code(Row(9, 1), 0))
     yield Block(
         "a command that fails",
         "failed command",
-        [put((scalar(4, 8), integer(77)), refused, (scalar(4, 9), integer(78))), *look()],
+        [
+            put((scalar("defaultPageOnTime"), integer(77)), refused, (scalar("defaultPageOffTime"), integer(78))),
+            *look(),
+        ],
         True,
     )
     if not context.rows:
         return
     row = context.rows[0]
-    failing: list[Step] = [put((scalar(4, 8), integer(77)), row.status(7), (scalar(6, 10), integer(5))), *look(row)]
+    failing: list[Step] = [
+        put(
+            (scalar("defaultPageOnTime"), integer(77)),
+            row.status(RowStatus.VALIDATE_REQ),
+            (scalar("dmsShortPowerLossTime"), integer(5)),
+        ),
+        *look(row),
+    ]
     yield Block("a command that fails", "failed command", failing, True)
-    both = put(row.text(b"A"), row.status(8), row.owner(b"B"))
+    both = put(row.text(b"A"), row.status(RowStatus.NOT_USED_REQ), row.owner(b"B"))
     yield Block("fields and a command", "set", [modify(row), both, *look(row)], True)
-    early: list[Ask] = [put(row.status(6), row.text(b"A")), put(row.text(b"A"), row.status(6))]
+    early: list[Ask] = [
+        put(row.status(RowStatus.MODIFY_REQ), row.text(b"A")),
+        put(row.text(b"A"), row.status(RowStatus.MODIFY_REQ)),
+    ]
     yield Block("judged on the state before", "order of causes", [*early, *look(row)], True)
     yield Block(
         "the command is judged after",
         "set",
-        [modify(row), put(row.status(7), row.text(context.character())), look_at(row.cell(3), row.cell(9))],
+        [
+            modify(row),
+            put(row.status(RowStatus.VALIDATE_REQ), row.text(context.character())),
+            look_at(row.cell(Column.TEXT), row.cell(Column.STATUS)),
+        ],
         True,
     )
-    order = [put((scalar(4, 7), integer(2)), row.status(6), (scalar(4, 6), integer(2))), *look(row)]
+    order = [
+        put(
+            (scalar("defaultJustificationPage"), integer(2)),
+            row.status(RowStatus.MODIFY_REQ),
+            (scalar("defaultJustificationLine"), integer(2)),
+        ),
+        *look(row),
+    ]
     yield Block("a command between", "set", order, True)
     for held in telling(context)[:1]:
         yield Block("a default and an activation at once", "set", under_default(context, row, held), True)

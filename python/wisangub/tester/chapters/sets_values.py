@@ -3,23 +3,24 @@
 from typing import Iterator
 
 from wisangub.snmp import wire
+from wisangub.snmp.names import scalar
 from wisangub.tester.context import Context
-from wisangub.tester.objects import NULL, OWN_CODES, Binding, Name, Row, Value, integer, octets, scalar
+from wisangub.tester.objects import NULL, OWN_CODES, Binding, Column, Name, Row, Value, instance, integer, octets
 from wisangub.tester.steps import put
 
 from .block import Block, alone, look, look_at, modify
 
 RANGES: list[tuple[Name, int, int]] = [
-    (scalar(4, 1), 0, 9),
-    (scalar(4, 2), 0, 9),
-    (scalar(4, 3), 0, 255),
-    (scalar(4, 4), 0, 255),
-    (scalar(4, 6), 2, 4),
-    (scalar(4, 7), 2, 4),
-    (scalar(4, 8), 0, 255),
-    (scalar(4, 9), 0, 255),
-    (scalar(6, 10), 0, 65535),
-    (scalar(6, 13), 0, 65535),
+    (scalar("defaultBackgroundColor"), 0, 9),
+    (scalar("defaultForegroundColor"), 0, 9),
+    (scalar("defaultFlashOn"), 0, 255),
+    (scalar("defaultFlashOff"), 0, 255),
+    (scalar("defaultJustificationLine"), 2, 4),
+    (scalar("defaultJustificationPage"), 2, 4),
+    (scalar("defaultPageOnTime"), 0, 255),
+    (scalar("defaultPageOffTime"), 0, 255),
+    (scalar("dmsShortPowerLossTime"), 0, 65535),
+    (scalar("dmsTimeCommLoss"), 0, 65535),
 ]
 CELL_RANGES = {6: (0, 1), 7: (0, 1), 8: (1, 255)}
 OTHER_TYPES: list[Value] = [
@@ -65,31 +66,37 @@ def scalars(context: Context) -> Iterator[Block]:
     yield Block(
         "the default font",
         "default font",
-        [step for number in numbers for step in (put((scalar(4, 5), integer(number))), look_at(scalar(4, 5)))],
+        [
+            step
+            for number in numbers
+            for step in (put((scalar("defaultFont"), integer(number))), look_at(scalar("defaultFont")))
+        ],
     )
-    for name in [*[name for name, _, _ in RANGES], scalar(4, 5), scalar(6, 4)]:
+    for name in [*[name for name, _, _ in RANGES], scalar("defaultFont"), scalar("dmsMessageTimeRemaining")]:
         yield Block("types", "bad value", alone([(name, value) for value in OTHER_TYPES]))
     yield Block("after that", "bad value", look())
     for member in OWN_CODES:
         good: list[Binding] = [
-            (scalar(6, member), octets(code)) for code in (b"\7\0\2\0\0", bytes(5), b"\xff" * 5, b"\3\0\1\1\2")
+            (instance(6, member), octets(code)) for code in (b"\7\0\2\0\0", bytes(5), b"\xff" * 5, b"\3\0\1\1\2")
         ]
         bad: list[Binding] = [
-            (scalar(6, member), value)
+            (instance(6, member), value)
             for value in (octets(bytes(4)), octets(bytes(6)), octets(b""), integer(7), (wire.OPAQUE, bytes(5)))
         ]
         yield Block(
-            "own codes", "own codes", [step for bound in good for step in (put(bound), look_at(scalar(6, member)))]
+            "own codes", "own codes", [step for bound in good for step in (put(bound), look_at(instance(6, member)))]
         )
-        yield Block("lengths of own codes", "bad value", [*alone(bad), look_at(scalar(6, member))])
+        yield Block("lengths of own codes", "bad value", [*alone(bad), look_at(instance(6, member))])
     lengths = [octets(bytes(size)) for size in (0, 11, 13)] + [integer(1), (wire.OPAQUE, bytes(12))]
     yield Block(
-        "lengths of activation codes", "bad value", [*alone([(scalar(6, 3), value) for value in lengths]), *look()]
+        "lengths of activation codes",
+        "bad value",
+        [*alone([(scalar("dmsActivateMessage"), value) for value in lengths]), *look()],
     )
     yield Block(
         "minutes out of range",
         "ranges",
-        [*alone([(scalar(6, 4), integer(value)) for value in (-1, 65536, 2**32 - 1)]), *look()],
+        [*alone([(scalar("dmsMessageTimeRemaining"), integer(value)) for value in (-1, 65536, 2**32 - 1)]), *look()],
     )
 
 
@@ -101,8 +108,8 @@ def cells(context: Context, row: Row) -> Iterator[Block]:
         [modify(row), *[step for bound in bounds for step in (put(bound), look_at(bound[0]))]],
         True,
     )
-    texts: list[Binding] = [(row.cell(3), octets(b"A" * size)) for size in (0, 1, 512, 513, 514, 700)]
-    owners: list[Binding] = [(row.cell(4), octets(b"A" * size)) for size in (0, 127, 128, 129, 255, 256)]
+    texts: list[Binding] = [(row.cell(Column.TEXT), octets(b"A" * size)) for size in (0, 1, 512, 513, 514, 700)]
+    owners: list[Binding] = [(row.cell(Column.OWNER), octets(b"A" * size)) for size in (0, 127, 128, 129, 255, 256)]
     yield Block(
         "lengths of fields",
         "ranges",
@@ -118,10 +125,18 @@ def cells(context: Context, row: Row) -> Iterator[Block]:
         if column not in (3, 4) or value[0] != wire.OCTETS
     ]
     yield Block(
-        "types of fields", "bad value", [modify(row), *alone(types), put((row.cell(3), integer(1))), *look(row)], True
+        "types of fields",
+        "bad value",
+        [modify(row), *alone(types), put((row.cell(Column.TEXT), integer(1))), *look(row)],
+        True,
     )
     out: list[Binding] = [row.text(b"A" * 513), row.owner(b"A" * 128), row.beacon(2), row.pixel(2), row.priority(0)]
-    out += [row.priority(256), (row.cell(3), integer(1)), (row.cell(4), integer(1)), (row.cell(8), octets(b"1"))]
+    out += [
+        row.priority(256),
+        (row.cell(Column.TEXT), integer(1)),
+        (row.cell(Column.OWNER), integer(1)),
+        (row.cell(Column.PRIORITY), octets(b"1")),
+    ]
     yield Block("bad values of a row that is not modifying", "order of causes", [*alone(out), *look(row)], True)
     asked = [row.status(value) for value in (0, 1, 2, 3, 4, 5, 9, 10, -1, 256 + 6)]
     yield Block("what a row is asked", "ranges", [*alone(asked), *look(row)], True)

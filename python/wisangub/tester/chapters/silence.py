@@ -4,28 +4,29 @@ from dataclasses import replace
 from typing import Iterator
 
 from wisangub.snmp import wire
+from wisangub.snmp.names import Memory, scalar
 from wisangub.tester.context import Context, activate
-from wisangub.tester.objects import NULL, Binding, Row, integer, octets, scalar
+from wisangub.tester.objects import NULL, Binding, Row, instance, integer, octets
 from wisangub.tester.steps import Ask, Raw, Step, Wait, fixed, get, get_next, put
 
 from .block import Block, Chapter, look, reports
 
 
 def limit(minutes: int) -> Binding:
-    return scalar(6, 13), integer(minutes)
+    return scalar("dmsTimeCommLoss"), integer(minutes)
 
 
 def begun(context: Context, code: bytes, minutes: int = 1) -> list[Step]:
     """Something is shown, and the silence counts from here on."""
     shown = activate(context.blank_code(200, 255, 65535, bytes([10, 9, 8, 7])))
-    return [put((scalar(6, 12), octets(code))), shown, Wait(1), put(limit(minutes))]
+    return [put((scalar("dmsCommunicationsLossMessage"), octets(code))), shown, Wait(1), put(limit(minutes))]
 
 
 def dropped(community: bytes) -> Raw:
     """A Get that is not answered, and nothing after it."""
 
     def make(number: int, _: tuple[bytes, bytes]) -> bytes:
-        return wire.written(wire.Message(wire.GET, community, number, 0, 0, [(scalar(2, 3), NULL)]))
+        return wire.written(wire.Message(wire.GET, community, number, 0, 0, [(scalar("vmsSignHeightPixels"), NULL)]))
 
     return Raw(make, is_quiet=True)
 
@@ -34,14 +35,16 @@ def response() -> Raw:
     """A Response in the writer's community, and nothing after it."""
 
     def make(number: int, communities: tuple[bytes, bytes]) -> bytes:
-        message = wire.Message(wire.RESPONSE, communities[1], number, 0, 0, [(scalar(2, 3), integer(1))])
+        message = wire.Message(
+            wire.RESPONSE, communities[1], number, 0, 0, [(scalar("vmsSignHeightPixels"), integer(1))]
+        )
         return wire.written(message)
 
     return Raw(make, is_quiet=True)
 
 
 def blocks(context: Context) -> Iterator[Block]:
-    blank = context.message_code(Row(7, 7), 0)
+    blank = context.message_code(Row(Memory.BLANK, 7), 0)
     yield from silences(context, blank)
     yield from heard(context, blank)
     yield Block("a code that is refused", "own refused", [*begun(context, b"\6\0\1\0\0"), Wait(60), *look()], True)
@@ -65,19 +68,27 @@ def silences(context: Context, blank: bytes) -> Iterator[Block]:
 
 def heard(context: Context, blank: bytes) -> Iterator[Block]:
     """What is answered ends a silence, an error too."""
-    refused = Ask(wire.SET, ((scalar(2, 3), integer(1)),))
+    refused = Ask(wire.SET, ((scalar("vmsSignHeightPixels"), integer(1)),))
     yield Block(
         "an error is no silence",
         "heard",
         [*begun(context, blank), Wait(30), refused, Wait(59), reports(), Wait(60), reports()],
         True,
     )
-    reader = get(scalar(2, 3), is_writer=False)
+    reader = get(scalar("vmsSignHeightPixels"), is_writer=False)
     yield Block(
         "the reader is no silence", "heard", [*begun(context, blank), Wait(30), reader, Wait(59), reports()], True
     )
-    answered: list[Step] = [get_next(scalar(2, 3)), get(scalar(2, 5)), get_next(scalar(6, 24)), put()]
-    answered += [put((scalar(4, 8), integer(9)), is_writer=False), get(*[scalar(6, 3)] * 60)]
+    answered: list[Step] = [
+        get_next(scalar("vmsSignHeightPixels")),
+        get(instance(2, 5)),
+        get_next(scalar("dmsActivateErrorMsgCode")),
+        put(),
+    ]
+    answered += [
+        put((scalar("defaultPageOnTime"), integer(9)), is_writer=False),
+        get(*[scalar("dmsActivateMessage")] * 60),
+    ]
     asked: list[Step] = [step for ask in answered for step in (Wait(30), ask)]
     steps = [*begun(context, blank), *asked, Wait(59), reports(), Wait(60), reports()]
     yield Block("no answer is silence", "heard", steps, True)
@@ -104,9 +115,12 @@ def acted(context: Context, blank: bytes) -> Iterator[Block]:
 
 def at_one_tick(context: Context, blank: bytes) -> Iterator[Block]:
     ends: list[Step] = [
-        put((scalar(6, 15), octets(blank)), (scalar(6, 12), octets(b"\5\0\1\0\0"))),
+        put(
+            (scalar("dmsEndDurationMessage"), octets(blank)),
+            (scalar("dmsCommunicationsLossMessage"), octets(b"\5\0\1\0\0")),
+        ),
         Wait(1),
-        put((scalar(6, 3), octets(context.blank_code(200, 255, 1))), limit(1)),
+        put((scalar("dmsActivateMessage"), octets(context.blank_code(200, 255, 1))), limit(1)),
         Wait(60),
         *look(),
     ]
@@ -114,7 +128,11 @@ def at_one_tick(context: Context, blank: bytes) -> Iterator[Block]:
     shown = context.blank_code(200, 255, 3)
     for row, held in zip(context.permanent[:1], context.described.permanent):
         shown = context.code(row, context.crc(held.text, held.beacon, held.pixel), 255, 3)
-    before: list[Step] = [put((scalar(6, 12), octets(blank))), Wait(1), put((scalar(6, 3), octets(shown)), limit(1))]
+    before: list[Step] = [
+        put((scalar("dmsCommunicationsLossMessage"), octets(blank))),
+        Wait(1),
+        put((scalar("dmsActivateMessage"), octets(shown)), limit(1)),
+    ]
     yield Block("a silence before an end", "silence", [*before, Wait(59), reports(), Wait(60), *look()], True)
 
 

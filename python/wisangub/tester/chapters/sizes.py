@@ -3,8 +3,9 @@
 from typing import Iterator, Sequence
 
 from wisangub.snmp import wire
+from wisangub.snmp.names import Memory, scalar
 from wisangub.tester.context import Context
-from wisangub.tester.objects import NULL, Binding, Name, Row, octets, scalar
+from wisangub.tester.objects import NULL, Binding, Column, Name, Row, instance, octets
 from wisangub.tester.steps import FIRST_NUMBER, Ask, Step, get, get_next, put
 
 from .block import Block, Chapter, look, modify
@@ -17,19 +18,19 @@ def size(context: Context, bindings: Sequence[Binding]) -> int:
     return len(wire.written(wire.Message(wire.RESPONSE, context.communities[1], FIRST_NUMBER, 0, 0, list(bindings))))
 
 
-FILLER = scalar(6, 15)  # five octets in the known state
+FILLER = scalar("dmsEndDurationMessage")  # five octets in the known state
 
 
 def owner_for(context: Context, row: Row, total: int) -> tuple[list[Name], bytes] | None:
     """Names, and the owner with which a read of them is so long."""
-    text, filler = octets(b"A" * 512), octets(context.message_code(Row(7, 1), 0))
+    text, filler = octets(b"A" * 512), octets(context.message_code(Row(Memory.BLANK, 1), 0))
     for fillers in range(40):
         for length in range(128):
             owner = b"o" * length
             held = [
-                (row.cell(3), text),
-                (row.cell(3), text),
-                (row.cell(4), octets(owner)),
+                (row.cell(Column.TEXT), text),
+                (row.cell(Column.TEXT), text),
+                (row.cell(Column.OWNER), octets(owner)),
                 *[(FILLER, filler)] * fillers,
             ]
             reached = size(context, held)
@@ -42,7 +43,7 @@ def owner_for(context: Context, row: Row, total: int) -> tuple[list[Name], bytes
 
 def before(name: Name) -> Name:
     """A name whose next instance is this one, in the first row of its memory or a scalar."""
-    return scalar(6, 14) if name == FILLER else (*name[:-1], name[-1] - 1)
+    return scalar("dmsPowerLossMessage") if name == FILLER else (*name[:-1], name[-1] - 1)
 
 
 def reads(context: Context, row: Row) -> Iterator[Block]:
@@ -59,13 +60,18 @@ def reads(context: Context, row: Row) -> Iterator[Block]:
     yield Block(
         "far too big",
         "too big",
-        [*full, get(*[row.cell(3)] * 3), get(*[row.cell(3)] * 60), get(*[row.cell(3)] * 2)],
+        [
+            *full,
+            get(*[row.cell(Column.TEXT)] * 3),
+            get(*[row.cell(Column.TEXT)] * 60),
+            get(*[row.cell(Column.TEXT)] * 2),
+        ],
         True,
     )
     yield Block(
         "an error before it is too big",
         "error reply",
-        [get(*[row.cell(3)] * 3, scalar(2, 5)), get(scalar(2, 5), *[row.cell(3)] * 3)],
+        [get(*[row.cell(Column.TEXT)] * 3, instance(2, 5)), get(instance(2, 5), *[row.cell(Column.TEXT)] * 3)],
     )
 
 
@@ -77,7 +83,7 @@ def filled(kind: int, name: Name, total: int, context: Context) -> Ask:
 
 def requests(context: Context) -> Iterator[Block]:
     """Requests as long as a datagram may be; the answers repeat them or are too big."""
-    nowhere, here = scalar(2, 5), scalar(2, 3)
+    nowhere, here = instance(2, 5), scalar("vmsSignHeightPixels")
     for kind in (wire.GET, wire.GET_NEXT, wire.SET):
         yield Block(
             "an error of the greatest size",
@@ -107,7 +113,11 @@ def writes(context: Context, row: Row) -> Iterator[Block]:
     yield Block(
         "a SET of the greatest size", "never too big", [modify(row), put(row.text(text), owner), *look(row)], True
     )
-    numbers = [(scalar(4, 8), (2, 77)), (scalar(4, 9), (2, 78)), (scalar(6, 10), (2, 79))]
+    numbers = [
+        (scalar("defaultPageOnTime"), (2, 77)),
+        (scalar("defaultPageOffTime"), (2, 78)),
+        (scalar("dmsShortPowerLossTime"), (2, 79)),
+    ]
     both = [row.text(text)]
     other = next((more for more in context.rows if more != row), None)
     if other is not None:

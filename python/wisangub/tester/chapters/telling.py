@@ -3,7 +3,7 @@
 from dataclasses import dataclass
 
 from wisangub.tester.context import Context
-from wisangub.tester.objects import Binding, integer, scalar
+from wisangub.tester.objects import Binding, instance, integer
 from wisangub.tester.steps import Ask, put
 
 
@@ -20,7 +20,7 @@ class Telling:
 
 
 def default(member: int, value: int) -> Binding:
-    return scalar(4, member), integer(value)
+    return instance(4, member), integer(value)
 
 
 def with_default(context: Context, member: int, value: int) -> tuple[int, ...]:

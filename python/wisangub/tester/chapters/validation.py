@@ -2,21 +2,27 @@
 
 from typing import Iterator
 
+from wisangub.snmp.names import scalar
 from wisangub.tester.context import Context
-from wisangub.tester.objects import Row, scalar
+from wisangub.tester.objects import Column, Row
 from wisangub.tester.steps import Step
 
 from .block import Block, Chapter, fill, look, look_at, modify, settle
 from .edge_texts import Sample
 from .texts import samples
 
-VERDICT = (scalar(5, 9), scalar(6, 18), scalar(6, 19))
+VERDICT = (scalar("dmsValidateMessageError"), scalar("dmsMultiSyntaxError"), scalar("dmsMultiSyntaxErrorPosition"))
 
 
 def judged(row: Row, text: bytes, beacon: int = 0, pixel: int = 0) -> list[Step]:
     """A row with this text is validated, and the verdict read."""
     filled = fill(row, text, b"", beacon, pixel)
-    return [modify(row), filled, *settle(row, rule=""), look_at(row.cell(9), *VERDICT, row.cell(5))]
+    return [
+        modify(row),
+        filled,
+        *settle(row, rule=""),
+        look_at(row.cell(Column.STATUS), *VERDICT, row.cell(Column.CRC)),
+    ]
 
 
 def verdicts(context: Context, row: Row, last: Row) -> Iterator[Block]:

@@ -3,7 +3,7 @@
 from wisangub.snmp import wire
 from wisangub.tester.context import Context
 from wisangub.tester.differences import Difference
-from wisangub.tester.objects import column_of
+from wisangub.tester.objects import Column, column_of
 from wisangub.tester.steps import Ask
 
 SHADES = ["#000000", "#ff0000", "#ffff00", "#00ff00", "#00ffff", "#0000ff", "#ff00ff", "#ffffff", "#ff8000", "#ffbf00"]
@@ -17,7 +17,7 @@ def text_of(difference: Difference) -> bytes | None:
     for step in difference.steps:
         if isinstance(step, Ask) and step.kind == wire.SET:
             for name, (_, held) in step.bindings:
-                if column_of(name) == 3 and isinstance(held, bytes):
+                if column_of(name) == Column.TEXT and isinstance(held, bytes):
                     found = held
     return found
 

@@ -4,8 +4,9 @@ import re
 from typing import Protocol, Sequence
 
 from wisangub.snmp import wire
+from wisangub.snmp.names import Memory, RowStatus, scalar
 from wisangub.tester.described import described
-from wisangub.tester.objects import Binding, Row, integer, octets, scalar
+from wisangub.tester.objects import Binding, Column, Row, instance, integer, octets
 from wisangub.tester.steps import get, put
 
 from .oracle import CoProcessOracle, program_of
@@ -15,8 +16,8 @@ MOST_TEXT, TOO_BIG = 512, 5
 NO_FAULT = 2
 NOBODY = bytes(4)
 ROWS = re.compile(rb"(?m)^rows [0-9]+ [0-9]+")
-ROW = Row(3, 1)
-VERDICT = (scalar(6, 18), scalar(6, 19), ROW.cell(5))
+ROW = Row(Memory.CHANGEABLE, 1)
+VERDICT = (scalar("dmsMultiSyntaxError"), scalar("dmsMultiSyntaxErrorPosition"), ROW.cell(Column.CRC))
 
 
 class Judge(Protocol):
@@ -52,7 +53,7 @@ class SignJudge:
         if self._validated(text, self._own) is not None:
             return []
         code = bytes([255, 255, 255, ROW.memory, 0, ROW.number]) + self._read()[2].to_bytes(2, "big") + NOBODY
-        self._put((scalar(6, 3), octets(code)))
+        self._put((scalar("dmsActivateMessage"), octets(code)))
         return [line.decode("latin-1") for line in self._sign.lines(b"show")[:-1]]
 
     def end(self) -> None:
@@ -63,11 +64,11 @@ class SignJudge:
         if len(text) > MOST_TEXT:
             return TOO_BIG, MOST_TEXT
         if defaults != self._defaults:
-            self._put(*[(scalar(4, member), integer(value)) for member, value in enumerate(defaults, 1)])
+            self._put(*[(instance(4, member), integer(value)) for member, value in enumerate(defaults, 1)])
             self._defaults = defaults
-        self._put(ROW.status(6))
+        self._put(ROW.status(RowStatus.MODIFY_REQ))
         self._put(ROW.text(text))
-        self._put(ROW.status(7))
+        self._put(ROW.status(RowStatus.VALIDATE_REQ))
         self._sign.tick()
         code, offset, _ = self._read()
         return None if code == NO_FAULT else (code, offset)

@@ -3,10 +3,11 @@
 from dataclasses import dataclass, field
 
 from wisangub.snmp import wire
+from wisangub.snmp.names import scalar
 from wisangub.tester.clock import Clock
 from wisangub.tester.compare import Kind, Mismatch, mismatch
 from wisangub.tester.messages import spelled
-from wisangub.tester.objects import Name, Row, is_validation, row_of, scalar
+from wisangub.tester.objects import Name, Row, is_validation, row_of
 from wisangub.tester.state.unanswered import is_command, is_known
 from wisangub.tester.steps import Ask, Raw, Step, Wait, get
 
@@ -176,7 +177,7 @@ class Pair:
             answer = self.port.ask_once(octets, number).reply
             return Exchange(step, octets, None, answer, mismatch(None, answer))
         sentinel_number = self.port.new_number()
-        sentinel = get(scalar(2, 3)).octets(sentinel_number, self.communities)
+        sentinel = get(scalar("vmsSignHeightPixels")).octets(sentinel_number, self.communities)
         answer, is_heard = self.port.drop(octets, number, sentinel, sentinel_number)
         self.hand(sentinel)
         differs = mismatch(None, answer) or (None if is_heard else Mismatch(Kind.NO_ANSWER))

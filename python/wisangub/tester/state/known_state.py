@@ -4,13 +4,14 @@ from dataclasses import dataclass
 from typing import Iterable
 
 from wisangub.snmp import wire
+from wisangub.snmp.names import RowStatus, scalar
 from wisangub.tester.context import Context
 from wisangub.tester.messages import spelled
-from wisangub.tester.objects import NO_ADDRESS, OWN_CODES, Name, Row, Value, integer, octets, scalar
+from wisangub.tester.objects import NO_ADDRESS, OWN_CODES, Column, Name, Row, Value, instance, integer, octets
 from wisangub.tester.steps import Ask, Step, Wait, get, put
 
 CENTRAL = 8  # dmsMsgSourceMode of what the central system activated
-VERDICTS = (scalar(5, 9), scalar(6, 18), scalar(6, 19))
+VERDICTS = (scalar("dmsValidateMessageError"), scalar("dmsMultiSyntaxError"), scalar("dmsMultiSyntaxErrorPosition"))
 
 
 class Unreachable(Exception):
@@ -34,13 +35,18 @@ class Unreached:
     def is_refused(self) -> bool:
         """Whether the sign did not take the request that is to bring it there."""
         message = spelled(self.reply or b"")
-        is_set = self.request.kind == wire.SET and self.name != scalar(6, 24)
+        is_set = self.request.kind == wire.SET and self.name != scalar("dmsActivateErrorMsgCode")
         return is_set and (message is None or message.status != wire.NO_ERROR)
 
     def steps(self, row: Row | None) -> list[Step]:
         """What is to bring the object there, and a read of it."""
         if self.name in VERDICTS and row is not None:
-            return [put(row.status(6)), put(row.status(7)), Wait(1), get(self.name)]
+            return [
+                put(row.status(RowStatus.MODIFY_REQ)),
+                put(row.status(RowStatus.VALIDATE_REQ)),
+                Wait(1),
+                get(self.name),
+            ]
         return [self.request, get(self.name)] if self.request.kind == wire.SET else [self.request]
 
 
@@ -52,30 +58,34 @@ class KnownState:
 
     def settings(self) -> dict[Name, Value]:
         """What is set directly."""
-        wanted = {scalar(4, member): integer(value) for member, value in enumerate(self.context.defaults, 1)}
-        wanted |= {scalar(6, member): octets(self.context.blank) for member in OWN_CODES}
-        return wanted | {scalar(6, 10): integer(0), scalar(6, 13): integer(0)}
+        wanted = {instance(4, member): integer(value) for member, value in enumerate(self.context.defaults, 1)}
+        wanted |= {instance(6, member): octets(self.context.blank) for member in OWN_CODES}
+        return wanted | {scalar("dmsShortPowerLossTime"): integer(0), scalar("dmsTimeCommLoss"): integer(0)}
 
     def verdicts(self) -> dict[Name, Value]:
         """What a validation of an empty row leaves."""
         if not self.context.rows:
             return {}
-        return {scalar(5, 9): integer(2), scalar(6, 18): integer(2), scalar(6, 19): integer(0)}
+        return {
+            scalar("dmsValidateMessageError"): integer(2),
+            scalar("dmsMultiSyntaxError"): integer(2),
+            scalar("dmsMultiSyntaxErrorPosition"): integer(0),
+        }
 
     def shown(self) -> dict[Name, Value]:
         """What the activation of blank message 1 leaves."""
         return {
-            scalar(6, 3): octets(self.context.known_code),
-            scalar(6, 4): integer(65535),
-            scalar(6, 5): octets(self.context.blank),
-            scalar(6, 6): (wire.ADDRESS, NO_ADDRESS),
-            scalar(6, 7): integer(CENTRAL),
-            scalar(6, 17): integer(2),
+            scalar("dmsActivateMessage"): octets(self.context.known_code),
+            scalar("dmsMessageTimeRemaining"): integer(65535),
+            scalar("dmsMsgTableSource"): octets(self.context.blank),
+            scalar("dmsMsgRequesterID"): (wire.ADDRESS, NO_ADDRESS),
+            scalar("dmsMsgSourceMode"): integer(CENTRAL),
+            scalar("dmsActivateMsgError"): integer(2),
         }
 
     def refused(self) -> dict[Name, Value]:
         """What a refused activation leaves."""
-        return {scalar(6, 24): octets(self.context.refused_code)}
+        return {scalar("dmsActivateErrorMsgCode"): octets(self.context.refused_code)}
 
     def emptied(self, row: Row) -> dict[Name, Value]:
         """The fields of a row that is not used."""
@@ -84,7 +94,7 @@ class KnownState:
     def all(self, rows: Iterable[Row]) -> dict[Name, Value]:
         """Everything, for these rows."""
         rows = list(rows)
-        wanted: dict[Name, Value] = {row.cell(9): integer(1) for row in rows}
+        wanted: dict[Name, Value] = {row.cell(Column.STATUS): integer(1) for row in rows}
         for row in rows:
             wanted |= self.emptied(row)
         return wanted | self.settings() | self.verdicts() | self.refused() | self.shown()

@@ -3,12 +3,13 @@
 from dataclasses import dataclass
 
 from wisangub.snmp import wire
+from wisangub.snmp.names import scalar
 from wisangub.tester import classify
 from wisangub.tester.compare import Kind, Mismatch, mismatch, value_words
 from wisangub.tester.context import Context
 from wisangub.tester.differences import Difference
 from wisangub.tester.messages import spelled
-from wisangub.tester.objects import Name, Value, integer, octets, row_of, scalar, spoken
+from wisangub.tester.objects import Column, Name, Value, instance, integer, octets, row_of, spoken
 from wisangub.tester.results import Results, Watcher
 from wisangub.tester.rules import RULES, Rule
 from wisangub.tester.sign.pair import Exchange, Pair
@@ -17,7 +18,7 @@ from wisangub.tester.steps import Ask, Wait, get, looks
 from .known_state import Unreached
 from .reset import Reset
 
-CAUSE = scalar(6, 17)
+CAUSE = scalar("dmsActivateMsgError")
 READS = (Kind.STATUS, Kind.BINDINGS, Kind.VALUE)
 
 
@@ -154,28 +155,28 @@ def _described(context: Context) -> dict[Name, Value]:
     """What the description says of the instances that no request changes."""
     held = context.described
     wanted = {
-        scalar(2, 3): integer(held.face.height),
-        scalar(2, 4): integer(held.face.width),
-        scalar(4, 11): integer(3),
-        scalar(5, 1): integer(len(held.permanent)),
-        scalar(5, 3): integer(held.changeable),
-        scalar(5, 6): integer(held.volatile),
+        scalar("vmsSignHeightPixels"): integer(held.face.height),
+        scalar("vmsSignWidthPixels"): integer(held.face.width),
+        scalar("dmsColorScheme"): integer(3),
+        scalar("dmsNumPermanentMsg"): integer(len(held.permanent)),
+        scalar("dmsMaxChangeableMsg"): integer(held.changeable),
+        scalar("dmsMaxVolatileMsg"): integer(held.volatile),
     }
     for row, message in zip(context.permanent, held.permanent):
         wanted |= {
-            row.cell(3): octets(message.text),
-            row.cell(4): octets(message.owner),
-            row.cell(6): integer(message.beacon),
-            row.cell(7): integer(message.pixel),
-            row.cell(8): integer(message.priority),
+            row.cell(Column.TEXT): octets(message.text),
+            row.cell(Column.OWNER): octets(message.owner),
+            row.cell(Column.BEACON): integer(message.beacon),
+            row.cell(Column.PIXEL_SERVICE): integer(message.pixel),
+            row.cell(Column.PRIORITY): integer(message.priority),
         }
     return wanted
 
 
 def _first_state(context: Context) -> dict[Name, Value]:
     """What the description says of the defaults, and rows that nobody uses: requests may have changed them."""
-    defaults = {scalar(4, member): integer(value) for member, value in enumerate(context.defaults, 1)}
-    return defaults | {row.cell(9): integer(1) for row in context.rows}
+    defaults = {instance(4, member): integer(value) for member, value in enumerate(context.defaults, 1)}
+    return defaults | {row.cell(Column.STATUS): integer(1) for row in context.rows}
 
 
 def _differing(reset: Reset, wanted: dict[Name, Value]) -> list[tuple[Name, Value, Value | None]]:

@@ -3,9 +3,10 @@
 from dataclasses import dataclass, field
 
 from wisangub.snmp import wire
+from wisangub.snmp.names import RowStatus, scalar
 from wisangub.tester.context import Context, activate
 from wisangub.tester.messages import spelled
-from wisangub.tester.objects import Name, Row, Value, scalar
+from wisangub.tester.objects import Column, Name, Row, Value
 from wisangub.tester.sign.pair import Pair
 from wisangub.tester.steps import Ask, get, looks, put
 
@@ -53,7 +54,7 @@ class Reset:
 
     def ask_height(self) -> bytes | None:
         """Any Get at all."""
-        return self.ask(get(scalar(2, 3)))
+        return self.ask(get(scalar("vmsSignHeightPixels")))
 
     def read(self, names: list[Name]) -> Read:
         """What the sign under test reads; None where a name is none of its instances."""
@@ -92,10 +93,10 @@ class Reset:
 
     def repair(self, wrong: list[Name], observe: bool) -> None:
         for row in self.touched():
-            if row.cell(9) in wrong:
+            if row.cell(Column.STATUS) in wrong:
                 self.empty(row)
             elif any(name in wrong for name in self.objects.emptied(row)):
-                self.put(put(row.status(6)))
+                self.put(put(row.status(RowStatus.MODIFY_REQ)))
                 self.put(put(*self.objects.emptied(row).items()), *self.objects.emptied(row))
                 self.empty(row)
         for name, value in self.objects.settings().items():
@@ -105,7 +106,7 @@ class Reset:
             self.validate(self.context.rows[0])
         is_refusal_wrong = any(name in wrong for name in self.objects.refused())
         if is_refusal_wrong:
-            self.put(activate(self.context.refused_code), *self.objects.refused(), scalar(6, 17))
+            self.put(activate(self.context.refused_code), *self.objects.refused(), scalar("dmsActivateMsgError"))
         if is_refusal_wrong or any(name in wrong for name in self.objects.shown()):
             self.put(activate(self.context.known_code), *self.objects.shown())
 
@@ -116,15 +117,15 @@ class Reset:
     def empty(self, row: Row) -> None:
         """A row becomes not used, at the end of its validation where it has one."""
         self.validation.watch(row)
-        self.put(put(row.status(8)), row.cell(9))
+        self.put(put(row.status(RowStatus.NOT_USED_REQ)), row.cell(Column.STATUS))
 
     def validate(self, row: Row) -> None:
         """An empty row is validated, for its verdict and to see when the sign's tick comes."""
-        self.put(put(row.status(6)), *self.objects.verdicts())
+        self.put(put(row.status(RowStatus.MODIFY_REQ)), *self.objects.verdicts())
         asked = self.pair.clock.now()
-        self.put(put(row.status(7)), *self.objects.verdicts())
+        self.put(put(row.status(RowStatus.VALIDATE_REQ)), *self.objects.verdicts())
         self.validation.watch_asked(row, asked)
-        self.put(put(row.status(8)), row.cell(9))
+        self.put(put(row.status(RowStatus.NOT_USED_REQ)), row.cell(Column.STATUS))
         self.pair.touched.add(row)
 
     # --- both ------------------------------------------------------------------------------------------------

@@ -3,8 +3,9 @@
 from typing import TYPE_CHECKING
 
 from wisangub.snmp import wire
+from wisangub.snmp.names import scalar
 from wisangub.tester.messages import spelled
-from wisangub.tester.objects import EXECUTIVE, SHOWN_CELLS, Name, Row, Value, row_of, scalar, scalar_of
+from wisangub.tester.objects import EXECUTIVE, SHOWN_CELLS, Name, Row, Value, row_of, scalar_of
 from wisangub.tester.steps import looks
 
 if TYPE_CHECKING:
@@ -73,7 +74,7 @@ def is_known(pair: "Pair", octets: bytes, message: wire.Message, ours: bytes) ->
     before = ours_reads(pair, names)
     if before == taken:
         # the same to a reader either way: the seconds that are left may hide in the minutes
-        is_endless = taken.get(scalar(6, 4)) == (wire.INTEGER, 65535)
+        is_endless = taken.get(scalar("dmsMessageTimeRemaining")) == (wire.INTEGER, 65535)
         return read == taken and (is_endless or not is_accepted or not is_command(message))
     if read == before:
         return True
@@ -83,4 +84,4 @@ def is_known(pair: "Pair", octets: bytes, message: wire.Message, ours: bytes) ->
 
 def is_timed(message: wire.Message, taken: State) -> bool:
     """Whether the sign began to count seconds at a moment that is not known to the tick."""
-    return is_command(message) and taken.get(scalar(6, 4)) != (wire.INTEGER, 65535)
+    return is_command(message) and taken.get(scalar("dmsMessageTimeRemaining")) != (wire.INTEGER, 65535)

@@ -3,7 +3,7 @@
 from dataclasses import dataclass
 
 from wisangub.tester.messages import spelled
-from wisangub.tester.objects import Row
+from wisangub.tester.objects import Column, Row
 from wisangub.tester.sign.pair import Pair
 from wisangub.tester.sign.port import Heard
 from wisangub.tester.steps import get
@@ -46,7 +46,7 @@ class ValidationTicks:
         """A look at a row, and whether it is validating by a reply that came in time."""
         port = self.pair.port
         number = port.new_number()
-        heard = port.look(get(row.cell(9)).octets(number, self.pair.communities), number)
+        heard = port.look(get(row.cell(Column.STATUS)).octets(number, self.pair.communities), number)
         message = spelled(heard.reply or b"")
         return heard, message is not None and [held for _, (_, held) in message.bindings] == [VALIDATING]
 
