@@ -17,8 +17,9 @@ from . import draft as drafts
 from .draft import Draft
 from .faces import Face
 from .pictures import Picture
+from .plain import plain_of
 from .record_pages import number_of
-from .room import Room, plain_of, room_of
+from .room import Room, room_of
 from .words import asked, text_of
 
 MOST_SIGNS = 1000

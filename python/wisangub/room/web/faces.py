@@ -5,8 +5,7 @@ import hashlib
 import re
 from dataclasses import dataclass
 
-from model import text as described
-from wisangub.refusal import Refusal
+from wisangub.process.coprocess import CoProcess
 from wisangub.room.fleet import Sign
 
 OWN = re.compile(rb"^(communities|order|first) .*\n", re.MULTILINE)  # of a sign, and not of how it looks
@@ -37,39 +36,71 @@ class Face:
     rows: tuple[int, int]
     permanent: tuple[Permanent, ...]
     writer: bytes
-    is_swapped: bool
 
     def most(self, memory: int) -> int:
         """How many rows the memory has."""
         return self.rows[0] if memory == CHANGEABLE else self.rows[1] if memory == VOLATILE else 0
 
 
+def octets_of(word: bytes) -> bytes:
+    """Octets as a description has them: pairs of digits, or `-` for none."""
+    return b"" if word == b"-" else bytes.fromhex(word.decode())
+
+
+def lines_of(text: bytes) -> dict[bytes, list[list[bytes]]]:
+    """The words of a description's lines, by their first word; comments are none."""
+    found: dict[bytes, list[list[bytes]]] = {}
+    for line in text.replace(b"\r\n", b"\n").split(b"\n"):
+        if line and not line.startswith(b"#"):
+            keyword, *words = line.split(b" ")
+            found.setdefault(keyword, []).append(words)
+    return found
+
+
 @functools.lru_cache(maxsize=256)
 def face_of_text(text: bytes) -> Face:
-    held = described.described(text)
-    fonts = tuple(sorted((font.number, font.height) for font in held.face.fonts))
+    """The face of a description that is in order."""
+    lines = lines_of(text)
+    width, height = map(int, lines[b"size"][0])
+    beacons, pixels = lines[b"has"][0]
+    changeable, volatile = map(int, lines[b"rows"][0])
     permanent = tuple(
-        Permanent(number, row.text, row.owner, row.priority) for number, row in enumerate(held.permanent, 1)
+        Permanent(number, octets_of(words[0]), octets_of(words[1]), int(words[4]))
+        for number, words in enumerate(lines.get(b"permanent", []), 1)
     )
     return Face(
         hashlib.sha256(OWN.sub(b"", text)).hexdigest()[:16],
         text,
-        held.face.width,
-        held.face.height,
-        fonts,
-        held.beacons,
-        held.pixels,
-        (held.changeable, held.volatile),
+        width,
+        height,
+        tuple(sorted((int(words[0]), int(words[2])) for words in lines.get(b"font", []))),
+        int(beacons) == 1,
+        int(pixels) == 1,
+        (changeable, volatile),
         permanent,
-        held.writer,
-        held.swapped,
+        lines[b"communities"][0][1],
     )
 
 
 def face_of(sign: Sign) -> Face:
-    """A sign's face; refused where its description is none."""
+    """A sign's face."""
+    return face_of_text(sign.text)
+
+
+def check(sign: Sign, program: str) -> None:
+    """Refuses a description that the program takes for none."""
+    centre = CoProcess(program, ["centre"], sign.text)
     try:
-        return face_of_text(sign.text)
-    except (described.Bad, described.TooLong) as fault:
-        line = f"line {fault.line}: " if isinstance(fault, described.Bad) else ""
-        raise Refusal(f"{sign.name}: {line}no description of a sign") from fault
+        centre.begin(b"status last", sign.name)
+    finally:
+        centre.end()
+
+
+def faces_of(signs: dict[int, Sign], program: str) -> dict[int, Face]:
+    """The signs' faces; refused where a description is none."""
+    seen: set[bytes] = set()
+    for sign in signs.values():
+        if sign.text not in seen:
+            check(sign, program)
+        seen.add(sign.text)
+    return {row: face_of(sign) for row, sign in signs.items()}

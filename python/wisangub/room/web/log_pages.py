@@ -5,6 +5,7 @@ from typing import Any
 
 from aiohttp import web
 
+from wisangub.refusal import Refusal
 from wisangub.room.fleet import Sign
 from wisangub.room.store import views
 from wisangub.room.store.database import Database
@@ -14,8 +15,8 @@ from wisangub.snmp.mib import Mib
 
 from .faces import Face
 from .record_pages import number_of
-from .replay import Handed, Replay
-from .room import room_of, sign_of
+from .replay import Handed, Line, replayed
+from .room import Room, room_of, sign_of
 from .words import Asked, asked
 
 MOST = 60  # lines of a page
@@ -47,7 +48,17 @@ def told(mib: Mib, octets: bytes, communities: tuple[bytes, ...]) -> dict[str, A
     return fields
 
 
-def entries(mib: Mib, sign: Sign, face: Face, handed: Handed) -> list[Entry]:
+def entries(room: Room, row: int, lines: list[Line]) -> list[Entry]:
+    """The events of a centre's last lines."""
+    sign = room.signs[row]
+    try:
+        handed = replayed(room.settings.program, sign, lines)
+    except (Refusal, OSError) as fault:
+        raise web.HTTPServiceUnavailable(text=f"What went out cannot be told now: {fault}") from fault
+    return [one for line in handed[-MOST:] for one in events_of(room.mib, sign, room.faces[row], line)]
+
+
+def events_of(mib: Mib, sign: Sign, face: Face, handed: Handed) -> list[Entry]:
     """The events of a line."""
     words = handed.line.split(" ")
     communities = (sign.reader, face.writer)
@@ -66,7 +77,7 @@ def entries(mib: Mib, sign: Sign, face: Face, handed: Handed) -> list[Entry]:
     return made
 
 
-def centre_of(held: Database, row: int, before: int | None) -> list[tuple[int, str, float]]:
+def centre_of(held: Database, row: int, before: int | None) -> list[Line]:
     """The lines of the centre that had the line before a number, up to it; of the last centre for none."""
     below = before if before is not None else 2**62
     begun = held.run(
@@ -85,13 +96,11 @@ def centre_of(held: Database, row: int, before: int | None) -> list[tuple[int, s
 async def log(request: web.Request) -> web.Response:
     room, row, before = room_of(request), sign_of(request), number_of(request, "before")
 
-    def found(held: Database) -> tuple[SignView | None, list[Entry], float]:
-        face, lines = room.faces[row], centre_of(held, row, before)
-        handed = list(Replay(face).hand(lines))[-MOST:]
-        said = [one for line in handed for one in entries(room.mib, room.signs[row], face, line)]
-        return views.sign(held, row), said, views.now(held)
+    def found(held: Database) -> tuple[SignView | None, list[Line], float]:
+        return views.sign(held, row), centre_of(held, row, before), views.now(held)
 
-    sign, said, now = await room.connections.run(found)
+    sign, lines, now = await room.connections.run(found)
+    said = await room.connections.work(lambda: entries(room, row, lines))
     first = said[0].number if said else 1
     return room.page(
         request,

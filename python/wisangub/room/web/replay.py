@@ -1,13 +1,14 @@
-"""What a sign's centre sent, from its lines: a centre is decided by them, and model's centre is handed them."""
+"""What a sign's centre sent, from its lines: a centre is decided by them, and the program is handed them again."""
 
 from dataclasses import dataclass
-from typing import Iterable, Iterator
 
-from model import text
-from model.centre import Centre
 from wisangub.endpoint.records import Head
+from wisangub.process import description
+from wisangub.process.coprocess import CoProcess
+from wisangub.room.fleet import Sign
 
-from .faces import Face
+SENT = b"send "
+Line = tuple[int, str, float]  # its number, what it says, and when it was handed over
 
 
 @dataclass(frozen=True)
@@ -20,35 +21,28 @@ class Handed:
     sent: bytes | None
 
 
-class Replay:
-    """A sign's centre, as far as its lines were handed over."""
+def replayed(program: str, sign: Sign, lines: list[Line]) -> list[Handed]:
+    """The lines of one centre, the first of which says which one it is, each with what went out for it. Raises Refusal
+    or OSError where the program does not answer."""
+    head = Head.of(lines[0][1].encode()) if lines else None
+    if head is None or head.first is None:
+        return [Handed(*line, None) for line in lines]
+    answers = [b"", *answered(program, sign, head.first, [line.encode() for _, line, _ in lines[1:]])]
+    return [Handed(*line, sent_of(answer)) for line, answer in zip(lines, answers)]
 
-    def __init__(self, face: Face) -> None:
-        self.face = face
-        self.centre: Centre | None = None
-        self.at = 0
 
-    def hand(self, lines: Iterable[tuple[int, str, float]]) -> Iterator[Handed]:
-        """Hands lines over, one by one."""
-        for number, line, at in lines:
-            self.at = number
-            yield Handed(number, line, at, self.sent(line.encode().split(b" ")))
+def answered(program: str, sign: Sign, first: int, lines: list[bytes]) -> list[bytes]:
+    """What a centre that begins with this number answers to lines."""
+    if not lines:
+        return []
+    centre = CoProcess(program, ["centre"], description.with_first(sign.text, first))
+    try:
+        centre.begin(b"status last", sign.name)
+        return centre.hand(lines)
+    finally:
+        centre.end()
 
-    def sent(self, words: list[bytes]) -> bytes | None:
-        """What goes out for a line; nothing for one that a centre refuses."""
-        if words[0] == b"journal":
-            head = Head.of(b" ".join(words))
-            first = 1 if head is None or head.first is None else head.first
-            self.centre = Centre(self.face.writer, self.face.is_swapped, first)
-        if self.centre is None or words[0] == b"journal":
-            return None
-        try:
-            if words[0] == b"datagram":
-                return self.centre.receive(text.octets(words[1]))
-            return self.centre.tick() if words[0] == b"tick" else self.command(words)
-        except (ValueError, IndexError):
-            return None
 
-    def command(self, words: list[bytes]) -> bytes | None:
-        sent: bytes | None = self.centre.command(text.event(words, self.centre.swapped)) if self.centre else None
-        return sent
+def sent_of(answer: bytes) -> bytes | None:
+    """The octets that an answer says; none where nothing went out."""
+    return bytes.fromhex(answer.removeprefix(SENT).decode()) if answer.startswith(SENT) else None

@@ -8,7 +8,6 @@ import jinja2
 from aiohttp import web
 from markupsafe import Markup
 
-from model import multi
 from wisangub.endpoint.endings import with_step
 from wisangub.room.fleet import Sign
 from wisangub.room.store.store import Store
@@ -16,23 +15,16 @@ from wisangub.snmp.mib import Mib
 
 from . import words
 from .connections import Connections
-from .faces import Face, face_of
+from .faces import Face, faces_of
 from .logins import Visitor
 from .pictures import Pictures
+from .plain import plain_of
 from .progress import because, states
 from .security import Seal, key_of
 from .settings import Settings
 
 HERE = pathlib.Path(__file__).resolve().parent
 MOST_CARDS = 8192  # that are kept as HTML, of 800 octets each
-
-
-def plain_of(text: bytes) -> str:
-    """A text without its tags: lines apart by a stroke, pages by two."""
-    apart = {"new line": " / ", "new page": " // "}
-    found, _ = multi.items(text)
-    said = [chr(item[1]) if item[0] == "character" else apart.get(item[0], "") for item, _ in found]
-    return "".join(said).strip(" /") or "nothing"
 
 
 class Room:
@@ -44,7 +36,7 @@ class Room:
         held = self.connections.held()
         rows = {sign.name: row for row, sign in Store(held).enter(signs).items()}
         self.signs = {rows[sign.name]: sign for sign in signs}  # in the fleet's order
-        self.faces = {row: face_of(sign) for row, sign in self.signs.items()}
+        self.faces = faces_of(self.signs, settings.program)
         self.by_key = {face.key: face for face in self.faces.values()}
         self.seal = Seal(key_of(held), settings.is_behind_tls)
         self.connections.let_go()
