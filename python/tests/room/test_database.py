@@ -250,3 +250,20 @@ def test_numbers_of_readings_are_used_up_once(where: str) -> None:
     store, _, sign = two_stores(where)
     store.run("UPDATE signs SET reading_number = ? WHERE id = ?", -(2**31) + 1, sign)
     assert store.numbers([sign]) == {sign: -(2**31)} and store.numbers([sign]) == {} and store.due([sign]) == []
+
+
+def test_a_command_and_its_audit_are_one(where: str) -> None:
+    first, second, sign = two_stores(where)
+    lines = [(sign, BLANK), (sign, BLANK)]
+    batch = first.ask_all(lines, "me", "nothing", "a confirmation")
+    assert second.ask_all(lines, "me", "nothing", "a confirmation") == batch, "it counts once"
+    with pytest.raises(Taken):
+        second.ask_all(lines, "you", "nothing", "a confirmation")
+    with pytest.raises(Taken):
+        second.ask_all([(sign, BLANK), (sign + 1, BLANK)], "me", "nothing", "another confirmation")
+    commands = [int(row[0] or 0) for row in first.run("SELECT command FROM batch_commands ORDER BY command")]
+    assert first.withdraw(commands[0], "you") and not first.withdraw(commands[0], "me")
+    assert not first.withdraw(commands[1] + 100, "me")
+    assert first.how(commands[0]) == "withdrawn by you" and first.how(commands[1]) is None
+    noted = [("me", f"one: {BLANK}")] * 2 + [("you", f"one: command {commands[0]} is withdrawn")]
+    assert first.run("SELECT who, what FROM audit ORDER BY id") == noted

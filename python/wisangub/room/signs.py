@@ -13,8 +13,8 @@ import sys
 
 from wisangub.process.places import called
 from wisangub.refusal import Refusal, status_of, tell
+from wisangub.room.store.audit import note
 from wisangub.room.store.database import Database, Failed, Taken
-from wisangub.room.store.users import note
 
 from . import fleet, start
 from .store import database

@@ -12,6 +12,7 @@ from wisangub.refusal import Refusal
 from wisangub.room.fleet import LAST_NUMBER
 from wisangub.room.worker.session import PACE, RESTORED
 
+from .audit import note
 from .reading_store import CLOCK, LEAST_NUMBER
 from .store import Store, whole
 
@@ -93,11 +94,7 @@ def advance(store: Store, who: str, first: int | None) -> Step:
         ended = end_all(store)
         numbers = begins.values()
         found = Step(len(known), since, seconds, step, min(numbers, default=0), max(numbers, default=0), ended)
-        store.run(
-            f"INSERT INTO audit (at, who, what) VALUES ({CLOCK}, ?, ?)",
-            who,
-            "restored from a copy: " + found.told().replace("\n", " "),
-        )
+        note(store.database, who, "restored from a copy: " + found.told().replace("\n", " "))
         return found
 
 

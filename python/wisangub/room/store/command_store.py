@@ -3,7 +3,8 @@
 from dataclasses import dataclass
 from typing import Sequence
 
-from .database import Value
+from .audit import note
+from .database import Taken, Value
 from .reading_store import CLOCK, ReadingStore, whole
 
 
@@ -26,12 +27,41 @@ class CommandStore(ReadingStore):
     def ask(self, sign: int, who: str, line: str) -> int:
         """A command that waits for its turn: its number."""
         with self.database.transaction():
-            rows = self.run(
-                f"INSERT INTO commands (sign, who, at, line) VALUES (?, ?, {CLOCK}, ?) RETURNING id", sign, who, line
-            )
-            name = texts(self.run("SELECT name FROM signs WHERE id = ?", sign))[0]
-            self.run(f"INSERT INTO audit (at, who, what) VALUES ({CLOCK}, ?, ?)", who, f"{name}: {line}")
+            return self.put_command(sign, who, line)
+
+    def ask_all(self, lines: Sequence[tuple[int, str]], who: str, what: str, confirmation: str) -> int:
+        """A command for each of these signs, or for none: the number of what was asked, which `what` says in words. A
+        confirmation counts once: where it is there already, what was asked with it then."""
+        try:
+            with self.database.transaction():
+                rows = self.run(
+                    f"INSERT INTO batches (confirmation, who, at, what) VALUES (?, ?, {CLOCK}, ?) RETURNING id",
+                    confirmation,
+                    who,
+                    what,
+                )
+                batch = whole(rows[0][0])
+                for sign, line in lines:
+                    command = self.put_command(sign, who, line)
+                    self.run("INSERT INTO batch_commands (batch, command) VALUES (?, ?)", batch, command)
+                return batch
+        except Taken:
+            rows = self.run("SELECT id FROM batches WHERE confirmation = ? AND who = ?", confirmation, who)
+            if not rows:
+                raise
             return whole(rows[0][0])
+
+    def put_command(self, sign: int, who: str, line: str) -> int:
+        """A command with its line of the audit, within a transaction: its number."""
+        rows = self.run(
+            f"INSERT INTO commands (sign, who, at, line) VALUES (?, ?, {CLOCK}, ?) RETURNING id", sign, who, line
+        )
+        note(self.database, who, f"{self.name_of(sign)}: {line}")
+        return whole(rows[0][0])
+
+    def name_of(self, sign: int) -> str:
+        """The sign's name."""
+        return texts(self.run("SELECT name FROM signs WHERE id = ?", sign))[0]
 
     def begun(self, sign: int) -> tuple[Command, int] | None:
         """The command that is under way, and the number of its line."""
@@ -52,16 +82,19 @@ class CommandStore(ReadingStore):
         """How a command ended, in words; the first word on it stands."""
         self.run(f"UPDATE commands SET how = ?, ended = {CLOCK} WHERE id = ? AND how IS NULL", how, command)
 
-    def withdraw(self, command: int, how: str) -> bool:
-        """Ends a command that waits for its turn; False where it was begun, or has ended."""
-        return bool(
-            self.run(
+    def withdraw(self, command: int, who: str) -> bool:
+        """Ends a command that waits for its turn, and says so in the audit; False where it was begun, or has ended, or
+        where there is none."""
+        with self.database.transaction():
+            rows = self.run(
                 f"UPDATE commands SET how = ?, ended = {CLOCK}"
-                " WHERE id = ? AND number IS NULL AND how IS NULL RETURNING id",
-                how,
+                " WHERE id = ? AND number IS NULL AND how IS NULL RETURNING sign",
+                f"withdrawn by {who}",
                 command,
             )
-        )
+            if rows:
+                note(self.database, who, f"{self.name_of(whole(rows[0][0]))}: command {command} is withdrawn")
+            return bool(rows)
 
     def how(self, command: int) -> str | None:
         """How a command ended; None where it has not."""

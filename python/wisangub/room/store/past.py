@@ -5,6 +5,8 @@ from dataclasses import dataclass, field
 from .database import Database
 from .views import COMMANDS, CommandView, Shown, command_view, text_or_none, time_of, whole
 
+Line = tuple[int, str, float]  # of a centre: its number, what it says, and when it was handed over
+
 
 @dataclass(frozen=True)
 class Batch:
@@ -67,3 +69,18 @@ def audit(held: Database, before: int | None, most: int = 100) -> list[tuple[int
     where, values = ("", []) if before is None else (" WHERE id < ?", [before])
     rows = held.run(f"SELECT id, at, who, what FROM audit{where} ORDER BY id DESC LIMIT ?", *values, most)
     return [(whole(row[0]), time_of(row[1]), str(row[2]), str(row[3])) for row in rows]
+
+
+def centre_lines(held: Database, number: int, before: int | None) -> list[Line]:
+    """The lines of the centre that had the line before a number, up to it; of the sign's last centre for none."""
+    below = before if before is not None else 2**62
+    begun = held.run(
+        "SELECT MAX(number) FROM lines WHERE sign = ? AND number < ? AND substr(line, 1, 8) = 'journal '", number, below
+    )
+    rows = held.run(
+        "SELECT number, line, at FROM lines WHERE sign = ? AND number >= ? AND number < ? ORDER BY number",
+        number,
+        begun[0][0] if begun and begun[0][0] is not None else 1,
+        below,
+    )
+    return [(whole(row[0]), str(row[1]), time_of(row[2])) for row in rows]

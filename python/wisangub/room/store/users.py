@@ -21,6 +21,7 @@ from wisangub.refusal import Refusal, status_of, tell
 from wisangub.room import start
 
 from . import database, passwords
+from .audit import note
 from .database import Database, Failed, Taken
 
 NAME = re.compile(r"[a-z][a-z0-9._-]{0,31}")
@@ -51,11 +52,6 @@ class User:
     name: str
     role: Role
     is_disabled: bool = False
-
-
-def note(held: Database, who: str, what: str) -> None:
-    """A line of the audit."""
-    held.run("INSERT INTO audit (at, who, what) VALUES ({clock}, ?, ?)", who, what)
 
 
 def users(held: Database) -> list[User]:

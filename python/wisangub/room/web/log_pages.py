@@ -7,15 +7,16 @@ from aiohttp import web
 
 from wisangub.refusal import Refusal
 from wisangub.room.fleet import Sign
-from wisangub.room.store import views
+from wisangub.room.store import past, views
 from wisangub.room.store.database import Database
+from wisangub.room.store.past import Line
 from wisangub.room.store.views import SignView
 from wisangub.snmp.datagrams import fields_of
 from wisangub.snmp.mib import Mib
 
 from .faces import Face
 from .record_pages import number_of
-from .replay import Handed, Line, replayed
+from .replay import Handed, replayed
 from .room import Room, room_of, sign_of
 from .words import Asked, asked
 
@@ -77,27 +78,11 @@ def events_of(mib: Mib, sign: Sign, face: Face, handed: Handed) -> list[Entry]:
     return made
 
 
-def centre_of(held: Database, row: int, before: int | None) -> list[Line]:
-    """The lines of the centre that had the line before a number, up to it; of the last centre for none."""
-    below = before if before is not None else 2**62
-    begun = held.run(
-        "SELECT MAX(number) FROM lines WHERE sign = ? AND number < ? AND substr(line, 1, 8) = 'journal '", row, below
-    )
-    first = begun[0][0] if begun and begun[0][0] is not None else 1
-    rows = held.run(
-        "SELECT number, line, at FROM lines WHERE sign = ? AND number >= ? AND number < ? ORDER BY number",
-        row,
-        first,
-        below,
-    )
-    return [(views.whole(one[0]), str(one[1]), views.time_of(one[2])) for one in rows]
-
-
 async def log(request: web.Request) -> web.Response:
     room, row, before = room_of(request), sign_of(request), number_of(request, "before")
 
     def found(held: Database) -> tuple[SignView | None, list[Line], float]:
-        return views.sign(held, row), centre_of(held, row, before), views.now(held)
+        return views.sign(held, row), past.centre_lines(held, row, before), views.now(held)
 
     sign, lines, now = await room.connections.run(found)
     said = await room.connections.work(lambda: entries(room, row, lines))

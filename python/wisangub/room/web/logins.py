@@ -4,9 +4,10 @@ import hashlib
 import secrets
 from dataclasses import dataclass
 
+from wisangub.room.store.audit import note
 from wisangub.room.store.database import Database
 from wisangub.room.store.reading_store import SLACK
-from wisangub.room.store.users import Role, note
+from wisangub.room.store.users import Role
 
 LASTS = 12 * 3600  # seconds of a log-in: a shift
 WINDOW = 300  # seconds in which failed log-ins are counted

@@ -6,9 +6,9 @@ from wisangub.endpoint.records import Head
 from wisangub.process import description
 from wisangub.process.coprocess import CoProcess
 from wisangub.room.fleet import Sign
+from wisangub.room.store.past import Line
 
 SENT = b"send "
-Line = tuple[int, str, float]  # its number, what it says, and when it was handed over
 
 
 @dataclass(frozen=True)

@@ -9,15 +9,13 @@ from wisangub.endpoint.sockets import connected
 from wisangub.refusal import Refusal
 from wisangub.room.fleet import Sign
 from wisangub.room.store import past, views
-from wisangub.room.store.database import Database, Taken
+from wisangub.room.store.database import Database
 from wisangub.room.store.past import Batch
 from wisangub.room.store.store import Store
-from wisangub.room.store.users import note
 
 from . import compose
 from . import draft as drafts
 from .draft import KINDS, Draft
-from .logins import Visitor
 from .room import Room, room_of, visitor_of
 from .words import asked
 
@@ -32,35 +30,6 @@ def own_address(sign: Sign) -> str:
             return str(door.getsockname()[0]) if door.family == socket.AF_INET else NOWHERE
     except (Refusal, OSError):
         return NOWHERE
-
-
-def ask(held: Database, visitor: Visitor, lines: list[tuple[int, str, str]], confirmation: str) -> int:
-    """All commands of a confirmation, or none: the number of what was asked. One that is there already counts once."""
-    try:
-        with held.transaction():
-            what = asked(lines[0][2]).what
-            rows = held.run(
-                "INSERT INTO batches (confirmation, who, at, what) VALUES (?, ?, {clock}, ?) RETURNING id",
-                confirmation,
-                visitor.name,
-                what,
-            )
-            batch = int(rows[0][0] or 0)
-            for sign, name, line in lines:
-                found = held.run(
-                    "INSERT INTO commands (sign, who, at, line) VALUES (?, ?, {clock}, ?) RETURNING id",
-                    sign,
-                    visitor.name,
-                    line,
-                )
-                held.run("INSERT INTO batch_commands (batch, command) VALUES (?, ?)", batch, found[0][0])
-                held.run("INSERT INTO audit (at, who, what) VALUES ({clock}, ?, ?)", visitor.name, f"{name}: {line}")
-            return batch
-    except Taken:
-        rows = held.run("SELECT id FROM batches WHERE confirmation = ? AND who = ?", confirmation, visitor.name)
-        if not rows:
-            raise
-        return int(rows[0][0] or 0)
 
 
 async def is_drawn(room: Room, draft: Draft) -> bool:
@@ -84,8 +53,8 @@ async def send(request: web.Request) -> web.StreamResponse:
 
     def done(held: Database) -> int:
         signs = [(row, room.signs[row]) for row in draft.signs]
-        lines = [(row, sign.name, draft.line(visitor.name, own_address(sign))) for row, sign in signs]
-        return ask(held, visitor, lines, confirmation)
+        lines = [(row, draft.line(visitor.name, own_address(sign))) for row, sign in signs]
+        return Store(held).ask_all(lines, visitor.name, asked(lines[0][1]).what, confirmation)
 
     raise web.HTTPSeeOther(f"/batches/{await room.connections.run(done)}")
 
@@ -128,13 +97,6 @@ async def withdraw(request: web.Request) -> web.StreamResponse:
     """Ends a command that waits for its turn; one that was begun goes on."""
     room, visitor, number = room_of(request), visitor_of(request), int(request.match_info["command"])
 
-    def done(held: Database) -> bool:
-        command = views.command(held, number)
-        if command is None or not Store(held).withdraw(number, f"withdrawn by {visitor.name}"):
-            return False
-        note(held, visitor.name, f"{command.sign_name}: command {number} is withdrawn")
-        return True
-
-    if not await room.connections.run(done):
+    if not await room.connections.run(lambda held: Store(held).withdraw(number, visitor.name)):
         raise web.HTTPConflict(text="This command was begun, or has ended: it cannot be withdrawn.")
     raise web.HTTPSeeOther("/history?outcome=open")
