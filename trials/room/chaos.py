@@ -117,7 +117,7 @@ class Run:
         if self.lines >= self.crash_at and not self.place.restarts:
             self.place.restart()
             self.workers.refill()
-        return bool(self.to_ask or count(self.store, "commands WHERE how IS NULL"))
+        return bool(self.to_ask or count(self.store, "commands WHERE outcome IS NULL"))
 
 
 def run(asked: Asked, folder: pathlib.Path, place: Place) -> Outcome:
@@ -152,7 +152,7 @@ def run(asked: Asked, folder: pathlib.Path, place: Place) -> Outcome:
     found.holds(f"what stood beside the workers: {beside.faults[:3]}", not beside.faults)
     lives = {live.name: live for live in loopback.signs}
     with opened(place.where) as store:
-        found.holds("every command ended", not count(store, "commands WHERE how IS NULL"))
+        found.holds("every command ended", not count(store, "commands WHERE outcome IS NULL"))
         for row, sign in rows.items():
             look_at(found, store, row, sign, lives[sign.name])
         told(store, loopback, workers, place, seconds)
@@ -171,7 +171,7 @@ def going(run: Run, beside: Beside) -> None:
 
 def told(store: Store, loopback: Loopback, workers: Workers, place: Place, seconds: float) -> None:
     """The numbers of a run."""
-    for how, times in store.run("SELECT how, count(*) FROM commands GROUP BY how ORDER BY 2 DESC"):
+    for how, times in store.run("SELECT outcome, count(*) FROM commands GROUP BY outcome ORDER BY 2 DESC"):
         tell(f"{times} commands: {how}")
     lines, datagrams = count(store, "lines"), sum(len(live.requests) for live in loopback.signs)
     accepted = sum(len(live.accepted) for live in loopback.signs)

@@ -74,7 +74,7 @@ def look_at(found: Outcome, store: Store, row: int, sign: fleet.Sign, live: Loop
     for number, (code, how) in ledger.items():
         if how == "accepted":
             found.holds(f"{live.name}: the sign accepted {number}", (number, code) in live.accepted)
-    accepted = store.run("SELECT count(*) FROM commands WHERE sign = ? AND how = 'accepted'", row)[0][0]
+    accepted = store.run("SELECT count(*) FROM commands WHERE sign = ? AND outcome = 'accepted'", row)[0][0]
     found.holds(
         f"{live.name}: each command that ended accepted has its activation",
         accepted == sum(how == "accepted" for _, how in ledger.values()),

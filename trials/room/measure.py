@@ -64,12 +64,12 @@ def begun_once(store: Store, rows: list[int]) -> None:
     """Waits until each sign was read and had a command, so that what is measured is the work that goes on."""
     with store.database.transaction():
         store.database.run_all(
-            "INSERT INTO commands (sign, who, at, line) VALUES (?, 'before', {clock}, ?)",
+            "INSERT INTO commands (sign, who, asked_at, line) VALUES (?, 'before', {clock}, ?)",
             [(row, "blank 1 65535 255 192.0.2.1") for row in rows],
         )
     ends = time.monotonic() + START
     while (
-        count(store, "commands WHERE how IS NULL")
+        count(store, "commands WHERE outcome IS NULL")
         or count(store, "messages") < len(rows)
         or count(store, "signs WHERE id IN (SELECT sign FROM readings)") < len(rows)
     ):
@@ -116,12 +116,12 @@ def carried(asked: Asked, store: Store, rows: list[int], watch: Watch) -> float:
         if sent < to_send:
             with store.database.transaction():
                 store.database.run_all(
-                    "INSERT INTO commands (sign, who, at, line) VALUES (?, 'measure', {clock}, ?)",
+                    "INSERT INTO commands (sign, who, asked_at, line) VALUES (?, 'measure', {clock}, ?)",
                     [(rows[at % len(rows)], publication(at)) for at in range(sent, to_send)],
                 )
             sent = to_send
         watch.look()
-        if not took and sent == asked.commands and not count(store, "commands WHERE how IS NULL"):
+        if not took and sent == asked.commands and not count(store, "commands WHERE outcome IS NULL"):
             took = watch.span()
         if took and watch.span() >= asked.hold:
             break
@@ -146,7 +146,7 @@ def told(asked: Asked, store: Store, seconds: float, watch: Watch) -> None:
     span, gets = watch.span(), watch.gets() - watch.gets_before
     took = sorted(
         float(row[0] or 0)
-        for row in store.run("SELECT ended - at FROM commands WHERE who = 'measure' AND how = 'accepted'")
+        for row in store.run("SELECT ended - asked_at FROM commands WHERE who = 'measure' AND outcome = 'accepted'")
     )
     tell(
         f"{asked.signs} signs, {asked.workers} workers, {asked.database}, tick {asked.tick:g} s, poll {asked.poll:g} s,"
@@ -202,7 +202,7 @@ def run(asked: Asked, folder: pathlib.Path, place: Place) -> bool:
         watch = Watch(store, grouped(workers, place))
         seconds = carried(asked, store, rows, watch)
         told(asked, store, seconds, watch)
-        return count(store, "commands WHERE who = 'measure' AND how = 'accepted'") == asked.commands
+        return count(store, "commands WHERE who = 'measure' AND outcome = 'accepted'") == asked.commands
     finally:
         workers.end()
         loopback.end()

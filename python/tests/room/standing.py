@@ -22,7 +22,9 @@ def in_trouble(bench: Bench) -> None:
     )
     for sign, (number, step, how) in zip((bench.gantry, bench.two, bench.two, bench.two), states):
         command = bench.store.ask(sign, "operator", line)
-        bench.store.run("UPDATE commands SET number = ?, step = ?, how = ? WHERE id = ?", number, step, how, command)
+        bench.store.run(
+            "UPDATE commands SET line_number = ?, step = ?, outcome = ? WHERE id = ?", number, step, how, command
+        )
         bench.store.run("INSERT INTO batch_commands (batch, command) VALUES (1, ?)", command)
     bench.read(bench.two, text="")
     bench.store.run("UPDATE messages SET status = 5 WHERE sign = ?", bench.one)

@@ -110,14 +110,14 @@ def test_the_first_number_is_said_by_hand(where: str) -> None:
 
 def test_seconds_that_passed_are_numbers_that_were_used(where: str) -> None:
     store, _, sign = two_stores(where)
-    store.run("UPDATE signs SET polled = {clock} - 100000")
+    store.run("UPDATE signs SET read_at = {clock} - 100000")
     found = advance.advance(store, "me", None)
     assert found.left_out >= 100_000 * advance.LINES_A_SECOND and found.least == found.left_out
-    store.run("UPDATE signs SET polled = {clock} + 100000")
+    store.run("UPDATE signs SET read_at = {clock} + 100000")
     with pytest.raises(Refusal, match="clock is before its newest entry"):
         advance.advance(store, "me", None)
     advance.advance(store, "me", 50_000_000)
-    for table, column in (("signs", "polled"), ("audit", "at")):
+    for table, column in (("signs", "read_at"), ("audit", "at")):
         store.run(f"UPDATE {table} SET {column} = {{clock}} - 30000000")
     with pytest.raises(Refusal, match="none is left"):
         advance.advance(store, "me", None)

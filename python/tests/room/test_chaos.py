@@ -68,7 +68,7 @@ BREAKS: dict[str, Callable[[Bench], object]] = {
     "each command that ended accepted has its activation": lambda at: at.ended(
         at.worker(), at.store.ask(at.row, "me", "restart")
     )
-    and at.store.run("UPDATE commands SET how = 'accepted'"),
+    and at.store.run("UPDATE commands SET outcome = 'accepted'"),
     "the ledger is the model's, handed the lines": lambda at: at.store.run("UPDATE ledger SET outcome = 'noreply'"),
     "each command stands in the audit": lambda at: at.store.run("DELETE FROM audit"),
     "no line is missing": lambda at: at.store.run("DELETE FROM lines WHERE number = 3"),

@@ -47,7 +47,7 @@ def test_a_lease_lasts_as_long_as_it_was_taken_for(where: str) -> None:
     assert store.lease([sign], "first", 60) == {sign}
     for seconds, taken in ((-AHEAD, {sign}), (61.0, {sign}), (59.0, set())):
         jump(other.database, 0.0)
-        store.run("UPDATE signs SET holder = 'first', leased = {clock}, until = {clock} + 60")
+        store.run("UPDATE signs SET leased_by = 'first', leased_at = {clock}, leased_until = {clock} + 60")
         jump(other.database, seconds)
         assert other.lease([sign], "second", 60) == taken, seconds
 

@@ -190,7 +190,7 @@ def test_a_lease_is_by_the_database_s_clock(where: str, monkeypatch: pytest.Monk
     for clock in ("time", "monotonic"):
         monkeypatch.setattr(time, clock, lambda: 7.0)
     assert first.lease([sign], "first", 60) == {sign}
-    until = float(first.run("SELECT until FROM signs WHERE id = ?", sign)[0][0] or 0)
+    until = float(first.run("SELECT leased_until FROM signs WHERE id = ?", sign)[0][0] or 0)
     assert now + 60 <= until <= now + 120, "a worker's clock that is wrong changes no lease"
     assert second.lease([sign], "second", 60) == set()
 

@@ -214,7 +214,7 @@ def test_a_table_is_wanted(tmp_path: pathlib.Path) -> None:
         text = (await one.get(f"/signs/{bench.one}/table"))[1]
         assert "changeable 1" in text and "9a66" in text and "valid" in text and "FOG" in text
         assert (await one.post(f"/signs/{bench.one}/table", {}))[0] == 303
-        assert bench.store.run("SELECT wanted FROM signs WHERE id = ?", bench.one) == [(1,)]
+        assert bench.store.run("SELECT table_wanted FROM signs WHERE id = ?", bench.one) == [(1,)]
         assert "It is about to be read" in (await one.get(f"/signs/{bench.one}/table"))[1]
 
     run(tmp_path, str(tmp_path / "database"), act)

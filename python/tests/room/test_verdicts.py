@@ -60,7 +60,7 @@ def test_a_sign_is_asked_after_a_worker_died(
         with pytest.raises(KeyboardInterrupt):
             at.ended(worker, command)
         assert at.store.how(command) is None and worker.verdicts.to_ask == []
-        at.store.run("UPDATE signs SET holder = NULL")
+        at.store.run("UPDATE signs SET leased_by = NULL")
         second = at.worker()
         assert at.ended(second, command) == HOW and said(at, second, command).startswith(FOUND)
 

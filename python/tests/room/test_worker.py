@@ -57,7 +57,7 @@ def test_commands_end_in_words(tmp_path: pathlib.Path, where: str) -> None:
             assert at.ended(worker, command) == how, name
         while worker.sessions:
             worker.round()
-        assert at.store.run("SELECT holder FROM signs") == [(None,)], "a sign without work is let go"
+        assert at.store.run("SELECT leased_by FROM signs") == [(None,)], "a sign without work is let go"
         assert [line.split()[3] for line in at.store.ledger(at.row)] == ["accepted", "accepted", "refused"]
         accepted = [code for _, code in dict.fromkeys(at.live.accepted)]
         assert accepted == [line.split()[2] for line in at.store.ledger(at.row)[:2]]
@@ -222,7 +222,7 @@ def test_what_cannot_be_begun_waits_for_its_lease(tmp_path: pathlib.Path, where:
         worker = at.worker(program="/bin/false")
         worker.lease()
         assert not worker.sessions and at.store.with_work() == []
-        assert at.store.run("SELECT holder FROM signs") == [(worker.name,)]
+        assert at.store.run("SELECT leased_by FROM signs") == [(worker.name,)]
 
 
 def test_no_community_is_said_or_kept_beside_the_lines(
@@ -236,7 +236,7 @@ def test_no_community_is_said_or_kept_beside_the_lines(
             assert at.ended(worker, command)
         at.ask(HELLO)
         at.worker(program="/bin/false").lease()
-        at.store.run("UPDATE signs SET until = 0")
+        at.store.run("UPDATE signs SET leased_until = 0")
         (tmp_path / "a.sign").write_bytes(text.replace(words[1].encode(), words[1].encode() * 3))  # which is too long
         at.worker().lease()
         tables = ("signs", "commands", "ledger", "readings", "messages", "audit")

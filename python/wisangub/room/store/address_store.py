@@ -29,7 +29,7 @@ class AddressStore(CommandStore):
             sign,
             sign,
         )
-        least = whole(self.run("SELECT least FROM signs WHERE id = ?", sign)[0][0])
+        least = whole(self.run("SELECT first_number FROM signs WHERE id = ?", sign)[0][0])
         return (whole(rows[0][0]) if rows else 1), least, [str(row[1]).encode() for row in rows]
 
     def used(self, sign: int) -> int:
@@ -90,7 +90,7 @@ class AddressStore(CommandStore):
         """The sign's numbers go on above all that the other one's centres used, and below those of its readings, by a
         margin: a worker that does not know of it yet may drive the other one there for a while."""
         if self.used(sign) < (least := self.used(other) + MARGIN):
-            self.run("UPDATE signs SET least = ? WHERE id = ?", least, sign)
+            self.run("UPDATE signs SET first_number = ? WHERE id = ?", least, sign)
         reading = whole(self.run("SELECT reading_number FROM signs WHERE id = ?", other)[0][0]) - MARGIN
         self.run(
             "UPDATE signs SET reading_number = ? WHERE id = ? AND reading_number > ?",

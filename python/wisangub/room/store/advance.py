@@ -20,11 +20,11 @@ LINES_A_SECOND = round(1 / PACE)
 LEAST_STEP = 1_000_000  # numbers that are left out at least
 TIMES = (
     "at FROM lines",
-    "at FROM commands",
+    "asked_at FROM commands",
     "ended FROM commands",
     "at FROM ledger",
     "heard FROM readings",
-    "polled FROM signs",
+    "read_at FROM signs",
     "at FROM audit",
 )
 NOT_DONE = (
@@ -82,7 +82,11 @@ def advance(store: Store, who: str, first: int | None) -> Step:
         begins = {sign: number + step if first is None else first for sign, number in known.items()}
         check(known, begins)
         for sign, number in begins.items():
-            store.run("UPDATE signs SET least = ?, holder = NULL, polled = 0, wanted = 1 WHERE id = ?", number, sign)
+            store.run(
+                "UPDATE signs SET first_number = ?, leased_by = NULL, read_at = 0, table_wanted = 1 WHERE id = ?",
+                number,
+                sign,
+            )
         lowered = store.run(
             "UPDATE signs SET reading_number = reading_number - ? WHERE reading_number - ? > ?" " RETURNING id",
             step,
@@ -113,10 +117,13 @@ def check(known: dict[int, int], begins: dict[int, int]) -> None:
 def end_all(store: Store) -> int:
     """Ends what had not ended when the copy was made, log-ins too; how many commands."""
     begun = store.run(
-        f"UPDATE commands SET how = ?, ended = {CLOCK} WHERE number IS NOT NULL AND how IS NULL" " RETURNING id",
+        f"UPDATE commands SET outcome = ?, ended = {CLOCK} WHERE line_number IS NOT NULL AND outcome IS NULL"
+        " RETURNING id",
         RESTORED,
     )
-    waiting = store.run(f"UPDATE commands SET how = ?, ended = {CLOCK} WHERE how IS NULL RETURNING id", NOT_DONE)
+    waiting = store.run(
+        f"UPDATE commands SET outcome = ?, ended = {CLOCK} WHERE outcome IS NULL RETURNING id", NOT_DONE
+    )
     store.run(f"UPDATE ledger SET outcome = 'unknown', at = {CLOCK} WHERE outcome = 'waiting'")
     store.run(f"UPDATE logins SET ended = {CLOCK} WHERE ended IS NULL")  # one that was ended since would count again
     return len(begun) + len(waiting)

@@ -54,7 +54,7 @@ class CommandStore(ReadingStore):
     def put_command(self, sign: int, who: str, line: str) -> int:
         """A command with its line of the audit, within a transaction: its number."""
         rows = self.run(
-            f"INSERT INTO commands (sign, who, at, line) VALUES (?, ?, {CLOCK}, ?) RETURNING id", sign, who, line
+            f"INSERT INTO commands (sign, who, asked_at, line) VALUES (?, ?, {CLOCK}, ?) RETURNING id", sign, who, line
         )
         note(self.database, who, f"{self.name_of(sign)}: {line}")
         return whole(rows[0][0])
@@ -66,29 +66,32 @@ class CommandStore(ReadingStore):
     def begun(self, sign: int) -> tuple[Command, int] | None:
         """The command that is under way, and the number of its line."""
         rows = self.run(
-            "SELECT id, line, number FROM commands" " WHERE sign = ? AND number IS NOT NULL AND how IS NULL", sign
+            "SELECT id, line, line_number FROM commands"
+            " WHERE sign = ? AND line_number IS NOT NULL AND outcome IS NULL",
+            sign,
         )
         return (Command(whole(rows[0][0]), str(rows[0][1])), whole(rows[0][2])) if rows else None
 
     def next(self, sign: int) -> Command | None:
         """The command whose turn it is."""
         rows = self.run(
-            "SELECT id, line FROM commands WHERE sign = ? AND number IS NULL AND how IS NULL" " ORDER BY id LIMIT 1",
+            "SELECT id, line FROM commands WHERE sign = ? AND line_number IS NULL AND outcome IS NULL"
+            " ORDER BY id LIMIT 1",
             sign,
         )
         return Command(whole(rows[0][0]), str(rows[0][1])) if rows else None
 
     def end(self, command: int, how: str) -> None:
         """How a command ended, in words; the first word on it stands."""
-        self.run(f"UPDATE commands SET how = ?, ended = {CLOCK} WHERE id = ? AND how IS NULL", how, command)
+        self.run(f"UPDATE commands SET outcome = ?, ended = {CLOCK} WHERE id = ? AND outcome IS NULL", how, command)
 
     def withdraw(self, command: int, who: str) -> bool:
         """Ends a command that waits for its turn, and says so in the audit; False where it was begun, or has ended, or
         where there is none."""
         with self.database.transaction():
             rows = self.run(
-                f"UPDATE commands SET how = ?, ended = {CLOCK}"
-                " WHERE id = ? AND number IS NULL AND how IS NULL RETURNING sign",
+                f"UPDATE commands SET outcome = ?, ended = {CLOCK}"
+                " WHERE id = ? AND line_number IS NULL AND outcome IS NULL RETURNING sign",
                 f"withdrawn by {who}",
                 command,
             )
@@ -98,7 +101,7 @@ class CommandStore(ReadingStore):
 
     def how(self, command: int) -> str | None:
         """How a command ended; None where it has not."""
-        held = self.run("SELECT how FROM commands WHERE id = ?", command)[0][0]
+        held = self.run("SELECT outcome FROM commands WHERE id = ?", command)[0][0]
         return None if held is None else str(held)
 
     def because(self, said: Sequence[tuple[int, str]]) -> None:

@@ -3,7 +3,8 @@
 import os
 import pathlib
 
-from wisangub.refusal import Refusal
+from wisangub.process.places import called
+from wisangub.refusal import Refusal, say
 
 from .connection import Away, Database, Failed, NotYet, Row, Taken, Value
 from .sqlite import Sqlite
@@ -29,6 +30,10 @@ RESTORING = (
 )
 URLS = ("postgresql://", "postgres://")
 WHERE = "a file of SQLite, or postgresql://USER@HOST/NAME"  # for the help of a program
+CARRIED = (
+    f"From now on an earlier program refuses it: that one takes a copy that {called('wisangub-control backup copy')}"
+    " made before"
+)
 CREATE = "make the database, where there is none: without it another name is no new database"
 
 
@@ -93,7 +98,10 @@ def opened(where: str, may_create: bool = True) -> Database:
             raise Refusal(f"{named(where)} is empty, or no control room's: --create makes its tables")
         if database.has_table(RESTORING):
             raise Refusal("the database is being restored, or its restore failed: it wants an empty one")
-        migrate(database, migrations())
+        is_old = database.has_table("migrations")
+        done = migrate(database, migrations())
+        if is_old and done:
+            say(f"{named(where)}: its tables are carried over by migration {', '.join(map(str, done))}. {CARRIED}")
     except Away as away:
         raise NotYet(f"{named(where)}: {away}", 1) from away
     except Failed as fault:

@@ -8,7 +8,9 @@ from .database import Database, Value
 CLOCK = "{clock}"
 SLACK = 1.0  # seconds by which a time may be ahead where no clock jumped: it was written as another one was read
 LEAST_NUMBER = -(2**31)  # of a request
-DUE = f"(polled + poll <= {CLOCK} OR polled > {CLOCK})"  # one that was asked at a time to come is due: the clock jumped
+DUE = (
+    f"(read_at + poll <= {CLOCK} OR read_at > {CLOCK})"  # one that was asked at a time to come is due: the clock jumped
+)
 
 
 @dataclass(frozen=True)
@@ -60,7 +62,7 @@ class ReadingStore:
         rows = self.run(
             f"WITH due AS MATERIALIZED (SELECT id FROM signs WHERE id IN ({places(signs)})"
             f" AND {DUE} AND reading_number > ? {{skip}})"
-            f" UPDATE signs SET polled = {CLOCK}, reading_number = reading_number - 1"
+            f" UPDATE signs SET read_at = {CLOCK}, reading_number = reading_number - 1"
             " WHERE id IN (SELECT id FROM due) RETURNING id, reading_number",
             *signs,
             LEAST_NUMBER,
@@ -69,7 +71,7 @@ class ReadingStore:
 
     def to_read(self) -> list[int]:
         """The signs whose next reading is due: the one that was read longest ago first."""
-        return [whole(row[0]) for row in self.run(f"SELECT id FROM signs WHERE {DUE} ORDER BY polled")]
+        return [whole(row[0]) for row in self.run(f"SELECT id FROM signs WHERE {DUE} ORDER BY read_at")]
 
     def numbers(self, signs: Sequence[int]) -> dict[int, int]:
         """A request's number for each of the signs, below all that its readings had; none where they are used up."""
@@ -135,8 +137,9 @@ class ReadingStore:
             return []
         rows = self.run(
             f"WITH due AS MATERIALIZED (SELECT id FROM signs WHERE id IN ({places(signs)})"
-            f" AND (wanted = 1 OR tabled + ? <= {CLOCK} OR tabled > {CLOCK}) ORDER BY wanted DESC, tabled LIMIT ? {{skip}})"
-            f" UPDATE signs SET tabled = {CLOCK}, wanted = 0 WHERE id IN (SELECT id FROM due) RETURNING id",
+            f" AND (table_wanted = 1 OR table_read_at + ? <= {CLOCK} OR table_read_at > {CLOCK})"
+            f" ORDER BY table_wanted DESC, table_read_at LIMIT ? {{skip}})"
+            f" UPDATE signs SET table_read_at = {CLOCK}, table_wanted = 0 WHERE id IN (SELECT id FROM due) RETURNING id",
             *signs,
             seconds,
             most,
@@ -145,7 +148,7 @@ class ReadingStore:
 
     def want_table(self, sign: int) -> None:
         """Has the sign's table read before its time."""
-        self.run("UPDATE signs SET wanted = 1 WHERE id = ?", sign)
+        self.run("UPDATE signs SET table_wanted = 1 WHERE id = ?", sign)
 
     def read_rows(self, said: Sequence[RowSaid]) -> None:
         """What signs said of rows: the newest of each row that was ever in use."""

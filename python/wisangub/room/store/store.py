@@ -15,7 +15,7 @@ __all__ = ["Command", "Line", "News", "Store", "texts", "whole"]
 
 
 # nobody drives the sign: a lease that was taken at a time to come is over, since the clock jumped
-OVER = f"(holder IS NULL OR until < {CLOCK} OR leased > {CLOCK} + {SLACK})"
+OVER = f"(leased_by IS NULL OR leased_until < {CLOCK} OR leased_at > {CLOCK} + {SLACK})"
 
 
 @dataclass(frozen=True)
@@ -86,7 +86,7 @@ class Store(AddressStore):
         """Signs that have a command which has not ended, and that nobody drives: the longest waiting first."""
         rows = self.run(
             f"SELECT commands.sign FROM commands JOIN signs ON signs.id = commands.sign"
-            f" WHERE commands.how IS NULL AND {OVER}"
+            f" WHERE commands.outcome IS NULL AND {OVER}"
             " GROUP BY commands.sign ORDER BY min(commands.id)"
         )
         return [whole(row[0]) for row in rows]
@@ -98,7 +98,7 @@ class Store(AddressStore):
         rows = self.run(
             f"WITH free AS MATERIALIZED (SELECT id FROM signs WHERE id IN ({places(signs)})"
             f" AND {OVER} {{skip}})"
-            f" UPDATE signs SET holder = ?, leased = {CLOCK}, until = {CLOCK} + ?"
+            f" UPDATE signs SET leased_by = ?, leased_at = {CLOCK}, leased_until = {CLOCK} + ?"
             " WHERE id IN (SELECT id FROM free)"
             " RETURNING id",
             *signs,
@@ -112,9 +112,9 @@ class Store(AddressStore):
         if not signs:
             return set()
         rows = self.run(
-            f"WITH held AS MATERIALIZED (SELECT id FROM signs WHERE holder = ? AND until >= {CLOCK}"
+            f"WITH held AS MATERIALIZED (SELECT id FROM signs WHERE leased_by = ? AND leased_until >= {CLOCK}"
             f" AND id IN ({places(signs)}) ORDER BY id {{lock}})"
-            f" UPDATE signs SET leased = {CLOCK}, until = {CLOCK} + ? WHERE id IN (SELECT id FROM held)"
+            f" UPDATE signs SET leased_at = {CLOCK}, leased_until = {CLOCK} + ? WHERE id IN (SELECT id FROM held)"
             " RETURNING id",
             worker,
             *signs,
@@ -126,8 +126,8 @@ class Store(AddressStore):
         """Lets those of the signs go that the worker has."""
         if signs:
             self.run(
-                f"WITH held AS MATERIALIZED (SELECT id FROM signs WHERE holder = ? AND id IN ({places(signs)})"
-                " ORDER BY id {lock}) UPDATE signs SET holder = NULL WHERE id IN (SELECT id FROM held)",
+                f"WITH held AS MATERIALIZED (SELECT id FROM signs WHERE leased_by = ? AND id IN ({places(signs)})"
+                " ORDER BY id {lock}) UPDATE signs SET leased_by = NULL WHERE id IN (SELECT id FROM held)",
                 worker,
                 *signs,
             )
@@ -151,8 +151,10 @@ class Store(AddressStore):
         begun: list[tuple[Value, ...]] = [(line.number, line.command) for line in lines if line.command is not None]
         run_all = self.database.run_all
         with self.database.transaction():
-            run_all("UPDATE commands SET step = ? WHERE id = ? AND how IS NULL", list(steps))
-            changed = run_all("UPDATE commands SET number = ? WHERE id = ? AND number IS NULL AND how IS NULL", begun)
+            run_all("UPDATE commands SET step = ? WHERE id = ? AND outcome IS NULL", list(steps))
+            changed = run_all(
+                "UPDATE commands SET line_number = ? WHERE id = ? AND line_number IS NULL AND outcome IS NULL", begun
+            )
             if changed != len(begun):
                 raise Taken("a command waits no longer")
             run_all(
@@ -178,8 +180,8 @@ class Store(AddressStore):
                 )
                 self.run("UPDATE signs SET centre = ? WHERE id = ?", line.number, line.sign)
                 self.run(
-                    f"UPDATE commands SET how = ?, ended = {CLOCK}"
-                    " WHERE sign = ? AND number IS NOT NULL AND how IS NULL",
+                    f"UPDATE commands SET outcome = ?, ended = {CLOCK}"
+                    " WHERE sign = ? AND line_number IS NOT NULL AND outcome IS NULL",
                     how,
                     line.sign,
                 )
@@ -205,11 +207,11 @@ class Store(AddressStore):
                     [(one.sign, *entry(line)) for line in one.ledger],
                 )
             self.database.run_all(
-                f"UPDATE commands SET how = ?, ended = {CLOCK} WHERE id = ? AND how IS NULL",
+                f"UPDATE commands SET outcome = ?, ended = {CLOCK} WHERE id = ? AND outcome IS NULL",
                 [(one.how, one.command) for one in ended],
             )
             self.database.run_all(
-                "UPDATE signs SET polled = 0, wanted = 1 WHERE id = ?", [(one.sign,) for one in ended]
+                "UPDATE signs SET read_at = 0, table_wanted = 1 WHERE id = ?", [(one.sign,) for one in ended]
             )
 
 

@@ -17,8 +17,9 @@ LEFT JOIN readings AS said ON said.sign = signs.id
      AND said.number = (SELECT MIN(number) FROM readings WHERE sign = signs.id AND shown IS NOT NULL)
 """
 COMMANDS = (
-    "SELECT commands.id, commands.sign, signs.name, commands.who, commands.at, commands.line, commands.number,"
-    " commands.ended, commands.how, commands.step, commands.why, signs.address FROM commands JOIN signs ON signs.id = commands.sign"
+    "SELECT commands.id, commands.sign, signs.name, commands.who, commands.asked_at, commands.line,"
+    " commands.line_number, commands.ended, commands.outcome, commands.step, commands.why, signs.address"
+    " FROM commands JOIN signs ON signs.id = commands.sign"
 )
 
 
@@ -194,9 +195,9 @@ class Wanted:
                 parts.append(part)
                 values.append(value)
         outcome = {
-            "accepted": "commands.how = 'accepted'",
-            "open": "commands.how IS NULL",
-            "failed": "commands.how <> 'accepted'",
+            "accepted": "commands.outcome = 'accepted'",
+            "open": "commands.outcome IS NULL",
+            "failed": "commands.outcome <> 'accepted'",
         }.get(self.outcome)
         parts += [outcome] if outcome else []
         return (" WHERE " + " AND ".join(parts) if parts else ""), values
@@ -216,7 +217,7 @@ def command(held: Database, number: int) -> CommandView | None:
 
 def under_way(held: Database) -> list[CommandView]:
     """Commands that have not ended."""
-    return list(map(command_view, held.run(f"{COMMANDS} WHERE commands.how IS NULL ORDER BY commands.id")))
+    return list(map(command_view, held.run(f"{COMMANDS} WHERE commands.outcome IS NULL ORDER BY commands.id")))
 
 
 def now(held: Database) -> float:
@@ -267,5 +268,5 @@ def table(held: Database, number: int) -> TableView:
                 number_of(cells, "priority") or 0,
             )
         )
-    asked, wanted = held.run("SELECT tabled, wanted FROM signs WHERE id = ?", number)[0]
+    asked, wanted = held.run("SELECT table_read_at, table_wanted FROM signs WHERE id = ?", number)[0]
     return TableView(rows, time_of(asked), bool(wanted))
