@@ -4,10 +4,10 @@ import pathlib
 
 from wisangub.room.store import database
 from wisangub.room.store.database import Database
+from wisangub.room.store.queries import now as time_now
+from wisangub.room.store.queries import sign as sign_view
 from wisangub.room.store.reading_store import Said
 from wisangub.room.store.store import Store
-from wisangub.room.store.views import now as time_now
-from wisangub.room.store.views import sign as sign_view
 
 from .bench import HELLO, bench
 from .test_database import BLANK, two_stores

@@ -11,7 +11,7 @@ needs.modules("aiohttp", "jinja2")
 
 from model import layout, text
 from wisangub.endpoint.lack import spelled
-from wisangub.room.store import past, views
+from wisangub.room.store import history, queries
 from wisangub.room.web.compose import marked
 from wisangub.room.web.draft import Draft, joined
 from wisangub.room.web.faces import face_of
@@ -59,7 +59,7 @@ def test_a_text_is_published(tmp_path: pathlib.Path, where: str) -> None:
         status, _, then = await one.post("/send", held)
         assert (status, then) == (303, "/batches/1")
         assert (await one.post("/send", held))[2] == "/batches/1", "a confirmation counts once"
-        commands = views.commands(bench.store.database, views.Wanted())
+        commands = queries.commands(bench.store.database, queries.Wanted())
         assert sorted(command.sign for command in commands) == sorted([bench.one, bench.gantry])
         line = asked(commands[0].line)
         assert (line.text, line.owner, line.run, line.priority, line.minutes) == (b"[fo2]FOG", b"operator", 90, 110, 30)
@@ -67,7 +67,7 @@ def test_a_text_is_published(tmp_path: pathlib.Path, where: str) -> None:
         assert commands[0].who == "operator" and commands[0].line.endswith(" 127.0.0.1")
         page = (await one.get("/batches/1"))[1]
         assert "0 of 2 accepted, 2 under way" in page and "waits for its turn" in page
-        lines = [what for _, _, who, what in past.audit(bench.store.database, None) if who == "operator"]
+        lines = [what for _, _, who, what in history.audit(bench.store.database, None) if who == "operator"]
         assert sum("publish" in line for line in lines) == 2, "a line of the audit a command"
 
     run(tmp_path, where, act)
@@ -90,7 +90,7 @@ def test_a_text_is_refused_at_its_place(
         assert "".join(said["marked"]) == written
         held = {**GOOD, "sign": str(bench.one), "text": written, "kind": "publish", "confirmation": "x" * 24}
         assert (await one.post("/send", held))[0] == 422
-        assert views.commands(bench.store.database, views.Wanted()) == []
+        assert queries.commands(bench.store.database, queries.Wanted()) == []
 
     run(tmp_path, str(tmp_path / "database"), act)
 
@@ -115,7 +115,7 @@ def test_fields_that_are_not_in_order(tmp_path: pathlib.Path) -> None:
             held = {**fields, "kind": "publish", "confirmation": "x" * 24}
             assert (await one.post("/send", held))[0] == 422, key
         assert (await one.post("/send", {**GOOD, "sign": str(bench.one), "kind": "publish"}))[0] == 400
-        assert views.commands(bench.store.database, views.Wanted()) == []
+        assert queries.commands(bench.store.database, queries.Wanted()) == []
 
     run(tmp_path, str(tmp_path / "database"), act)
 
@@ -134,7 +134,7 @@ def test_a_request_without_its_token_does_nothing(tmp_path: pathlib.Path, where:
             assert answer.status == 403
         answer = await other.answered("/users", {"do": "disable", "name": "operator"})
         assert answer.status == 403 and (await one.get("/"))[0] == 200
-        assert views.commands(bench.store.database, views.Wanted()) == []
+        assert queries.commands(bench.store.database, queries.Wanted()) == []
 
     run(tmp_path, where, act)
 
@@ -154,7 +154,7 @@ def test_blanking_and_showing_a_row(tmp_path: pathlib.Path) -> None:
             assert ("kind", kind) in held
             asked_for = [*[field for field in held if field[0] != "token"], ("priority", "255"), ("lasts", "forever")]
             assert (await one.post("/send", asked_for))[0] == 303
-            assert views.commands(bench.store.database, views.Wanted(most=1))[0].line == line
+            assert queries.commands(bench.store.database, queries.Wanted(most=1))[0].line == line
         fields = {**GOOD, "sign": str(bench.one)}
         assert "It will refuse this: what it shows has priority 200" in (await one.post("/compose", fields))[1]
 

@@ -7,7 +7,7 @@ from . import needs
 
 needs.modules("aiohttp", "jinja2")
 
-from wisangub.room.store import past
+from wisangub.room.store import history
 from wisangub.room.store.store import Line
 from wisangub.room.store.users import Role
 from wisangub.room.web.app import ROUTES
@@ -145,7 +145,7 @@ def test_no_community_stands_anywhere(tmp_path: pathlib.Path, where: str) -> Non
         await events.content.readuntil(b"data: ")
         pages["events"] = (await events.content.readline()).decode()
         events.close()
-        pages["audit"] = str(past.audit(bench.store.database, None))
+        pages["audit"] = str(history.audit(bench.store.database, None))
         for path, text in pages.items():
             for word in (READER, WRITER, READER.encode().hex(), WRITER.encode().hex()):
                 assert word not in text, (path, word)

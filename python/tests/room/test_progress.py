@@ -9,7 +9,7 @@ from . import needs
 needs.modules("aiohttp", "jinja2")
 
 from wisangub.endpoint.endings import STEPS
-from wisangub.room.store.views import CommandView
+from wisangub.room.store.queries import CommandView
 from wisangub.room.web.progress import states
 
 from .test_pages import filled

@@ -14,8 +14,8 @@ from wisangub.room.addresses import Addresses, looked_up, of_places
 from wisangub.room.fleet import Sign
 from wisangub.room.store import database
 from wisangub.room.store.address_store import MARGIN
+from wisangub.room.store.queries import signs as sign_views
 from wisangub.room.store.store import Store
-from wisangub.room.store.views import signs as sign_views
 from wisangub.room.worker.rounds import Pace, Worker
 from wisangub.room.worker.where import Where
 from wisangub.snmp import wire

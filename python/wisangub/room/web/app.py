@@ -48,7 +48,7 @@ ROUTES = (
     Route("GET", r"/signs/{sign:\d{1,9}}/ledger", record_pages.ledger),
     Route("GET", r"/signs/{sign:\d{1,9}}/shown", record_pages.shown),
     Route("GET", r"/signs/{sign:\d{1,9}}/log", log_pages.log),
-    Route("GET", "/history", record_pages.history),
+    Route("GET", "/history", record_pages.history_page),
     Route("GET", r"/batches/{batch:\d{1,9}}", send.batch),
     Route("GET", "/compose", compose.form, OPERATOR),
     Route("POST", "/compose", compose.confirm, OPERATOR),

@@ -9,9 +9,9 @@ from typing import Any
 
 from aiohttp import web
 
-from wisangub.room.store import views
+from wisangub.room.store import queries
 from wisangub.room.store.database import Database
-from wisangub.room.store.views import SignView
+from wisangub.room.store.queries import SignView
 
 from . import draft as drafts
 from .draft import Draft
@@ -105,7 +105,7 @@ async def answer(request: web.Request, draft: Draft, status: int = 200) -> web.R
     """The form, with the looks that the text has now."""
     room = room_of(request)
     found = await looks(room, draft.signs, draft.text) if draft.text and draft.signs else []
-    now = await room.connections.run(views.now)
+    now = await room.connections.run(queries.now)
     faces = [room.faces[row] for row in draft.signs] or list(room.faces.values())
     return room.page(
         request,
@@ -128,7 +128,7 @@ async def form(request: web.Request) -> web.Response:
     room = room_of(request)
     draft = drafts.read(request.query, room.faces)
     again = number_of(request, "again")
-    command = await room.connections.run(partial(views.command, number=again)) if again is not None else None
+    command = await room.connections.run(partial(queries.command, number=again)) if again is not None else None
     if command is not None and (old := asked(command.line)).kind == "publish":
         draft = dataclasses.replace(
             draft,
@@ -168,8 +168,8 @@ def warning(sign: SignView, draft: Draft, now: float) -> str:
 
 
 def lines(room: Room, held: Database, draft: Draft, text: bytes) -> tuple[list[Line], float]:
-    found = [views.sign(held, row) for row in draft.signs]
-    now = views.now(held)
+    found = [queries.sign(held, row) for row in draft.signs]
+    now = queries.now(held)
     return [
         Line(
             sign,
@@ -222,7 +222,7 @@ async def row(request: web.Request) -> web.Response:
     draft = drafts.read(request.query, room.faces, "activate")
     if draft.faults or len(draft.signs) != 1:
         raise web.HTTPBadRequest(text="This is no row of one sign.")
-    last = await room.connections.run(lambda held: views.table(held, draft.signs[0]))
+    last = await room.connections.run(lambda held: queries.table(held, draft.signs[0]))
     found = [one for one in last.rows if (one.memory, one.number) == (draft.memory, draft.number)]
     if not found or found[0].status != 4:
         raise web.HTTPNotFound(text="The sign's table, as it was last read, has no valid message there.")

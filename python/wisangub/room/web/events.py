@@ -8,7 +8,7 @@ from typing import Callable
 
 from aiohttp import web
 
-from wisangub.room.store import views
+from wisangub.room.store import queries
 from wisangub.room.store.database import Database, Failed, Taken
 
 from . import logins, send, sign_pages, wall
@@ -79,7 +79,7 @@ class Hub:
 
     async def tell_time(self) -> None:
         """Tells all pages the database's time where its clock has jumped: ages are by it."""
-        now = await self.connections.run(views.now)
+        now = await self.connections.run(queries.now)
         clock, before = now - time.monotonic(), self.clock
         if before is None or abs(clock - before) > JUMP:
             self.clock = clock
@@ -90,10 +90,10 @@ class Hub:
         """What has changed goes to those who listen to it."""
         await self.tell_time()
         mark, now = await self.connections.run(lambda held: held.mark()), time.monotonic()
-        views = {stream.view for stream in self.streams}
+        watched = {stream.view for stream in self.streams}
         is_new = mark != self.mark or now - self.looked > AGES
-        self.last = {view: parts for view, parts in self.last.items() if view in views}
-        for view in views:
+        self.last = {view: parts for view, parts in self.last.items() if view in watched}
+        for view in watched:
             if not is_new and view in self.last:
                 continue
             parts = await self.connections.run(self.made(view))

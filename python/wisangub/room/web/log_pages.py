@@ -7,10 +7,10 @@ from aiohttp import web
 
 from wisangub.refusal import Refusal
 from wisangub.room.fleet import Sign
-from wisangub.room.store import past, views
+from wisangub.room.store import history, queries
 from wisangub.room.store.database import Database
-from wisangub.room.store.past import Line
-from wisangub.room.store.views import SignView
+from wisangub.room.store.history import Line
+from wisangub.room.store.queries import SignView
 from wisangub.snmp.datagrams import fields_of
 from wisangub.snmp.mib import Mib
 
@@ -82,7 +82,7 @@ async def log(request: web.Request) -> web.Response:
     room, row, before = room_of(request), sign_of(request), number_of(request, "before")
 
     def found(held: Database) -> tuple[SignView | None, list[Line], float]:
-        return views.sign(held, row), past.centre_lines(held, row, before), views.now(held)
+        return queries.sign(held, row), history.centre_lines(held, row, before), queries.now(held)
 
     sign, lines, now = await room.connections.run(found)
     said = await room.connections.work(lambda: entries(room, row, lines))

@@ -3,7 +3,7 @@
 from dataclasses import dataclass
 
 from wisangub.endpoint.endings import STEPS, cause, failed
-from wisangub.room.store.views import CommandView
+from wisangub.room.store.queries import CommandView
 
 from .words import asked
 

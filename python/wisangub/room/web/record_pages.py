@@ -3,9 +3,9 @@
 from aiohttp import web
 
 from wisangub.endpoint.texts import ended
-from wisangub.room.store import past, views
+from wisangub.room.store import history, queries
 from wisangub.room.store.database import Database
-from wisangub.room.store.views import SignView, Wanted
+from wisangub.room.store.queries import SignView, Wanted
 
 from . import words
 from .room import Room, room_of, sign_of
@@ -20,7 +20,7 @@ def number_of(request: web.Request, key: str) -> int | None:
     return int(word) if word.isascii() and word.isdecimal() and len(word) < 12 else None
 
 
-async def history(request: web.Request) -> web.Response:
+async def history_page(request: web.Request) -> web.Response:
     room = room_of(request)
     outcome, who = request.query.get("outcome", ""), request.query.get("who", "")
     wanted = Wanted(
@@ -31,8 +31,8 @@ async def history(request: web.Request) -> web.Response:
         MOST,
     )
 
-    def found(held: Database) -> tuple[list[views.CommandView], list[str], float]:
-        return views.commands(held, wanted), past.people(held), views.now(held)
+    def found(held: Database) -> tuple[list[queries.CommandView], list[str], float]:
+        return queries.commands(held, wanted), history.people(held), queries.now(held)
 
     rows, people, now = await room.connections.run(found)
     signs = sorted((sign.name, row) for row, sign in room.signs.items())
@@ -61,7 +61,7 @@ async def ledger(request: web.Request) -> web.Response:
     room, row = room_of(request), sign_of(request)
 
     def found(held: Database) -> tuple[SignView | None, list[tuple[int, str, str, float]], float]:
-        return views.sign(held, row), past.ledger(held, row), views.now(held)
+        return queries.sign(held, row), history.ledger(held, row), queries.now(held)
 
     sign, rows, now = await room.connections.run(found)
     entries = [(number, code_words(code), outcome_word(room, outcome), at) for number, code, outcome, at in rows]
@@ -71,8 +71,8 @@ async def ledger(request: web.Request) -> web.Response:
 async def shown(request: web.Request) -> web.Response:
     room, row = room_of(request), sign_of(request)
 
-    def found(held: Database) -> tuple[SignView | None, list[past.ReadingView], float]:
-        return views.sign(held, row), past.readings(held, row), views.now(held)
+    def found(held: Database) -> tuple[SignView | None, list[history.ReadingView], float]:
+        return queries.sign(held, row), history.readings(held, row), queries.now(held)
 
     sign, rows, now = await room.connections.run(found)
     said = [(one, room.picture(row, one.shown.text) if one.shown else None) for one in rows]
@@ -83,7 +83,7 @@ async def audit(request: web.Request) -> web.Response:
     room, before = room_of(request), number_of(request, "before")
 
     def found(held: Database) -> tuple[list[tuple[int, float, str, str]], float]:
-        return past.audit(held, before), views.now(held)
+        return history.audit(held, before), queries.now(held)
 
     rows, now = await room.connections.run(found)
     lines = [(number, at, who, words.audit_words(what)) for number, at, who, what in rows]

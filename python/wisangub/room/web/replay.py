@@ -6,7 +6,7 @@ from wisangub.endpoint.records import Head
 from wisangub.process import description
 from wisangub.process.coprocess import CoProcess
 from wisangub.room.fleet import Sign
-from wisangub.room.store.past import Line
+from wisangub.room.store.history import Line
 
 SENT = b"send "
 

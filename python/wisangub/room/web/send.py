@@ -8,9 +8,9 @@ from aiohttp import web
 from wisangub.endpoint.sockets import connected
 from wisangub.refusal import Refusal
 from wisangub.room.fleet import Sign
-from wisangub.room.store import past, views
+from wisangub.room.store import history, queries
 from wisangub.room.store.database import Database
-from wisangub.room.store.past import Batch
+from wisangub.room.store.history import Batch
 from wisangub.room.store.store import Store
 
 from . import compose
@@ -63,18 +63,18 @@ async def send(request: web.Request) -> web.StreamResponse:
 class Part:
     """A command of what was asked, and the picture of what it is to show."""
 
-    command: views.CommandView
+    command: queries.CommandView
     picture: str | None
 
 
 def parts_of(room: Room, held: Database, number: int) -> tuple[Batch | None, list[Part], float]:
-    found = past.batch(held, number)
+    found = history.batch(held, number)
     made = []
     for command in found.commands if found else []:
         line = asked(command.line)
         picture = room.picture(command.sign, line.text) if line.kind in ("publish", "blank") else None
         made.append(Part(command, picture))
-    return found, made, views.now(held)
+    return found, made, queries.now(held)
 
 
 async def batch(request: web.Request) -> web.Response:

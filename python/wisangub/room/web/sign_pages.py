@@ -4,10 +4,10 @@ from dataclasses import dataclass
 
 from aiohttp import web
 
-from wisangub.room.store import views
+from wisangub.room.store import queries
 from wisangub.room.store.database import Database
+from wisangub.room.store.queries import CommandView, SignView, TableView, Wanted
 from wisangub.room.store.store import Store
-from wisangub.room.store.views import CommandView, SignView, TableView, Wanted
 
 from .room import Room, room_of, sign_of
 
@@ -26,10 +26,10 @@ class Overview:
 
 
 def overviewed(room: Room, held: Database, row: int) -> Overview:
-    sign = views.sign(held, row)
+    sign = queries.sign(held, row)
     assert sign is not None
-    now = views.now(held)
-    commands = views.commands(held, Wanted(sign=row, most=FEW))
+    now = queries.now(held)
+    commands = queries.commands(held, Wanted(sign=row, most=FEW))
     picture = room.picture(row, sign.shown.text) if sign.shown else None
     return Overview(sign, picture, sign.is_stale(now), commands, now)
 
@@ -59,7 +59,7 @@ async def table(request: web.Request) -> web.Response:
     room, row = room_of(request), sign_of(request)
 
     def found(held: Database) -> tuple[SignView | None, TableView, float]:
-        return views.sign(held, row), views.table(held, row), views.now(held)
+        return queries.sign(held, row), queries.table(held, row), queries.now(held)
 
     sign, held, now = await room.connections.run(found)
     return room.page(request, "table.html", sign=sign, table=held, now=now, tab="table", view=f"table/{row}")
@@ -67,8 +67,8 @@ async def table(request: web.Request) -> web.Response:
 
 def table_parts(room: Room, held: Database, row: int) -> dict[str, str]:
     """What an event may replace."""
-    sign = views.sign(held, row)
-    return {"table": room.part("parts.html", "table", sign, views.table(held, row))}
+    sign = queries.sign(held, row)
+    return {"table": room.part("parts.html", "table", sign, queries.table(held, row))}
 
 
 async def read_table(request: web.Request) -> web.StreamResponse:

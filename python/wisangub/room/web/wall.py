@@ -4,9 +4,9 @@ from dataclasses import dataclass
 
 from aiohttp import web
 
-from wisangub.room.store import views
+from wisangub.room.store import queries
 from wisangub.room.store.database import Database
-from wisangub.room.store.views import CommandView, SignView
+from wisangub.room.store.queries import CommandView, SignView
 
 from .progress import Step, states
 from .room import Room, room_of
@@ -48,12 +48,12 @@ def card(room: Room, sign: SignView, now: float, open_: list[CommandView]) -> Ca
 
 def cards(room: Room, held: Database) -> tuple[list[Card], float]:
     """All signs of the fleet, and the database's time."""
-    open_ = views.under_way(held)
+    open_ = queries.under_way(held)
     of: dict[int, list[CommandView]] = {}
     for command in open_:
         of.setdefault(command.sign, []).append(command)
-    known = {sign.id: sign for sign in views.signs(held)}
-    now = views.now(held)  # after what it is compared with
+    known = {sign.id: sign for sign in queries.signs(held)}
+    now = queries.now(held)  # after what it is compared with
     found = [known[row] for row in room.signs if row in known]
     return [card(room, sign, now, of.get(sign.id, [])) for sign in found], now
 

@@ -1,4 +1,4 @@
-"""What the pages ask the database for: signs and commands. python/wisangub/room/store/past.py has what was before."""
+"""What the pages ask the database for: signs and commands. history.py has what was before."""
 
 import functools
 import json
