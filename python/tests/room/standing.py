@@ -37,7 +37,7 @@ def standing(folder: pathlib.Path) -> Iterator[tuple[Bench, str]]:
     before, passwords.COST = passwords.COST, 2**4
     made = Bench(folder, str(folder / "database"))
     filled(made)
-    pages = Pages(made.settings, list(made.room.signs.values()), "127.0.0.1", 0)
+    pages = Pages(made.settings, list(made.service.signs.values()), "127.0.0.1", 0)
     try:
         pages.start()
         try:
@@ -47,4 +47,4 @@ def standing(folder: pathlib.Path) -> Iterator[tuple[Bench, str]]:
     finally:
         passwords.COST = before
         made.store.database.close()
-        made.room.close()
+        made.service.close()

@@ -187,7 +187,7 @@ def test_an_earlier_text_is_used_again(tmp_path: pathlib.Path) -> None:
 
 def test_pictures_and_the_model_agree(tmp_path: pathlib.Path) -> None:
     async def act(bench: Bench, visitor: Visitors) -> None:
-        face = face_of(bench.room.signs[bench.one])
+        face = face_of(bench.service.signs[bench.one])
         held = text.described(face.text).face
         for octets in (
             b"FOG",
@@ -203,7 +203,7 @@ def test_pictures_and_the_model_agree(tmp_path: pathlib.Path) -> None:
             b"[[[]",
             b"]",
         ):
-            found, (_, fault) = drawn(bench.room.settings.program, face, octets, None), layout.laid_out(
+            found, (_, fault) = drawn(bench.service.settings.program, face, octets, None), layout.laid_out(
                 held, held.defaults, octets
             )
             assert (found.code, found.offset) == (fault or (None, None)) and found.is_good == (fault is None), octets

@@ -59,7 +59,7 @@ def test_what_has_changed_is_told(tmp_path: pathlib.Path, where: str) -> None:
 
 def test_a_card_is_made_anew_where_its_sign_says_something_new(tmp_path: pathlib.Path, where: str) -> None:
     async def act(bench: Bench, visitor: Visitors) -> None:
-        room, held = bench.room, bench.store.database
+        room, held = bench.service, bench.store.database
 
         def made() -> int:
             before = room.card.cache_info().misses

@@ -59,7 +59,7 @@ def filled(bench: Bench) -> None:
         bench.read(row, text=MARKUP.encode().hex(), owner=MARKUP.encode().hex())
     bench.silent(bench.gantry)
     bench.table(bench.one)
-    head = f"journal 1 centre rules 1 description {bench.room.signs[bench.one].digest} first 1"
+    head = f"journal 1 centre rules 1 description {bench.service.signs[bench.one].digest} first 1"
     line = f"publish 3 1 {MARKUP.encode().hex()} {b'me'.hex()} 0 0 100 65535 255 192.0.2.1"
     command = bench.store.ask(bench.one, "operator", line)
     broken = "datagram 30" + WRITER.encode().hex()
@@ -149,7 +149,7 @@ def test_no_community_stands_anywhere(tmp_path: pathlib.Path, where: str) -> Non
         for path, text in pages.items():
             for word in (READER, WRITER, READER.encode().hex(), WRITER.encode().hex()):
                 assert word not in text, (path, word)
-            assert bench.room.signs[bench.one].digest not in text, "the digest of what holds the communities"
+            assert bench.service.signs[bench.one].digest not in text, "the digest of what holds the communities"
         held = str(bench.store.run("SELECT line FROM lines"))
         assert WRITER.encode().hex() in held, "lines do hold it"
 
@@ -167,7 +167,7 @@ def test_headers_of_every_answer(tmp_path: pathlib.Path) -> None:
             assert headers["X-Frame-Options"] == "DENY" and "aiohttp" not in headers["Server"], path
             assert headers["Cache-Control"] == "no-store", path
         assert "unsafe" not in POLICY and "default-src 'none'" in POLICY
-        face = bench.room.faces[bench.one].key
+        face = bench.service.faces[bench.one].key
         picture = await one.answered(f"/pictures/{face}/464f47.svg")
         assert picture.status == 200 and "immutable" in picture.headers["Cache-Control"]
         assert (await visitor().get(f"/pictures/{face}/464f47.svg"))[0] == 303, "pictures are for who is logged in"

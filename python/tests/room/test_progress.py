@@ -74,7 +74,7 @@ def test_a_command_that_failed_says_what_the_sign_found(tmp_path: pathlib.Path) 
         filled(bench)
         one = await bench.logged_in(visitor, "reader")
         found = "the sign found fault 5 at octet 12: wider than the matrix by 1 column"
-        address = bench.room.signs[bench.one].address
+        address = bench.service.signs[bench.one].address
         another = "the row may be another system&#39;s"
         for how, why, named, words in (
             (

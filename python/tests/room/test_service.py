@@ -28,18 +28,18 @@ def test_the_pages_answer_where_they_are_told_to_be_alone(
 ) -> None:
     monkeypatch.setattr(passwords, "COST", 2**4)
     bench = Bench(tmp_path, str(tmp_path / "database"))
-    pages = Pages(bench.settings, list(bench.room.signs.values()), "127.0.0.1", 0)
+    pages = Pages(bench.settings, list(bench.service.signs.values()), "127.0.0.1", 0)
     pages.start()
     try:
         with urllib.request.urlopen(pages.address, timeout=20) as answer:
             assert answer.status == 200 and answer.url == f"{pages.address}login"
         with pytest.raises(OSError), socket.create_connection(("127.0.0.2", pages.port), 5):
             pass
-        others = Pages(bench.settings, list(bench.room.signs.values()), "127.0.0.1", pages.port)
+        others = Pages(bench.settings, list(bench.service.signs.values()), "127.0.0.1", pages.port)
         with pytest.raises(Refusal, match="in use"):
             others.start()
-        others.room.close()
+        others.service.close()
     finally:
         pages.stop()
         bench.store.database.close()
-        bench.room.close()
+        bench.service.close()

@@ -19,7 +19,7 @@ from wisangub.room.store.reading_store import RowSaid, Said
 from wisangub.room.store.store import Store
 from wisangub.room.store.users import Role
 from wisangub.room.web.app import application
-from wisangub.room.web.room import Room
+from wisangub.room.web.service import Service
 from wisangub.room.web.settings import Settings, zone_of
 
 PROGRAM = os.environ.get("SIGNTOOL", str(SIGNTOOL))
@@ -98,11 +98,11 @@ class Bench:
     def __init__(self, folder: pathlib.Path, where: str, is_behind_tls: bool = False) -> None:
         database.opened(where).close()
         self.settings = Settings(where, PROGRAM, is_behind_tls, zone_of("Europe/Berlin"), look=0.05)
-        self.room = Room(self.settings, fleet.read(entered(folder)))
+        self.service = Service(self.settings, fleet.read(entered(folder)))
         self.store = Store(database.opened(where))
         for role in Role:
             users.add(self.store.database, role.word, role, PASSWORD, "a test")
-        self.rows = {sign.name: row for row, sign in self.room.signs.items()}
+        self.rows = {sign.name: row for row, sign in self.service.signs.items()}
         self.one, self.two, self.gantry = (self.rows[name] for name in NAMES)
 
     def read(self, row: int, number: int = -1, minutes: int = 65535, **changed: Any) -> None:
@@ -127,7 +127,7 @@ class Bench:
     @contextlib.asynccontextmanager
     async def standing(self) -> AsyncIterator[Visitors]:
         """The service, and a way to make visitors."""
-        server = TestServer(application(self.room))
+        server = TestServer(application(self.service))
         await server.start_server()
         clients: list[TestClient] = []
 
@@ -141,7 +141,7 @@ class Bench:
             for client in clients:
                 await client.session.close()
             await server.close()
-            self.room.close()
+            self.service.close()
 
     async def logged_in(self, visitor: Visitors, name: str) -> Visitor:
         made = visitor()

@@ -10,7 +10,7 @@ from wisangub.endpoint.sockets import Waiting
 from wisangub.refusal import Refusal, reason, say
 from wisangub.room.store.store import Store
 from wisangub.room.web.app import application
-from wisangub.room.web.room import Room
+from wisangub.room.web.service import Service
 from wisangub.room.web.settings import Settings
 from wisangub.room.worker.rounds import Pace, Worker
 
@@ -32,7 +32,7 @@ class Pages:
 
     def start(self) -> None:
         """Returns when the pages can be asked for; refused where they cannot."""
-        self.room = Room(self.settings, self.signs)
+        self.service = Service(self.settings, self.signs)
         self.loop = asyncio.new_event_loop()
         self.fault: Exception | None = None
         self.is_up = threading.Event()
@@ -48,7 +48,7 @@ class Pages:
         """The thread."""
         asyncio.set_event_loop(self.loop)
         try:
-            self.runner = web.AppRunner(application(self.room), access_log=None)
+            self.runner = web.AppRunner(application(self.service), access_log=None)
             self.loop.run_until_complete(self.runner.setup())
             site = web.TCPSite(self.runner, self.host, self.port, shutdown_timeout=2.0)
             self.loop.run_until_complete(site.start())
@@ -76,7 +76,7 @@ class Pages:
         self.thread.join(PATIENCE)
         if self.thread.is_alive():
             say("the pages did not end in time")
-        self.room.close()
+        self.service.close()
 
     @property
     def address(self) -> str:

@@ -14,8 +14,8 @@ from wisangub.room.store.users import Role
 
 from . import compose, log_pages, logins, people, picture_pages, record_pages, send, sign_in, sign_pages, wall
 from .events import Hub, events
-from .room import HERE, ROOM, Room, room_of
 from .security import prepare
+from .service import HERE, SERVICE, Service, service_of
 
 Handler = Callable[[web.Request], Awaitable[web.StreamResponse]]
 MOST_BODY = 64 * 1024
@@ -67,7 +67,7 @@ def refused(request: web.Request, status: int, words: str) -> web.Response:
     """A page that says why there is no other."""
     if request.path == "/look":
         return web.json_response({"error": words}, status=status)
-    return room_of(request).page(request, "error.html", status=status, status_code=status, why=words)
+    return service_of(request).page(request, "error.html", status=status, status_code=status, why=words)
 
 
 @web.middleware
@@ -94,9 +94,9 @@ async def guard(request: web.Request, handler: Handler) -> web.StreamResponse:
     role = roles.get(request.match_info.handler)
     if request.match_info.handler not in roles or role is None:
         return await handler(request)
-    room = room_of(request)
-    cookie = room.seal.get(request, "login")
-    visitor = await room.connections.run(partial(logins.find, cookie=cookie)) if cookie else None
+    service = service_of(request)
+    cookie = service.seal.get(request, "login")
+    visitor = await service.connections.run(partial(logins.find, cookie=cookie)) if cookie else None
     if visitor is None:
         if request.method != "GET" or request.path == "/events":
             raise web.HTTPUnauthorized(text="You are not logged in, or your log-in has ended.")
@@ -104,7 +104,7 @@ async def guard(request: web.Request, handler: Handler) -> web.StreamResponse:
     request["visitor"] = visitor
     if visitor.role < role:
         raise web.HTTPForbidden(text=f"This is for {role.word}s: you are logged in as a {visitor.role.word}.")
-    if request.method != "GET" and not await room.seal.is_own(request, visitor.login):
+    if request.method != "GET" and not await service.seal.is_own(request, visitor.login):
         raise web.HTTPForbidden(text="This request did not come from a page of this service, so nothing was done.")
     return await handler(request)
 
@@ -124,10 +124,10 @@ async def end_streams(app: web.Application) -> None:
     app["hub"].end_streams()
 
 
-def application(room: Room) -> web.Application:
-    """The pages of a room."""
+def application(service: Service) -> web.Application:
+    """The pages of a service."""
     app = web.Application(middlewares=[faults, guard], client_max_size=MOST_BODY)
-    app[ROOM], app["hub"] = room, Hub(room)
+    app[SERVICE], app["hub"] = service, Hub(service)
     app["roles"] = {route.handler: route.role for route in ROUTES}
     for route in ROUTES:
         app.router.add_route(route.method, route.path, route.handler)

@@ -19,7 +19,7 @@ from .faces import Face
 from .pictures import Picture
 from .plain import plain_of
 from .record_pages import number_of
-from .room import Room, room_of
+from .service import Service, service_of
 from .words import asked, text_of
 
 MOST_SIGNS = 1000
@@ -45,17 +45,17 @@ def marked(text: str, offset: int) -> tuple[str, str, str]:
     return text[:offset], text[offset:end], text[end:]
 
 
-async def looks(room: Room, signs: tuple[int, ...], text: str) -> list[Look]:
+async def looks(service: Service, signs: tuple[int, ...], text: str) -> list[Look]:
     """The text on each face of the signs."""
     of: dict[str, list[int]] = {}
     for row in signs:
-        of.setdefault(room.faces[row].key, []).append(row)
+        of.setdefault(service.faces[row].key, []).append(row)
     fault = drafts.text_fault(text)
     made = []
     for key, rows in of.items():
-        face, names = room.by_key[key], tuple(room.signs[row].name for row in rows)
+        face, names = service.by_key[key], tuple(service.signs[row].name for row in rows)
         octets = text.encode("latin-1", "replace")
-        found = Picture(None, fault[1], fault[0]) if fault else await room.pictures.of(face, octets)
+        found = Picture(None, fault[1], fault[0]) if fault else await service.pictures.of(face, octets)
         if found.is_good:
             made.append(Look(face, names, f"/pictures/{key}/{octets.hex() or '-'}.svg"))
         else:
@@ -68,14 +68,14 @@ async def looks(room: Room, signs: tuple[int, ...], text: str) -> list[Look]:
 
 async def look(request: web.Request) -> web.Response:
     """What the page asks for while a text is written."""
-    room = room_of(request)
+    service = service_of(request)
     try:
         held: Any = json.loads(await request.text())
         text = drafts.joined(str(held["text"]))[:4096]
-        signs = tuple(row for row in map(int, held["signs"][:MOST_SIGNS]) if row in room.signs)
+        signs = tuple(row for row in map(int, held["signs"][:MOST_SIGNS]) if row in service.signs)
     except (ValueError, KeyError, TypeError):
         raise web.HTTPBadRequest(text="This is no text and list of signs.") from None
-    found = await looks(room, signs, text)
+    found = await looks(service, signs, text)
     return web.json_response(
         {
             "octets": len(text),
@@ -97,23 +97,23 @@ async def look(request: web.Request) -> web.Response:
     )
 
 
-def choice(room: Room) -> list[tuple[str, int]]:
-    return [(sign.name, row) for row, sign in room.signs.items()]
+def choice(service: Service) -> list[tuple[str, int]]:
+    return [(sign.name, row) for row, sign in service.signs.items()]
 
 
 async def answer(request: web.Request, draft: Draft, status: int = 200) -> web.Response:
     """The form, with the looks that the text has now."""
-    room = room_of(request)
-    found = await looks(room, draft.signs, draft.text) if draft.text and draft.signs else []
-    now = await room.connections.run(queries.now)
-    faces = [room.faces[row] for row in draft.signs] or list(room.faces.values())
-    return room.page(
+    service = service_of(request)
+    found = await looks(service, draft.signs, draft.text) if draft.text and draft.signs else []
+    now = await service.connections.run(queries.now)
+    faces = [service.faces[row] for row in draft.signs] or list(service.faces.values())
+    return service.page(
         request,
         "compose.html",
         status=status,
         draft=draft,
         looks=found,
-        signs=choice(room),
+        signs=choice(service),
         now=now,
         most={memory: min(face.most(memory) for face in faces) for memory in (3, 4)},
         has_beacon=all(face.has_beacon for face in faces),
@@ -125,14 +125,14 @@ async def answer(request: web.Request, draft: Draft, status: int = 200) -> web.R
 
 async def form(request: web.Request) -> web.Response:
     """The form, for the signs of the address; with the text of an earlier command, where it names one."""
-    room = room_of(request)
-    draft = drafts.read(request.query, room.faces)
+    service = service_of(request)
+    draft = drafts.read(request.query, service.faces)
     again = number_of(request, "again")
-    command = await room.connections.run(partial(queries.command, number=again)) if again is not None else None
+    command = await service.connections.run(partial(queries.command, number=again)) if again is not None else None
     if command is not None and (old := asked(command.line)).kind == "publish":
         draft = dataclasses.replace(
             draft,
-            signs=draft.signs or tuple({command.sign} & set(room.signs)),
+            signs=draft.signs or tuple({command.sign} & set(service.signs)),
             text=text_of(old.text),
             memory=old.memory,
             number=old.number,
@@ -167,14 +167,14 @@ def warning(sign: SignView, draft: Draft, now: float) -> str:
     return ""
 
 
-def lines(room: Room, held: Database, draft: Draft, text: bytes) -> tuple[list[Line], float]:
+def lines(service: Service, held: Database, draft: Draft, text: bytes) -> tuple[list[Line], float]:
     found = [queries.sign(held, row) for row in draft.signs]
     now = queries.now(held)
     return [
         Line(
             sign,
-            room.picture(sign.id, text),
-            room.picture(sign.id, sign.shown.text) if sign.shown else None,
+            service.picture(sign.id, text),
+            service.picture(sign.id, sign.shown.text) if sign.shown else None,
             warning(sign, draft, now),
         )
         for sign in found
@@ -184,9 +184,9 @@ def lines(room: Room, held: Database, draft: Draft, text: bytes) -> tuple[list[L
 
 async def confirmation(request: web.Request, draft: Draft, text: bytes) -> web.Response:
     """The last page before it is asked for."""
-    room = room_of(request)
-    found, now = await room.connections.run(lambda held: lines(room, held, draft, text))
-    return room.page(
+    service = service_of(request)
+    found, now = await service.connections.run(lambda held: lines(service, held, draft, text))
+    return service.page(
         request,
         "confirm.html",
         draft=draft,
@@ -198,19 +198,19 @@ async def confirmation(request: web.Request, draft: Draft, text: bytes) -> web.R
 
 
 async def confirm(request: web.Request) -> web.Response:
-    room = room_of(request)
+    service = service_of(request)
     fields = await request.post()
-    draft = drafts.read(fields, room.faces)
+    draft = drafts.read(fields, service.faces)
     if draft.faults or fields.get("do") == "back":
         return await answer(request, draft, 422 if draft.faults else 200)
-    if any(one.src is None for one in await looks(room, draft.signs, draft.text)):
+    if any(one.src is None for one in await looks(service, draft.signs, draft.text)):
         return await answer(request, draft, 422)
     return await confirmation(request, draft, draft.octets)
 
 
 async def blank(request: web.Request) -> web.Response:
     """The confirmation of showing nothing."""
-    draft = drafts.read(request.query, room_of(request).faces, "blank")
+    draft = drafts.read(request.query, service_of(request).faces, "blank")
     if "sign" in draft.faults:
         raise web.HTTPBadRequest(text=draft.faults["sign"])
     return await confirmation(request, draft, b"")
@@ -218,11 +218,11 @@ async def blank(request: web.Request) -> web.Response:
 
 async def row(request: web.Request) -> web.Response:
     """The confirmation of showing a row that the sign has, as its table was last read."""
-    room = room_of(request)
-    draft = drafts.read(request.query, room.faces, "activate")
+    service = service_of(request)
+    draft = drafts.read(request.query, service.faces, "activate")
     if draft.faults or len(draft.signs) != 1:
         raise web.HTTPBadRequest(text="This is no row of one sign.")
-    last = await room.connections.run(lambda held: queries.table(held, draft.signs[0]))
+    last = await service.connections.run(lambda held: queries.table(held, draft.signs[0]))
     found = [one for one in last.rows if (one.memory, one.number) == (draft.memory, draft.number)]
     if not found or found[0].status != 4:
         raise web.HTTPNotFound(text="The sign's table, as it was last read, has no valid message there.")

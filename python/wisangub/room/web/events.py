@@ -13,7 +13,7 @@ from wisangub.room.store.database import Database, Failed, Taken
 
 from . import logins, send, sign_pages, wall
 from .connections import Connections
-from .room import Room, room_of, visitor_of
+from .service import Service, service_of, visitor_of
 
 VIEW = re.compile(r"wall|(sign|table|batch)/(\d{1,9})")
 MOST_STREAMS, MOST_OF_ONE = 400, 12
@@ -50,10 +50,10 @@ class Stream:
 class Hub:
     """Looks for what has changed as long as somebody listens, once for all."""
 
-    def __init__(self, room: Room) -> None:
-        self.room = room
+    def __init__(self, service: Service) -> None:
+        self.service = service
         self.streams: set[Stream] = set()
-        self.connections = Connections(room.settings.database, 1)  # a mark is of one connection
+        self.connections = Connections(service.settings.database, 1)  # a mark is of one connection
         self.last: dict[str, Parts] = {}
         self.mark, self.looked = "", 0.0
         self.clock: float | None = None  # the database's time, less this machine's since it was started
@@ -63,14 +63,14 @@ class Hub:
         found = VIEW.fullmatch(view)
         assert found is not None
         if found[1] is None:
-            return lambda held: wall.parts(self.room, held)
+            return lambda held: wall.parts(self.service, held)
         of, row = OF[found[1]], int(found[2])
-        return lambda held: of(self.room, held, row)
+        return lambda held: of(self.service, held, row)
 
     async def run(self) -> None:
         """For ever."""
         while True:
-            await asyncio.sleep(self.room.settings.look)
+            await asyncio.sleep(self.service.settings.look)
             if self.streams:
                 try:
                     await self.look()
@@ -131,9 +131,9 @@ def hub_of(request: web.Request) -> Hub:
 
 async def events(request: web.Request) -> web.StreamResponse:
     """A stream of a view, as long as the log-in stands."""
-    room, view = room_of(request), request.query.get("view", "")
+    service, view = service_of(request), request.query.get("view", "")
     found = VIEW.fullmatch(view)
-    if found is None or found[1] in ("sign", "table") and int(found[2]) not in room.signs:
+    if found is None or found[1] in ("sign", "table") and int(found[2]) not in service.signs:
         raise web.HTTPNotFound(text="There is no such view.")
     stream = Stream(view, request)
     hub_of(request).enter(stream)
@@ -141,7 +141,7 @@ async def events(request: web.Request) -> web.StreamResponse:
     try:
         await answer.prepare(request)
         await answer.write(b"retry: 3000\n\n")
-        while (words := await told(room, stream)) is not None:
+        while (words := await told(service, stream)) is not None:
             await answer.write(words)
     except (ConnectionError, Failed, Taken):
         pass  # where the database does not answer the stream ends: the browser asks for another one
@@ -150,7 +150,7 @@ async def events(request: web.Request) -> web.StreamResponse:
     return answer
 
 
-async def told(room: Room, stream: Stream) -> bytes | None:
+async def told(service: Service, stream: Stream) -> bytes | None:
     """The next event, or after a silence a line that says nothing; None where the stream ends. Whatever happens on the
     view, the log-in is looked at again before it was taken for granted for longer than a silence."""
     try:
@@ -160,7 +160,7 @@ async def told(room: Room, stream: Stream) -> bytes | None:
         words = b": here\n\n"
     now = time.monotonic()
     if words is not None and now - stream.looked >= SILENCE:
-        if await room.connections.run(lambda held: logins.find(held, stream.login)) is None:
+        if await service.connections.run(lambda held: logins.find(held, stream.login)) is None:
             return None
         stream.looked = now
     return words

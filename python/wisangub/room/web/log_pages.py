@@ -17,7 +17,7 @@ from wisangub.snmp.mib import Mib
 from .faces import Face
 from .record_pages import number_of
 from .replay import Handed, replayed
-from .room import Room, room_of, sign_of
+from .service import Service, service_of, sign_of
 from .words import Asked, asked
 
 MOST = 60  # lines of a page
@@ -49,14 +49,14 @@ def told(mib: Mib, octets: bytes, communities: tuple[bytes, ...]) -> dict[str, A
     return fields
 
 
-def entries(room: Room, row: int, lines: list[Line]) -> list[Entry]:
+def entries(service: Service, row: int, lines: list[Line]) -> list[Entry]:
     """The events of a centre's last lines."""
-    sign = room.signs[row]
+    sign = service.signs[row]
     try:
-        handed = replayed(room.settings.program, sign, lines)
+        handed = replayed(service.settings.program, sign, lines)
     except (Refusal, OSError) as fault:
         raise web.HTTPServiceUnavailable(text=f"What went out cannot be told now: {fault}") from fault
-    return [one for line in handed[-MOST:] for one in events_of(room.mib, sign, room.faces[row], line)]
+    return [one for line in handed[-MOST:] for one in events_of(service.mib, sign, service.faces[row], line)]
 
 
 def events_of(mib: Mib, sign: Sign, face: Face, handed: Handed) -> list[Entry]:
@@ -79,15 +79,15 @@ def events_of(mib: Mib, sign: Sign, face: Face, handed: Handed) -> list[Entry]:
 
 
 async def log(request: web.Request) -> web.Response:
-    room, row, before = room_of(request), sign_of(request), number_of(request, "before")
+    service, row, before = service_of(request), sign_of(request), number_of(request, "before")
 
     def found(held: Database) -> tuple[SignView | None, list[Line], float]:
         return queries.sign(held, row), history.centre_lines(held, row, before), queries.now(held)
 
-    sign, lines, now = await room.connections.run(found)
-    said = await room.connections.work(lambda: entries(room, row, lines))
+    sign, lines, now = await service.connections.run(found)
+    said = await service.connections.work(lambda: entries(service, row, lines))
     first = said[0].number if said else 1
-    return room.page(
+    return service.page(
         request,
         "log.html",
         sign=sign,

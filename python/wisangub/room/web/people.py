@@ -10,13 +10,13 @@ from wisangub.room.store.database import Database
 from wisangub.room.store.users import Role
 
 from . import sign_in
-from .room import room_of, visitor_of
+from .service import service_of, visitor_of
 
 
 async def shown(request: web.Request, said: str = "", status: int = 200) -> web.Response:
-    room = room_of(request)
-    found = await room.connections.run(users.users)
-    return room.page(request, "users.html", status=status, users=found, roles=list(Role), said=said)
+    service = service_of(request)
+    found = await service.connections.run(users.users)
+    return service.page(request, "users.html", status=status, users=found, roles=list(Role), said=said)
 
 
 async def users_page(request: web.Request) -> web.Response:
@@ -25,7 +25,7 @@ async def users_page(request: web.Request) -> web.Response:
 
 async def change(request: web.Request) -> web.Response:
     """Adds a user, or gives one another role, another password, or another state."""
-    room, who = room_of(request), visitor_of(request).name
+    service, who = service_of(request), visitor_of(request).name
     fields = {key: str(value) for key, value in (await request.post()).items()}
     name, do = fields.get("name", "").strip(), fields.get("do", "")
 
@@ -45,13 +45,13 @@ async def change(request: web.Request) -> web.Response:
         raise Refusal("nothing was asked for")
 
     try:
-        return await shown(request, await room.connections.run(done))
+        return await shown(request, await service.connections.run(done))
     except Refusal as refused:
         return await shown(request, f"Nothing was changed: {refused}.", 422)
 
 
 def account_page(request: web.Request, said: str = "", status: int = 200) -> web.Response:
-    return room_of(request).page(request, "account.html", status=status, said=said)
+    return service_of(request).page(request, "account.html", status=status, said=said)
 
 
 async def account(request: web.Request) -> web.Response:
@@ -60,16 +60,16 @@ async def account(request: web.Request) -> web.Response:
 
 async def own_password(request: web.Request) -> web.StreamResponse:
     """Another password for who asks; he has to log in again."""
-    room, visitor = room_of(request), visitor_of(request)
+    service, visitor = service_of(request), visitor_of(request)
     fields = await request.post()
     old, new, again = (str(fields.get(key, "")) for key in ("old", "new", "again"))
     await asyncio.sleep(0.5)  # a guess takes time
-    if not await sign_in.is_right(room, visitor.name, old):
+    if not await sign_in.is_right(service, visitor.name, old):
         return account_page(request, "Nothing was changed: the present password is another one.", 403)
     if new != again:
         return account_page(request, "Nothing was changed: the two new passwords differ.", 422)
     try:
-        await room.connections.run(lambda held: users.change_password(held, visitor.name, new, visitor.name))
+        await service.connections.run(lambda held: users.change_password(held, visitor.name, new, visitor.name))
     except Refusal as refused:
         return account_page(request, f"Nothing was changed: {refused}.", 422)
     raise web.HTTPSeeOther("/login")

@@ -2,7 +2,7 @@
 
 from aiohttp import web
 
-from .room import room_of
+from .service import service_of
 
 PAGES = ("1", "2", "3", "4", "5", "6")
 NONE = (
@@ -13,13 +13,13 @@ NONE = (
 
 
 async def picture(request: web.Request) -> web.Response:
-    room = room_of(request)
-    face = room.by_key.get(request.match_info["face"])
+    service = service_of(request)
+    face = service.by_key.get(request.match_info["face"])
     if face is None:
         raise web.HTTPNotFound(text="There is no such face in the fleet.")
     word, page = request.match_info["text"], request.query.get("page")
     text = b"" if word == "-" else bytes.fromhex(word)
-    found = await room.pictures.of(face, text, int(page) if page in PAGES else None)
+    found = await service.pictures.of(face, text, int(page) if page in PAGES else None)
     headers = {"Cache-Control": "private, max-age=86400, immutable", "Vary": "Accept-Encoding"}
     if not found.is_good:
         return web.Response(text=NONE, content_type="image/svg+xml")

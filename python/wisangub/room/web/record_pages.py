@@ -8,7 +8,7 @@ from wisangub.room.store.database import Database
 from wisangub.room.store.queries import SignView, Wanted
 
 from . import words
-from .room import Room, room_of, sign_of
+from .service import Service, service_of, sign_of
 
 OUTCOMES = ("accepted", "failed", "open")
 MOST = 50
@@ -21,7 +21,7 @@ def number_of(request: web.Request, key: str) -> int | None:
 
 
 async def history_page(request: web.Request) -> web.Response:
-    room = room_of(request)
+    service = service_of(request)
     outcome, who = request.query.get("outcome", ""), request.query.get("who", "")
     wanted = Wanted(
         number_of(request, "sign"),
@@ -34,9 +34,9 @@ async def history_page(request: web.Request) -> web.Response:
     def found(held: Database) -> tuple[list[queries.CommandView], list[str], float]:
         return queries.commands(held, wanted), history.people(held), queries.now(held)
 
-    rows, people, now = await room.connections.run(found)
-    signs = sorted((sign.name, row) for row, sign in room.signs.items())
-    return room.page(
+    rows, people, now = await service.connections.run(found)
+    signs = sorted((sign.name, row) for row, sign in service.signs.items())
+    return service.page(
         request, "history.html", rows=rows, people=people, now=now, wanted=wanted, signs=signs, is_last=len(rows) < MOST
     )
 
@@ -52,39 +52,39 @@ def code_words(code: str) -> dict[str, str]:
     }
 
 
-def outcome_word(room: Room, outcome: str) -> str:
+def outcome_word(service: Service, outcome: str) -> str:
     """An outcome, its error-status with its word."""
-    return ended(room.mib, f"ledger 0 - {outcome}").removeprefix("ledger 0 - ")
+    return ended(service.mib, f"ledger 0 - {outcome}").removeprefix("ledger 0 - ")
 
 
 async def ledger(request: web.Request) -> web.Response:
-    room, row = room_of(request), sign_of(request)
+    service, row = service_of(request), sign_of(request)
 
     def found(held: Database) -> tuple[SignView | None, list[tuple[int, str, str, float]], float]:
         return queries.sign(held, row), history.ledger(held, row), queries.now(held)
 
-    sign, rows, now = await room.connections.run(found)
-    entries = [(number, code_words(code), outcome_word(room, outcome), at) for number, code, outcome, at in rows]
-    return room.page(request, "ledger.html", sign=sign, entries=entries, now=now, tab="ledger")
+    sign, rows, now = await service.connections.run(found)
+    entries = [(number, code_words(code), outcome_word(service, outcome), at) for number, code, outcome, at in rows]
+    return service.page(request, "ledger.html", sign=sign, entries=entries, now=now, tab="ledger")
 
 
 async def shown(request: web.Request) -> web.Response:
-    room, row = room_of(request), sign_of(request)
+    service, row = service_of(request), sign_of(request)
 
     def found(held: Database) -> tuple[SignView | None, list[history.ReadingView], float]:
         return queries.sign(held, row), history.readings(held, row), queries.now(held)
 
-    sign, rows, now = await room.connections.run(found)
-    said = [(one, room.picture(row, one.shown.text) if one.shown else None) for one in rows]
-    return room.page(request, "shown.html", sign=sign, rows=said, now=now, tab="shown")
+    sign, rows, now = await service.connections.run(found)
+    said = [(one, service.picture(row, one.shown.text) if one.shown else None) for one in rows]
+    return service.page(request, "shown.html", sign=sign, rows=said, now=now, tab="shown")
 
 
 async def audit(request: web.Request) -> web.Response:
-    room, before = room_of(request), number_of(request, "before")
+    service, before = service_of(request), number_of(request, "before")
 
     def found(held: Database) -> tuple[list[tuple[int, float, str, str]], float]:
         return history.audit(held, before), queries.now(held)
 
-    rows, now = await room.connections.run(found)
+    rows, now = await service.connections.run(found)
     lines = [(number, at, who, words.audit_words(what)) for number, at, who, what in rows]
-    return room.page(request, "audit.html", lines=lines, now=now)
+    return service.page(request, "audit.html", lines=lines, now=now)

@@ -16,7 +16,7 @@ from wisangub.room.store.store import Store
 from . import compose
 from . import draft as drafts
 from .draft import KINDS, Draft
-from .room import Room, room_of, visitor_of
+from .service import Service, service_of, visitor_of
 from .words import asked
 
 NOWHERE = "0.0.0.0"
@@ -32,31 +32,31 @@ def own_address(sign: Sign) -> str:
         return NOWHERE
 
 
-async def is_drawn(room: Room, draft: Draft) -> bool:
+async def is_drawn(service: Service, draft: Draft) -> bool:
     """Whether the text of a publication fits on all its signs."""
     if draft.kind != "publish":
         return True
-    return all(one.src is not None for one in await compose.looks(room, draft.signs, draft.text))
+    return all(one.src is not None for one in await compose.looks(service, draft.signs, draft.text))
 
 
 async def send(request: web.Request) -> web.StreamResponse:
-    room, visitor = room_of(request), visitor_of(request)
+    service, visitor = service_of(request), visitor_of(request)
     fields = await request.post()
     kind, confirmation = str(fields.get("kind", "")), str(fields.get("confirmation", ""))
     if kind not in KINDS or not 16 <= len(confirmation) <= MOST_CONFIRMATION:
         raise web.HTTPBadRequest(text="This was not confirmed.")
-    draft = drafts.read(fields, room.faces, kind)
+    draft = drafts.read(fields, service.faces, kind)
     if draft.faults:
         raise web.HTTPUnprocessableEntity(text=" ".join(draft.faults.values()))
-    if not await is_drawn(room, draft):
+    if not await is_drawn(service, draft):
         return await compose.answer(request, draft, 422)
 
     def done(held: Database) -> int:
-        signs = [(row, room.signs[row]) for row in draft.signs]
+        signs = [(row, service.signs[row]) for row in draft.signs]
         lines = [(row, draft.line(visitor.name, own_address(sign))) for row, sign in signs]
         return Store(held).ask_all(lines, visitor.name, asked(lines[0][1]).what, confirmation)
 
-    raise web.HTTPSeeOther(f"/batches/{await room.connections.run(done)}")
+    raise web.HTTPSeeOther(f"/batches/{await service.connections.run(done)}")
 
 
 @dataclass(frozen=True)
@@ -67,36 +67,36 @@ class Part:
     picture: str | None
 
 
-def parts_of(room: Room, held: Database, number: int) -> tuple[Batch | None, list[Part], float]:
+def parts_of(service: Service, held: Database, number: int) -> tuple[Batch | None, list[Part], float]:
     found = history.batch(held, number)
     made = []
     for command in found.commands if found else []:
         line = asked(command.line)
-        picture = room.picture(command.sign, line.text) if line.kind in ("publish", "blank") else None
+        picture = service.picture(command.sign, line.text) if line.kind in ("publish", "blank") else None
         made.append(Part(command, picture))
     return found, made, queries.now(held)
 
 
 async def batch(request: web.Request) -> web.Response:
-    room, number = room_of(request), int(request.match_info["batch"])
-    found, made, now = await room.connections.run(lambda held: parts_of(room, held, number))
+    service, number = service_of(request), int(request.match_info["batch"])
+    found, made, now = await service.connections.run(lambda held: parts_of(service, held, number))
     if found is None:
         raise web.HTTPNotFound(text="Nothing of this number was asked for.")
-    return room.page(request, "batch.html", batch=found, parts=made, now=now, view=f"batch/{number}")
+    return service.page(request, "batch.html", batch=found, parts=made, now=now, view=f"batch/{number}")
 
 
-def parts(room: Room, held: Database, number: int) -> dict[str, str]:
+def parts(service: Service, held: Database, number: int) -> dict[str, str]:
     """What an event may replace."""
-    _, made, _ = parts_of(room, held, number)
-    return {f"command-{one.command.id}": room.part("parts.html", "part", one) for one in made} | {
-        "summary": room.part("parts.html", "summary", made)
+    _, made, _ = parts_of(service, held, number)
+    return {f"command-{one.command.id}": service.part("parts.html", "part", one) for one in made} | {
+        "summary": service.part("parts.html", "summary", made)
     }
 
 
 async def withdraw(request: web.Request) -> web.StreamResponse:
     """Ends a command that waits for its turn; one that was begun goes on."""
-    room, visitor, number = room_of(request), visitor_of(request), int(request.match_info["command"])
+    service, visitor, number = service_of(request), visitor_of(request), int(request.match_info["command"])
 
-    if not await room.connections.run(lambda held: Store(held).withdraw(number, visitor.name)):
+    if not await service.connections.run(lambda held: Store(held).withdraw(number, visitor.name)):
         raise web.HTTPConflict(text="This command was begun, or has ended: it cannot be withdrawn.")
     raise web.HTTPSeeOther("/history?outcome=open")

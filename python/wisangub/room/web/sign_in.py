@@ -9,8 +9,8 @@ from aiohttp import web
 from wisangub.room.store import passwords, users
 
 from . import logins
-from .room import Room, room_of, visitor_of
 from .security import address_of
+from .service import Service, service_of, visitor_of
 
 BEFORE = "before"  # the cookie of the form, since its token belongs to no log-in yet
 ONE_AT_A_TIME = asyncio.Semaphore(2)  # a look at a password takes 32 MiB
@@ -29,12 +29,12 @@ def local(path: str) -> str:
 
 def shown(request: web.Request, then: str, fault: str = "", status: int = 200, name: str = "") -> web.Response:
     """The form, with a cookie of its own."""
-    room = room_of(request)
-    before = room.seal.get(request, BEFORE) or secrets.token_urlsafe(18)
-    answer = room.page(
-        request, "login.html", status=status, then=then, fault=fault, name=name, form_token=room.seal.token(before)
+    service = service_of(request)
+    before = service.seal.get(request, BEFORE) or secrets.token_urlsafe(18)
+    answer = service.page(
+        request, "login.html", status=status, then=then, fault=fault, name=name, form_token=service.seal.token(before)
     )
-    room.seal.set(answer, BEFORE, before, logins.LASTS)
+    service.seal.set(answer, BEFORE, before, logins.LASTS)
     return answer
 
 
@@ -42,40 +42,40 @@ async def form(request: web.Request) -> web.Response:
     return shown(request, local(request.query.get("next", "/")))
 
 
-async def is_right(room: Room, name: str, password: str) -> bool:
+async def is_right(service: Service, name: str, password: str) -> bool:
     """Whether somebody of this name has this password; it takes the same time where there is nobody."""
-    kept = await room.connections.run(lambda held: users.secret(held, name))
+    kept = await service.connections.run(lambda held: users.secret(held, name))
     async with ONE_AT_A_TIME:
         found = await asyncio.to_thread(lambda: passwords.is_password(password, kept or passwords.nobody()))
     return found and kept is not None
 
 
 async def log_in(request: web.Request) -> web.StreamResponse:
-    room = room_of(request)
+    service = service_of(request)
     fields = await request.post()
     name, password, then = (str(fields.get(key, "")) for key in ("name", "password", "next"))
     name, then = name.strip().lower(), local(then)
-    before = room.seal.get(request, BEFORE)
-    if before is None or not await room.seal.is_own(request, before):
+    before = service.seal.get(request, BEFORE)
+    if before is None or not await service.seal.is_own(request, before):
         return shown(request, then, "This form was open for too long, or cookies are off. Please try again.", 403, name)
-    of = address_of(request, room.settings.is_behind_tls)
-    if await room.connections.run(lambda held: logins.attempt(held, name, of)) is None:
+    of = address_of(request, service.settings.is_behind_tls)
+    if await service.connections.run(lambda held: logins.attempt(held, name, of)) is None:
         answer = shown(request, then, "Too many log-ins failed. Please try again in five minutes.", 429, name)
         answer.headers["Retry-After"] = str(logins.WINDOW)
         return answer
-    if not await is_right(room, name, password):
-        await room.connections.run(lambda held: logins.failed(held, name, of))
+    if not await is_right(service, name, password):
+        await service.connections.run(lambda held: logins.failed(held, name, of))
         return shown(request, then, "This name and this password do not go together.", 403, name)
-    cookie = await room.connections.run(lambda held: logins.begin(held, name, of))
+    cookie = await service.connections.run(lambda held: logins.begin(held, name, of))
     answer = web.Response(status=303, headers={"Location": then})
-    room.seal.set(answer, "login", cookie, logins.LASTS)
-    room.seal.drop(answer, BEFORE)
+    service.seal.set(answer, "login", cookie, logins.LASTS)
+    service.seal.drop(answer, BEFORE)
     return answer
 
 
 async def log_out(request: web.Request) -> web.StreamResponse:
-    room, visitor = room_of(request), visitor_of(request)
-    await room.connections.run(lambda held: logins.end(held, visitor))
+    service, visitor = service_of(request), visitor_of(request)
+    await service.connections.run(lambda held: logins.end(held, visitor))
     answer = web.Response(status=303, headers={"Location": "/login"})
-    room.seal.drop(answer, "login")
+    service.seal.drop(answer, "login")
     return answer

@@ -9,7 +9,7 @@ from wisangub.room.store.database import Database
 from wisangub.room.store.queries import CommandView, SignView, TableView, Wanted
 from wisangub.room.store.store import Store
 
-from .room import Room, room_of, sign_of
+from .service import Service, service_of, sign_of
 
 FEW = 8
 
@@ -25,54 +25,57 @@ class Overview:
     now: float
 
 
-def overviewed(room: Room, held: Database, row: int) -> Overview:
+def overviewed(service: Service, held: Database, row: int) -> Overview:
     sign = queries.sign(held, row)
     assert sign is not None
     now = queries.now(held)
     commands = queries.commands(held, Wanted(sign=row, most=FEW))
-    picture = room.picture(row, sign.shown.text) if sign.shown else None
+    picture = service.picture(row, sign.shown.text) if sign.shown else None
     return Overview(sign, picture, sign.is_stale(now), commands, now)
 
 
 async def overview(request: web.Request) -> web.Response:
-    room, row = room_of(request), sign_of(request)
-    found = await room.connections.run(lambda held: overviewed(room, held, row))
-    return room.page(
+    service, row = service_of(request), sign_of(request)
+    found = await service.connections.run(lambda held: overviewed(service, held, row))
+    return service.page(
         request,
         "sign.html",
         it=found,
         sign=found.sign,
         now=found.now,
-        face=room.faces[row],
+        face=service.faces[row],
         tab="overview",
         view=f"sign/{row}",
     )
 
 
-def parts(room: Room, held: Database, row: int) -> dict[str, str]:
+def parts(service: Service, held: Database, row: int) -> dict[str, str]:
     """What an event may replace."""
-    found = overviewed(room, held, row)
-    return {"shown": room.part("parts.html", "shown", found), "commands": room.part("parts.html", "commands", found)}
+    found = overviewed(service, held, row)
+    return {
+        "shown": service.part("parts.html", "shown", found),
+        "commands": service.part("parts.html", "commands", found),
+    }
 
 
 async def table(request: web.Request) -> web.Response:
-    room, row = room_of(request), sign_of(request)
+    service, row = service_of(request), sign_of(request)
 
     def found(held: Database) -> tuple[SignView | None, TableView, float]:
         return queries.sign(held, row), queries.table(held, row), queries.now(held)
 
-    sign, held, now = await room.connections.run(found)
-    return room.page(request, "table.html", sign=sign, table=held, now=now, tab="table", view=f"table/{row}")
+    sign, held, now = await service.connections.run(found)
+    return service.page(request, "table.html", sign=sign, table=held, now=now, tab="table", view=f"table/{row}")
 
 
-def table_parts(room: Room, held: Database, row: int) -> dict[str, str]:
+def table_parts(service: Service, held: Database, row: int) -> dict[str, str]:
     """What an event may replace."""
     sign = queries.sign(held, row)
-    return {"table": room.part("parts.html", "table", sign, queries.table(held, row))}
+    return {"table": service.part("parts.html", "table", sign, queries.table(held, row))}
 
 
 async def read_table(request: web.Request) -> web.StreamResponse:
     """Has a worker read the table before its time."""
-    room, row = room_of(request), sign_of(request)
-    await room.connections.run(lambda held: Store(held).want_table(row))
+    service, row = service_of(request), sign_of(request)
+    await service.connections.run(lambda held: Store(held).want_table(row))
     raise web.HTTPSeeOther(f"/signs/{row}/table")

@@ -9,7 +9,7 @@ from wisangub.room.store.database import Database
 from wisangub.room.store.queries import CommandView, SignView
 
 from .progress import Step, states
-from .room import Room, room_of
+from .service import Service, service_of
 
 WIDE = 160  # columns of a matrix that takes two places
 
@@ -39,14 +39,14 @@ class Card:
         return "busy" if self.command else "lit" if self.sign.shown and self.sign.shown.text else "blank"
 
 
-def card(room: Room, sign: SignView, now: float, open_: list[CommandView]) -> Card:
-    picture = room.picture(sign.id, sign.shown.text) if sign.shown else None
+def card(service: Service, sign: SignView, now: float, open_: list[CommandView]) -> Card:
+    picture = service.picture(sign.id, sign.shown.text) if sign.shown else None
     command = next((one for one in open_ if one.number is not None), open_[0] if open_ else None)
     step = next((one for one in states(command) if one.state == "now"), None) if command else None
-    return Card(sign, picture, sign.is_stale(now), command, step, len(open_), room.faces[sign.id].width > WIDE)
+    return Card(sign, picture, sign.is_stale(now), command, step, len(open_), service.faces[sign.id].width > WIDE)
 
 
-def cards(room: Room, held: Database) -> tuple[list[Card], float]:
+def cards(service: Service, held: Database) -> tuple[list[Card], float]:
     """All signs of the fleet, and the database's time."""
     open_ = queries.under_way(held)
     of: dict[int, list[CommandView]] = {}
@@ -54,19 +54,19 @@ def cards(room: Room, held: Database) -> tuple[list[Card], float]:
         of.setdefault(command.sign, []).append(command)
     known = {sign.id: sign for sign in queries.signs(held)}
     now = queries.now(held)  # after what it is compared with
-    found = [known[row] for row in room.signs if row in known]
-    return [card(room, sign, now, of.get(sign.id, [])) for sign in found], now
+    found = [known[row] for row in service.signs if row in known]
+    return [card(service, sign, now, of.get(sign.id, [])) for sign in found], now
 
 
 async def wall(request: web.Request) -> web.Response:
-    room = room_of(request)
-    found, now = await room.connections.run(lambda held: cards(room, held))
-    return room.page(request, "wall.html", cards=found, now=now, view="wall")
+    service = service_of(request)
+    found, now = await service.connections.run(lambda held: cards(service, held))
+    return service.page(request, "wall.html", cards=found, now=now, view="wall")
 
 
-def parts(room: Room, held: Database) -> dict[str, str]:
+def parts(service: Service, held: Database) -> dict[str, str]:
     """What an event may replace: each card."""
-    found, _ = cards(room, held)
-    return {f"sign-{one.sign.id}": room.card(one) for one in found} | {
-        "counts": room.part("parts.html", "counts", found)
+    found, _ = cards(service, held)
+    return {f"sign-{one.sign.id}": service.card(one) for one in found} | {
+        "counts": service.part("parts.html", "counts", found)
     }

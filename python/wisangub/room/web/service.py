@@ -27,8 +27,8 @@ HERE = pathlib.Path(__file__).resolve().parent
 MOST_CARDS = 8192  # that are kept as HTML, of 800 octets each
 
 
-class Room:
-    """One service."""
+class Service:
+    """The service of the pages: one for all of them."""
 
     def __init__(self, settings: Settings, signs: list[Sign]) -> None:
         self.settings = settings
@@ -56,7 +56,7 @@ class Room:
             lstrip_blocks=True,
         )
         made.globals.update(
-            room=self,
+            service=self,
             clock=self.clock,
             words=words,
             plain_of=plain_of,
@@ -106,11 +106,11 @@ class Room:
         self.connections.close()
 
 
-ROOM = "room"
+SERVICE = "service"
 
 
-def room_of(request: web.Request) -> Room:
-    found: Room = request.app[ROOM]
+def service_of(request: web.Request) -> Service:
+    found: Service = request.app[SERVICE]
     return found
 
 
@@ -123,6 +123,6 @@ def visitor_of(request: web.Request) -> Visitor:
 def sign_of(request: web.Request) -> int:
     """The sign that the address names."""
     row = int(request.match_info["sign"])
-    if row not in room_of(request).signs:
+    if row not in service_of(request).signs:
         raise web.HTTPNotFound(text="There is no such sign in the fleet.")
     return row
