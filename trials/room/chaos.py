@@ -187,29 +187,29 @@ def told(store: Store, loopback: Loopback, workers: Workers, place: Place, secon
 
 
 def arguments() -> argparse.ArgumentParser:
-    words = argparse.ArgumentParser(
+    parser = argparse.ArgumentParser(
         prog="python3 -m trials.room.chaos",
         description=__doc__,
         formatter_class=argparse.RawDescriptionHelpFormatter,
     )
-    words.add_argument("--signs", type=int, default=10, metavar="N")
-    words.add_argument("--commands", type=int, default=40, metavar="N")
-    words.add_argument("--workers", type=int, default=1, metavar="N", help="that go at a time, beside the service")
-    words.add_argument("--seconds", type=float, default=300, metavar="N", help="that the commands have to end")
-    words.add_argument("--seed", type=int, default=1, metavar="N")
-    words.add_argument("--tick", type=float, default=0.2, metavar="SECONDS", help="from tick to tick, of all")
-    words.add_argument("--lease", type=float, default=2.0, metavar="SECONDS", help="of a worker")
-    words.add_argument("--troubles", type=int, metavar="N", help="workers killed or stopped at most; else no end")
-    words.add_argument("--database", choices=KINDS, default=KINDS[0])
-    words.add_argument("--signtool", default=str(SIGNTOOL), metavar="PATH")
-    return words
+    parser.add_argument("--signs", type=int, default=10, metavar="N")
+    parser.add_argument("--commands", type=int, default=40, metavar="N")
+    parser.add_argument("--workers", type=int, default=1, metavar="N", help="that go at a time, beside the service")
+    parser.add_argument("--seconds", type=float, default=300, metavar="N", help="that the commands have to end")
+    parser.add_argument("--seed", type=int, default=1, metavar="N")
+    parser.add_argument("--tick", type=float, default=0.2, metavar="SECONDS", help="from tick to tick, of all")
+    parser.add_argument("--lease", type=float, default=2.0, metavar="SECONDS", help="of a worker")
+    parser.add_argument("--troubles", type=int, metavar="N", help="workers killed or stopped at most; else no end")
+    parser.add_argument("--database", choices=KINDS, default=KINDS[0])
+    parser.add_argument("--signtool", default=str(SIGNTOOL), metavar="PATH")
+    return parser
 
 
 def main() -> int:
-    words = arguments()
-    asked = Asked(**vars(words.parse_args()))
+    parser = arguments()
+    asked = Asked(**vars(parser.parse_args()))
     if min(asked.signs, asked.commands, asked.workers + 1) < 1:
-        words.error("signs and commands are 1 or more, workers 0 or more")
+        parser.error("signs and commands are 1 or more, workers 0 or more")
     start.needed("trials.room.chaos", "aiohttp", "jinja2", *(["psycopg"] if asked.database == "postgresql" else []))
     signal.signal(signal.SIGTERM, lambda *_: sys.exit(143))  # so that nothing is left of it
     with tempfile.TemporaryDirectory(prefix="chaos-") as folder, placed(asked.database, pathlib.Path(folder)) as place:

@@ -137,10 +137,10 @@ def cluster() -> Iterator[Cluster]:
 
 
 def main() -> int:
-    words = argparse.ArgumentParser(
+    parser = argparse.ArgumentParser(
         prog="python3 -m trials.room.cluster", description=__doc__, formatter_class=argparse.RawDescriptionHelpFormatter
     )
-    words.parse_args()
+    parser.parse_args()
     with cluster():
         return 0
 

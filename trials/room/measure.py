@@ -209,25 +209,25 @@ def run(asked: Asked, folder: pathlib.Path, place: Place) -> bool:
 
 
 def arguments() -> argparse.ArgumentParser:
-    words = argparse.ArgumentParser(
+    parser = argparse.ArgumentParser(
         prog="python3 -m trials.room.measure", description=__doc__, formatter_class=argparse.RawDescriptionHelpFormatter
     )
-    words.add_argument("--signs", type=int, default=200, metavar="N")
-    words.add_argument("--commands", type=int, default=200, metavar="N")
-    words.add_argument("--workers", type=int, default=1, metavar="N")
-    words.add_argument(
+    parser.add_argument("--signs", type=int, default=200, metavar="N")
+    parser.add_argument("--commands", type=int, default=200, metavar="N")
+    parser.add_argument("--workers", type=int, default=1, metavar="N")
+    parser.add_argument(
         "--rate", type=float, default=0, metavar="N", help="commands asked for a second; else all at once"
     )
-    words.add_argument("--poll", type=float, default=10.0, metavar="SECONDS", help="from reading to reading of a sign")
-    words.add_argument("--seconds", type=float, default=300, metavar="N", help="that the commands have to end")
-    words.add_argument("--hold", type=float, default=0, metavar="N", help="that signs are watched for at least")
-    words.add_argument("--tick", type=float, default=1.0, metavar="SECONDS")
-    words.add_argument(
+    parser.add_argument("--poll", type=float, default=10.0, metavar="SECONDS", help="from reading to reading of a sign")
+    parser.add_argument("--seconds", type=float, default=300, metavar="N", help="that the commands have to end")
+    parser.add_argument("--hold", type=float, default=0, metavar="N", help="that signs are watched for at least")
+    parser.add_argument("--tick", type=float, default=1.0, metavar="SECONDS")
+    parser.add_argument(
         "--one-processor", action="store_true", dest="is_pinned", help="workers, co-processes and server on one"
     )
-    words.add_argument("--database", choices=KINDS, default=KINDS[0])
-    words.add_argument("--signtool", default=str(SIGNTOOL), metavar="PATH")
-    return words
+    parser.add_argument("--database", choices=KINDS, default=KINDS[0])
+    parser.add_argument("--signtool", default=str(SIGNTOOL), metavar="PATH")
+    return parser
 
 
 def main() -> int:

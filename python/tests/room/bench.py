@@ -38,7 +38,7 @@ class Bench:
             f'[[sign]]\nname = "one"\naddress = "127.0.0.1:{self.live.port}"\n' 'description = "a.sign"\npoll = 1\n'
         )
         self.store = Store(database.opened(where))
-        self.row = next(iter(self.signs(self.store)))
+        self.sign_id = next(iter(self.signs(self.store)))
 
     def signs(self, store: Store) -> dict[int, Sign]:
         return store.enter(fleet.read(self.fleet))
@@ -51,10 +51,10 @@ class Bench:
     def session(self, name: str) -> Session:
         """A session of a worker with a connection of its own."""
         store = Store(database.opened(self.where))
-        return Session(store, self.row, self.signs(store)[self.row], name, PROGRAM, Mib.read())
+        return Session(store, self.sign_id, self.signs(store)[self.sign_id], name, PROGRAM, Mib.read())
 
     def ask(self, line: str) -> int:
-        return self.store.ask(self.row, "me", line)
+        return self.store.ask(self.sign_id, "me", line)
 
     def ended(self, worker: Worker, command: int, wait: float = 60.0) -> str | None:
         """How the command ended, carried out by the worker."""

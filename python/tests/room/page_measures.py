@@ -97,14 +97,14 @@ async def visited(url: str, signs: int, seconds: float, process: int) -> None:
 
 
 def main() -> int:
-    words = argparse.ArgumentParser(
+    parser = argparse.ArgumentParser(
         prog="env -C python python3 -m tests.room.page_measures",
         description=__doc__,
         formatter_class=argparse.RawDescriptionHelpFormatter,
     )
-    words.add_argument("--signs", type=int, default=200)
-    words.add_argument("--seconds", type=float, default=10.0, help="for each page")
-    asked = words.parse_args()
+    parser.add_argument("--signs", type=int, default=200)
+    parser.add_argument("--seconds", type=float, default=10.0, help="for each page")
+    asked = parser.parse_args()
     start.needed("tests.room.page_measures", "aiohttp", "jinja2")
     from trials.room.ports import free_port, until_answers
 

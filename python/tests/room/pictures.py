@@ -55,13 +55,13 @@ def taken(folder: pathlib.Path) -> list[pathlib.Path]:
 
 
 def main() -> int:
-    words = argparse.ArgumentParser(
+    parser = argparse.ArgumentParser(
         prog="env -C python python3 -m tests.room.pictures",
         description=__doc__,
         formatter_class=argparse.RawDescriptionHelpFormatter,
     )
-    words.add_argument("--keep", default=str(TOP / "docs/pictures"), metavar="FOLDER")
-    asked = words.parse_args()
+    parser.add_argument("--keep", default=str(TOP / "docs/pictures"), metavar="FOLDER")
+    asked = parser.parse_args()
     start.needed("tests.room.pictures", "aiohttp", "jinja2", "selenium", "pytest")
     made = taken(pathlib.Path(asked.keep))
     for path in made:

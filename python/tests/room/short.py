@@ -148,13 +148,13 @@ def short(python: str, program: str) -> int:
 
 
 def main() -> int:
-    words = argparse.ArgumentParser(
+    parser = argparse.ArgumentParser(
         prog="env -C python python3 -m tests.room.short",
         description=__doc__,
         formatter_class=argparse.RawDescriptionHelpFormatter,
     )
-    words.add_argument("--signtool", default=str(SIGNTOOL), metavar="PATH")
-    program = os.path.abspath(words.parse_args().signtool)
+    parser.add_argument("--signtool", default=str(SIGNTOOL), metavar="PATH")
+    program = os.path.abspath(parser.parse_args().signtool)
     python = start.seeing(MODULES)
     if python is None or not os.access(program, os.X_OK):
         why = f"there is no program at {program}" if python else f"no python3 sees {', '.join(MODULES)}"

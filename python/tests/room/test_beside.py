@@ -31,7 +31,7 @@ def blank(at: Bench, browser: Browser, number: int) -> None:
     before = len(at.live.accepted)
     fields = [
         ("kind", "blank"),
-        ("sign", str(at.row)),
+        ("sign", str(at.sign_id)),
         ("number", str(number)),
         ("confirmation", f"confirmed {number:9}"),
     ]
@@ -88,7 +88,7 @@ def test_programs_that_end_beside_a_service_take_nothing_from_it(tmp_path: pathl
         finally:
             service.kill()
         store = Store(database.opened(where))
-        ledger = {int(line.split(" ")[1]): line.split(" ")[2] for line in store.ledger(at.row)}
+        ledger = {int(line.split(" ")[1]): line.split(" ")[2] for line in store.ledger(at.sign_id)}
         audit = [str(row[0]) for row in store.run("SELECT what FROM audit")]
         store.database.close()
         twice = [number for number, octets in contents(at).items() if len(octets) > 1]

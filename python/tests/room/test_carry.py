@@ -27,7 +27,7 @@ def test_the_ledger_is_in_the_database_before_an_activation_goes_out(
             if found.out is not None:
                 message = wire.spelled(found.out)
                 assert message is not None
-                seen.append((message.number, at.store.ledger(at.row), len(at.live.requests)))
+                seen.append((message.number, at.store.ledger(at.sign_id), len(at.live.requests)))
             send()
 
         monkeypatch.setattr(found, "send", watched)
@@ -65,7 +65,7 @@ def test_a_line_that_lost_its_number_is_not_handed_over(
         at.ask(BLANK)
         found = at.session("first")
         line = found.offer(False)
-        assert line is not None and at.store.insert([Line(at.row, line.number, b"tick")], "second") == {at.row}
+        assert line is not None and at.store.insert([Line(at.sign_id, line.number, b"tick")], "second") == {at.sign_id}
         handed: list[Line] = []
         monkeypatch.setattr(found, "hand", handed.append)
         with pytest.raises(Lost):

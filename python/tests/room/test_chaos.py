@@ -66,7 +66,7 @@ BREAKS: dict[str, Callable[[Bench], object]] = {
     "each acceptance of the sign stands in the ledger": lambda at: at.live.accepted.append((999, "ff")),
     "each activation that went out stands in the ledger": lambda at: at.store.run("DELETE FROM ledger"),
     "each command that ended accepted has its activation": lambda at: at.ended(
-        at.worker(), at.store.ask(at.row, "me", "restart")
+        at.worker(), at.store.ask(at.sign_id, "me", "restart")
     )
     and at.store.run("UPDATE commands SET outcome = 'accepted'"),
     "the ledger is the model's, handed the lines": lambda at: at.store.run("UPDATE ledger SET outcome = 'noreply'"),
@@ -83,7 +83,7 @@ def test_what_does_not_hold_is_found(tmp_path: pathlib.Path, what: str) -> None:
             if is_broken:
                 BREAKS[what](at)
             found = Outcome()
-            chaos_checks.look_at(found, at.store, at.row, at.signs(at.store)[at.row], at.live)
+            chaos_checks.look_at(found, at.store, at.sign_id, at.signs(at.store)[at.sign_id], at.live)
             assert any(name.startswith(f"one: {what}") for name in found.failed) is is_broken, found.failed
             assert is_broken or not found.failed
 

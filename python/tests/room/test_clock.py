@@ -70,7 +70,7 @@ def test_a_worker_goes_on_where_one_was_killed_as_the_clock_was_ahead(tmp_path: 
         first = at.worker()
         jump(first.store.database, AHEAD)
         first.look()
-        assert list(first.sessions) == [at.row]
+        assert list(first.sessions) == [at.sign_id]
         for session in first.sessions.values():
             session.close()  # and nothing is released, as where it was killed
         assert at.ended(at.worker(), command) == "accepted"

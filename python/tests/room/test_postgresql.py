@@ -126,7 +126,7 @@ def test_a_server_that_is_started_again(tmp_path: pathlib.Path, own: Cluster) ->
         command = at.ask(HELLO)
         found = at.session("first")
         begin(found)
-        lines = at.store.lines(at.row)
+        lines = at.store.lines(at.sign_id)
         own.stop(signal.SIGQUIT)
         with pytest.raises(Failed):
             carried(found, found.offer(True))
@@ -136,8 +136,8 @@ def test_a_server_that_is_started_again(tmp_path: pathlib.Path, own: Cluster) ->
         for _ in range(3):
             worker.guarded_round()
         with pytest.raises(Failed):
-            at.store.lines(at.row)
-        assert at.store.lines(at.row)[2][:2] == lines[2], "what was committed is there"
+            at.store.lines(at.sign_id)
+        assert at.store.lines(at.sign_id)[2][:2] == lines[2], "what was committed is there"
         assert at.ended(worker, command) == "accepted"
 
 

@@ -48,9 +48,12 @@ def test_a_sign_that_is_renamed_in_the_fleet_is_refused_until_it_is_renamed(tmp_
             at.worker()
         assert at.store.run("SELECT name FROM signs") == [("one",)], "nothing was entered"
         signs.rename(at.store.database, "one", "north", "me")
-        lines, ledger = at.store.lines(at.row), at.store.ledger(at.row)
+        lines, ledger = at.store.lines(at.sign_id), at.store.ledger(at.sign_id)
         worker = at.worker()
-        assert list(at.signs(at.store)) == [at.row] and (at.store.lines(at.row), at.store.ledger(at.row)) == (
+        assert list(at.signs(at.store)) == [at.sign_id] and (
+            at.store.lines(at.sign_id),
+            at.store.ledger(at.sign_id),
+        ) == (
             lines,
             ledger,
         )

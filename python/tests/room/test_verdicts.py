@@ -71,10 +71,10 @@ def test_a_sign_that_does_not_answer_leaves_the_words_as_they_are(tmp_path: path
         command = at.ask(WIDE)
         assert at.ended(worker, command) == HOW
         worker.verdicts.to_ask = []
-        worker.verdicts.want(at.row, None)
+        worker.verdicts.want(at.sign_id, None)
         assert worker.verdicts.to_ask == []
-        worker.verdicts.end(worker.signs[at.row], Command(command, WIDE), "no reply")
-        worker.verdicts.end(worker.signs[at.row], Command(command, WIDE), [2, 2, 0])
+        worker.verdicts.end(worker.signs[at.sign_id], Command(command, WIDE), "no reply")
+        worker.verdicts.end(worker.signs[at.sign_id], Command(command, WIDE), [2, 2, 0])
         worker.verdicts.keep()
         assert at.store.why(command) == ""
 
@@ -83,9 +83,9 @@ def test_one_sign_is_asked_of_one_command_at_a_time(tmp_path: pathlib.Path) -> N
     with bench(tmp_path, str(tmp_path / "database")) as at:
         worker = at.worker()
         first, second = (Command(at.ask(WIDE), WIDE) for _ in range(2))
-        worker.verdicts.to_ask = [(at.row, first), (at.row, second), (at.row + 1, first)]
+        worker.verdicts.to_ask = [(at.sign_id, first), (at.sign_id, second), (at.sign_id + 1, first)]
         worker.verdicts.begin()
-        assert worker.verdicts.to_ask == [(at.row, second)]
+        assert worker.verdicts.to_ask == [(at.sign_id, second)]
         worker.verdicts.begin()
         assert worker.verdicts.to_ask == []
         numbers = [get.number for get in worker.gets.waiting.values()]

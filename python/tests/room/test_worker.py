@@ -58,9 +58,9 @@ def test_commands_end_in_words(tmp_path: pathlib.Path, where: str) -> None:
         while worker.sessions:
             worker.round()
         assert at.store.run("SELECT leased_by FROM signs") == [(None,)], "a sign without work is let go"
-        assert [line.split()[3] for line in at.store.ledger(at.row)] == ["accepted", "accepted", "refused"]
+        assert [line.split()[3] for line in at.store.ledger(at.sign_id)] == ["accepted", "accepted", "refused"]
         accepted = [code for _, code in dict.fromkeys(at.live.accepted)]
-        assert accepted == [line.split()[2] for line in at.store.ledger(at.row)[:2]]
+        assert accepted == [line.split()[2] for line in at.store.ledger(at.sign_id)[:2]]
 
 
 def test_a_co_process_is_asked_for_its_ledger_where_the_news_of_it_are_wanted(
@@ -120,7 +120,7 @@ def test_a_sign_that_is_silent(tmp_path: pathlib.Path, where: str, monkeypatch: 
     with bench(tmp_path, where) as at:
         worker = at.worker()
         assert at.ended(worker, at.ask(f"blank 1 65535 255 {ADDRESS}")) == "failed at step 7: no reply"
-        assert at.store.ledger(at.row)[0].endswith(" noreply")
+        assert at.store.ledger(at.sign_id)[0].endswith(" noreply")
         assert len(set(filter(lambda octets: wire.read(octets).number >= 0, at.live.requests))) == 1
 
 
@@ -163,7 +163,7 @@ def test_a_command_that_was_refused_as_its_worker_died(tmp_path: pathlib.Path, w
         begin(found)
         carried_on(found, 1000)
         line = found.offer(False)
-        assert line is not None and at.store.insert([line], "first") == {at.row}
+        assert line is not None and at.store.insert([line], "first") == {at.sign_id}
         found.close()
         at.session("second").close()
         hows = [at.store.how(command) for command in commands]
@@ -198,8 +198,8 @@ def test_a_new_centre_where_lines_grew_long(
         heads = [str(row[0]).split(" ") for row in rows]
         assert len(heads) == 3
         numbers = numbers_of(at)
-        assert numbers == sorted(numbers) and len(at.store.ledger(at.row)) == 3
-        assert at.store.lines(at.row)[2][0].decode().split(" ") == heads[-1]
+        assert numbers == sorted(numbers) and len(at.store.ledger(at.sign_id)) == 3
+        assert at.store.lines(at.sign_id)[2][0].decode().split(" ") == heads[-1]
 
 
 def test_another_description_is_another_centre(tmp_path: pathlib.Path, where: str) -> None:

@@ -68,17 +68,17 @@ def explain(store: Store, command: int, how: str) -> None:
 
 
 def main() -> int:
-    words = argparse.ArgumentParser(
+    parser = argparse.ArgumentParser(
         prog=called("wisangub-control command"),
         description=__doc__,
         formatter_class=argparse.RawDescriptionHelpFormatter,
     )
-    words.add_argument("--database", required=True, metavar="WHERE", help=database.WHERE)
-    words.add_argument("--who", default=getpass.getuser(), metavar="NAME", help="who asks; else the user")
-    words.add_argument("--wait", type=seconds, default=120.0, metavar="SECONDS", help="how long its end is waited for")
-    words.add_argument("sign", metavar="SIGN")
-    words.add_argument("line", metavar="LINE")
-    asked = words.parse_args()
+    parser.add_argument("--database", required=True, metavar="WHERE", help=database.WHERE)
+    parser.add_argument("--who", default=getpass.getuser(), metavar="NAME", help="who asks; else the user")
+    parser.add_argument("--wait", type=seconds, default=120.0, metavar="SECONDS", help="how long its end is waited for")
+    parser.add_argument("sign", metavar="SIGN")
+    parser.add_argument("line", metavar="LINE")
+    asked = parser.parse_args()
     if database.is_url(asked.database):
         start.needed("wisangub.room.command", "psycopg")
     line = line_of(asked.line)

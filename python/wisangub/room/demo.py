@@ -95,15 +95,15 @@ def enter(where: str) -> None:
 
 
 def main() -> int:
-    words = argparse.ArgumentParser(
+    parser = argparse.ArgumentParser(
         prog=called("wisangub-control demo"),
         description=__doc__,
         formatter_class=argparse.RawDescriptionHelpFormatter,
     )
-    words.add_argument("--listen", default=LISTEN, metavar="HOST:PORT")
-    words.add_argument("--fleet", type=pathlib.Path, default=FLEET, metavar="FILE")
-    words.add_argument("--signtool", default=str(SIGNTOOL), metavar="PATH")
-    asked = words.parse_args()
+    parser.add_argument("--listen", default=LISTEN, metavar="HOST:PORT")
+    parser.add_argument("--fleet", type=pathlib.Path, default=FLEET, metavar="FILE")
+    parser.add_argument("--signtool", default=str(SIGNTOOL), metavar="PATH")
+    asked = parser.parse_args()
     start.needed("wisangub.room.demo", "aiohttp", "jinja2")
     signal.signal(signal.SIGTERM, signal.default_int_handler)
     path, running = asked.fleet.resolve(), list[subprocess.Popen[bytes]]()

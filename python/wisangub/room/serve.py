@@ -22,25 +22,25 @@ LISTEN = "127.0.0.1:8080"
 
 
 def arguments() -> argparse.ArgumentParser:
-    words = argparse.ArgumentParser(
+    parser = argparse.ArgumentParser(
         prog=called("wisangub-control"),
         description=__doc__,
         formatter_class=argparse.RawDescriptionHelpFormatter,
     )
-    add_version(words, "wisangub-control")
-    words.add_argument("--fleet", required=True, metavar="FILE", help="the signs, as in signs/fleet.toml")
-    words.add_argument("--database", default="room.sqlite", metavar="WHERE", help=database.WHERE)
-    words.add_argument("--create", action="store_true", help=database.CREATE)
-    words.add_argument("--listen", default=LISTEN, metavar="HOST:PORT", help=f"where the pages are; else {LISTEN}")
-    words.add_argument(
+    add_version(parser, "wisangub-control")
+    parser.add_argument("--fleet", required=True, metavar="FILE", help="the signs, as in signs/fleet.toml")
+    parser.add_argument("--database", default="room.sqlite", metavar="WHERE", help=database.WHERE)
+    parser.add_argument("--create", action="store_true", help=database.CREATE)
+    parser.add_argument("--listen", default=LISTEN, metavar="HOST:PORT", help=f"where the pages are; else {LISTEN}")
+    parser.add_argument(
         "--behind-tls",
         action="store_true",
         help="a proxy on this machine ends TLS: cookies are Secure, and its X-Forwarded-For is believed",
     )
-    words.add_argument("--zone", metavar="NAME", help="the zone that times are shown in; else the machine's")
-    words.add_argument("--no-worker", action="store_true", help="pages alone; workers are other processes")
-    words.add_argument("--signtool", default=str(SIGNTOOL), metavar="PATH")
-    return words
+    parser.add_argument("--zone", metavar="NAME", help="the zone that times are shown in; else the machine's")
+    parser.add_argument("--no-worker", action="store_true", help="pages alone; workers are other processes")
+    parser.add_argument("--signtool", default=str(SIGNTOOL), metavar="PATH")
+    return parser
 
 
 def main() -> int:

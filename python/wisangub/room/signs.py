@@ -20,32 +20,32 @@ from . import fleet, start
 from .store import database
 
 
-def rename(held: Database, old: str, new: str, who: str) -> None:
+def rename(database: Database, old: str, new: str, who: str) -> None:
     """The sign has another name."""
     if not fleet.is_name(new):
         raise Refusal(fleet.NAMES)
     try:
-        with held.transaction():
-            if not held.run("UPDATE signs SET name = ? WHERE name = ? RETURNING id", new, old):
+        with database.transaction():
+            if not database.run("UPDATE signs SET name = ? WHERE name = ? RETURNING id", new, old):
                 raise Refusal(f"there is no sign {old!r}")
-            note(held, who, f"sign {old}: its name is {new}")
+            note(database, who, f"sign {old}: its name is {new}")
     except Taken:
         raise Refusal(f"there is a sign {new!r} already") from None
 
 
 def arguments() -> argparse.ArgumentParser:
-    words = argparse.ArgumentParser(
+    parser = argparse.ArgumentParser(
         prog=called("wisangub-control signs"),
         description=__doc__,
         formatter_class=argparse.RawDescriptionHelpFormatter,
     )
-    words.add_argument("--database", required=True, metavar="WHERE", help=database.WHERE)
-    calls = words.add_subparsers(dest="call", required=True, metavar="CALL")
+    parser.add_argument("--database", required=True, metavar="WHERE", help=database.WHERE)
+    calls = parser.add_subparsers(dest="call", required=True, metavar="CALL")
     calls.add_parser("list")
     call = calls.add_parser("rename")
     call.add_argument("old", metavar="OLD")
     call.add_argument("new", metavar="NEW")
-    return words
+    return parser
 
 
 def main() -> int:

@@ -181,25 +181,25 @@ def advanced(where: str, who: str, first: int | None) -> str:
 
 
 def arguments() -> argparse.ArgumentParser:
-    words = argparse.ArgumentParser(
+    parser = argparse.ArgumentParser(
         prog=places.called("wisangub-control backup"),
         description=__doc__,
         formatter_class=argparse.RawDescriptionHelpFormatter,
     )
-    words.add_argument("what", choices=("copy", "restore", "advance"))
-    words.add_argument("--database", required=True, metavar="WHERE", help=database.WHERE)
-    words.add_argument("--to", type=pathlib.Path, metavar="FILE", help="where the copy goes")
-    words.add_argument("--from", type=pathlib.Path, metavar="FILE", dest="source", help="the copy")
-    words.add_argument("--first", type=int, metavar="NUMBER", help="the number of each centre's next request")
-    words.add_argument("--who", default=getpass.getuser(), metavar="NAME", help="for the audit; else the user")
-    return words
+    parser.add_argument("what", choices=("copy", "restore", "advance"))
+    parser.add_argument("--database", required=True, metavar="WHERE", help=database.WHERE)
+    parser.add_argument("--to", type=pathlib.Path, metavar="FILE", help="where the copy goes")
+    parser.add_argument("--from", type=pathlib.Path, metavar="FILE", dest="source", help="the copy")
+    parser.add_argument("--first", type=int, metavar="NUMBER", help="the number of each centre's next request")
+    parser.add_argument("--who", default=getpass.getuser(), metavar="NAME", help="for the audit; else the user")
+    return parser
 
 
 def main() -> int:
-    words = arguments()
-    asked = words.parse_args()
+    parser = arguments()
+    asked = parser.parse_args()
     if (asked.what == "copy") != bool(asked.to) or (asked.what == "restore") != bool(asked.source):
-        words.error("copy wants --to FILE, restore wants --from FILE")
+        parser.error("copy wants --to FILE, restore wants --from FILE")
     if database.is_url(asked.database):
         start.needed("wisangub.room.store.backup", "psycopg")
     try:

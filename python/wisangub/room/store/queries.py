@@ -127,13 +127,13 @@ def sign_view(row: Row) -> SignView:
     )
 
 
-def signs(held: Database) -> list[SignView]:
+def signs(database: Database) -> list[SignView]:
     """All signs in the order of their numbers."""
-    return [sign_view(row) for row in held.run(f"{SIGNS} ORDER BY signs.id")]
+    return [sign_view(row) for row in database.run(f"{SIGNS} ORDER BY signs.id")]
 
 
-def sign(held: Database, number: int) -> SignView | None:
-    rows = held.run(f"{SIGNS} WHERE signs.id = ?", number)
+def sign(database: Database, number: int) -> SignView | None:
+    rows = database.run(f"{SIGNS} WHERE signs.id = ?", number)
     return sign_view(rows[0]) if rows else None
 
 
@@ -203,26 +203,26 @@ class Wanted:
         return (" WHERE " + " AND ".join(parts) if parts else ""), values
 
 
-def commands(held: Database, wanted: Wanted) -> list[CommandView]:
+def commands(database: Database, wanted: Wanted) -> list[CommandView]:
     where, values = wanted.where()
     return list(
-        map(command_view, held.run(f"{COMMANDS}{where} ORDER BY commands.id DESC LIMIT ?", *values, wanted.most))
+        map(command_view, database.run(f"{COMMANDS}{where} ORDER BY commands.id DESC LIMIT ?", *values, wanted.most))
     )
 
 
-def command(held: Database, number: int) -> CommandView | None:
-    rows = held.run(f"{COMMANDS} WHERE commands.id = ?", number)
+def command(database: Database, number: int) -> CommandView | None:
+    rows = database.run(f"{COMMANDS} WHERE commands.id = ?", number)
     return command_view(rows[0]) if rows else None
 
 
-def under_way(held: Database) -> list[CommandView]:
+def under_way(database: Database) -> list[CommandView]:
     """Commands that have not ended."""
-    return list(map(command_view, held.run(f"{COMMANDS} WHERE commands.outcome IS NULL ORDER BY commands.id")))
+    return list(map(command_view, database.run(f"{COMMANDS} WHERE commands.outcome IS NULL ORDER BY commands.id")))
 
 
-def now(held: Database) -> float:
+def now(database: Database) -> float:
     """The database's time."""
-    return time_of(held.run("SELECT {clock}")[0][0])
+    return time_of(database.run("SELECT {clock}")[0][0])
 
 
 @dataclass(frozen=True)
@@ -248,9 +248,9 @@ class TableView:
     is_wanted: bool
 
 
-def table(held: Database, number: int) -> TableView:
+def table(database: Database, number: int) -> TableView:
     rows = []
-    for memory, at, status, kept, heard in held.run(
+    for memory, at, status, kept, heard in database.run(
         "SELECT memory, number, status, held, heard FROM messages WHERE sign = ? AND status <> 1"
         " AND held IS NOT NULL ORDER BY memory, number",
         number,
@@ -268,5 +268,5 @@ def table(held: Database, number: int) -> TableView:
                 number_of(cells, "priority") or 0,
             )
         )
-    asked, wanted = held.run("SELECT table_read_at, table_wanted FROM signs WHERE id = ?", number)[0]
+    asked, wanted = database.run("SELECT table_read_at, table_wanted FROM signs WHERE id = ?", number)[0]
     return TableView(rows, time_of(asked), bool(wanted))

@@ -54,15 +54,15 @@ class User:
     is_disabled: bool = False
 
 
-def users(held: Database) -> list[User]:
+def users(database: Database) -> list[User]:
     """All, by their names."""
-    rows = held.run("SELECT name, role, disabled FROM users ORDER BY name")
+    rows = database.run("SELECT name, role, disabled FROM users ORDER BY name")
     return [User(str(name), Role.of(str(role)), bool(disabled)) for name, role, disabled in rows]
 
 
-def secret(held: Database, name: str) -> str | None:
+def secret(database: Database, name: str) -> str | None:
     """What is kept of the user's password; None where nobody of that name may log in."""
-    rows = held.run("SELECT secret FROM users WHERE name = ? AND disabled = 0", name)
+    rows = database.run("SELECT secret FROM users WHERE name = ? AND disabled = 0", name)
     return str(rows[0][0]) if rows else None
 
 
@@ -74,39 +74,43 @@ def checked(password: str) -> str:
     return passwords.secret_of(password)
 
 
-def add(held: Database, name: str, role: Role, password: str, who: str) -> None:
+def add(database: Database, name: str, role: Role, password: str, who: str) -> None:
     if not NAME.fullmatch(name):
         raise Refusal(NAMES)
     kept = checked(password)
     try:
-        with held.transaction():
-            held.run("INSERT INTO users (name, role, secret) VALUES (?, ?, ?)", name, role.word, kept)
-            note(held, who, f"user {name} is added, {role.word}")
+        with database.transaction():
+            database.run("INSERT INTO users (name, role, secret) VALUES (?, ?, ?)", name, role.word, kept)
+            note(database, who, f"user {name} is added, {role.word}")
     except Taken:
         raise Refusal(f"there is a user {name} already") from None
 
 
-def change(held: Database, name: str, column: str, value: str | int, who: str, what: str) -> None:
+def change(database: Database, name: str, column: str, value: str | int, who: str, what: str) -> None:
     """Changes a column of a user, and ends what he is logged in with. One administrator at least is left."""
-    with held.transaction(is_alone=True):
-        if not held.run(f"UPDATE users SET {column} = ? WHERE name = ? RETURNING name", value, name):
+    with database.transaction(is_alone=True):
+        if not database.run(f"UPDATE users SET {column} = ? WHERE name = ? RETURNING name", value, name):
             raise Refusal(f"there is no user {name}")
-        if column != "secret" and not held.run("SELECT name FROM users WHERE role = 'administrator' AND disabled = 0"):
+        if column != "secret" and not database.run(
+            "SELECT name FROM users WHERE role = 'administrator' AND disabled = 0"
+        ):
             raise Refusal("no administrator would be left")
-        held.run("UPDATE logins SET ended = {clock} WHERE name = ? AND ended IS NULL", name)
-        note(held, who, what)
+        database.run("UPDATE logins SET ended = {clock} WHERE name = ? AND ended IS NULL", name)
+        note(database, who, what)
 
 
-def change_password(held: Database, name: str, password: str, who: str) -> None:
-    change(held, name, "secret", checked(password), who, f"user {name} has another password")
+def change_password(database: Database, name: str, password: str, who: str) -> None:
+    change(database, name, "secret", checked(password), who, f"user {name} has another password")
 
 
-def change_role(held: Database, name: str, role: Role, who: str) -> None:
-    change(held, name, "role", role.word, who, f"user {name} is {role.word}")
+def change_role(database: Database, name: str, role: Role, who: str) -> None:
+    change(database, name, "role", role.word, who, f"user {name} is {role.word}")
 
 
-def disable(held: Database, name: str, is_disabled: bool, who: str) -> None:
-    change(held, name, "disabled", int(is_disabled), who, f"user {name} is {'disabled' if is_disabled else 'enabled'}")
+def disable(database: Database, name: str, is_disabled: bool, who: str) -> None:
+    change(
+        database, name, "disabled", int(is_disabled), who, f"user {name} is {'disabled' if is_disabled else 'enabled'}"
+    )
 
 
 def asked_password() -> str:
@@ -120,37 +124,37 @@ def asked_password() -> str:
 
 
 def arguments() -> argparse.ArgumentParser:
-    words = argparse.ArgumentParser(
+    parser = argparse.ArgumentParser(
         prog=called("wisangub-control users"),
         description=__doc__,
         formatter_class=argparse.RawDescriptionHelpFormatter,
     )
-    words.add_argument("--database", required=True, metavar="WHERE", help=database.WHERE)
-    words.add_argument("--create", action="store_true", help=database.CREATE)
-    calls = words.add_subparsers(dest="call", required=True, metavar="CALL")
+    parser.add_argument("--database", required=True, metavar="WHERE", help=database.WHERE)
+    parser.add_argument("--create", action="store_true", help=database.CREATE)
+    calls = parser.add_subparsers(dest="call", required=True, metavar="CALL")
     for name, wanted in (("add", 2), ("password", 1), ("role", 2), ("disable", 1), ("enable", 1), ("list", 0)):
         call = calls.add_parser(name)
         if wanted:
             call.add_argument("name", metavar="NAME")
         if wanted == 2:
             call.add_argument("role", metavar="ROLE")
-    return words
+    return parser
 
 
-def done(asked: argparse.Namespace, held: Database) -> None:
+def done(asked: argparse.Namespace, database: Database) -> None:
     """Does what was asked for."""
     who = f"{getpass.getuser()} at the machine"
     if asked.call == "list":
-        for user in users(held):
+        for user in users(database):
             tell(f"{user.name} {user.role.word}{' disabled' if user.is_disabled else ''}")
     elif asked.call == "add":
-        add(held, asked.name, Role.of(asked.role), asked_password(), who)
+        add(database, asked.name, Role.of(asked.role), asked_password(), who)
     elif asked.call == "password":
-        change_password(held, asked.name, asked_password(), who)
+        change_password(database, asked.name, asked_password(), who)
     elif asked.call == "role":
-        change_role(held, asked.name, Role.of(asked.role), who)
+        change_role(database, asked.name, Role.of(asked.role), who)
     else:
-        disable(held, asked.name, asked.call == "disable", who)
+        disable(database, asked.name, asked.call == "disable", who)
 
 
 def main() -> int:

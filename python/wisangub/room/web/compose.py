@@ -48,12 +48,12 @@ def marked(text: str, offset: int) -> tuple[str, str, str]:
 async def looks(service: Service, signs: tuple[int, ...], text: str) -> list[Look]:
     """The text on each face of the signs."""
     of: dict[str, list[int]] = {}
-    for row in signs:
-        of.setdefault(service.faces[row].key, []).append(row)
+    for sign_id in signs:
+        of.setdefault(service.faces[sign_id].key, []).append(sign_id)
     fault = drafts.text_fault(text)
     made = []
     for key, rows in of.items():
-        face, names = service.by_key[key], tuple(service.signs[row].name for row in rows)
+        face, names = service.by_key[key], tuple(service.signs[sign_id].name for sign_id in rows)
         octets = text.encode("latin-1", "replace")
         found = Picture(None, fault[1], fault[0]) if fault else await service.pictures.of(face, octets)
         if found.is_good:
@@ -72,7 +72,7 @@ async def look(request: web.Request) -> web.Response:
     try:
         held: Any = json.loads(await request.text())
         text = drafts.joined(str(held["text"]))[:4096]
-        signs = tuple(row for row in map(int, held["signs"][:MOST_SIGNS]) if row in service.signs)
+        signs = tuple(sign_id for sign_id in map(int, held["signs"][:MOST_SIGNS]) if sign_id in service.signs)
     except (ValueError, KeyError, TypeError):
         raise web.HTTPBadRequest(text="This is no text and list of signs.") from None
     found = await looks(service, signs, text)
@@ -98,7 +98,7 @@ async def look(request: web.Request) -> web.Response:
 
 
 def choice(service: Service) -> list[tuple[str, int]]:
-    return [(sign.name, row) for row, sign in service.signs.items()]
+    return [(sign.name, sign_id) for sign_id, sign in service.signs.items()]
 
 
 async def answer(request: web.Request, draft: Draft, status: int = 200) -> web.Response:
@@ -106,7 +106,7 @@ async def answer(request: web.Request, draft: Draft, status: int = 200) -> web.R
     service = service_of(request)
     found = await looks(service, draft.signs, draft.text) if draft.text and draft.signs else []
     now = await service.connections.run(queries.now)
-    faces = [service.faces[row] for row in draft.signs] or list(service.faces.values())
+    faces = [service.faces[sign_id] for sign_id in draft.signs] or list(service.faces.values())
     return service.page(
         request,
         "compose.html",
@@ -167,9 +167,9 @@ def warning(sign: SignView, draft: Draft, now: float) -> str:
     return ""
 
 
-def lines(service: Service, held: Database, draft: Draft, text: bytes) -> tuple[list[Line], float]:
-    found = [queries.sign(held, row) for row in draft.signs]
-    now = queries.now(held)
+def lines(service: Service, database: Database, draft: Draft, text: bytes) -> tuple[list[Line], float]:
+    found = [queries.sign(database, sign_id) for sign_id in draft.signs]
+    now = queries.now(database)
     return [
         Line(
             sign,
@@ -185,7 +185,7 @@ def lines(service: Service, held: Database, draft: Draft, text: bytes) -> tuple[
 async def confirmation(request: web.Request, draft: Draft, text: bytes) -> web.Response:
     """The last page before it is asked for."""
     service = service_of(request)
-    found, now = await service.connections.run(lambda held: lines(service, held, draft, text))
+    found, now = await service.connections.run(lambda database: lines(service, database, draft, text))
     return service.page(
         request,
         "confirm.html",
@@ -222,7 +222,7 @@ async def row(request: web.Request) -> web.Response:
     draft = drafts.read(request.query, service.faces, "activate")
     if draft.faults or len(draft.signs) != 1:
         raise web.HTTPBadRequest(text="This is no row of one sign.")
-    last = await service.connections.run(lambda held: queries.table(held, draft.signs[0]))
+    last = await service.connections.run(lambda database: queries.table(database, draft.signs[0]))
     found = [one for one in last.rows if (one.memory, one.number) == (draft.memory, draft.number)]
     if not found or found[0].status != 4:
         raise web.HTTPNotFound(text="The sign's table, as it was last read, has no valid message there.")

@@ -78,7 +78,7 @@ class Form:
         """The signs that were chosen, each once."""
         words = self.many("sign", []) if self.many else []
         found = [int(word) for word in dict.fromkeys(words) if isinstance(word, str) and NUMBER.fullmatch(word)]
-        found = [row for row in found if row in known]
+        found = [sign_id for sign_id in found if sign_id in known]
         if not found:
             self.faults["sign"] = "Choose at least one sign."
         return tuple(found)
@@ -106,7 +106,7 @@ def read(fields: Any, faces: Mapping[int, Face], kind: str = "publish") -> Draft
     """What a form says."""
     form = Form(fields)
     signs = form.signs(faces)
-    of = [faces[row] for row in signs]
+    of = [faces[sign_id] for sign_id in signs]
     memory = form.number("memory", 2 if kind == "activate" else CHANGEABLE, VOLATILE, CHANGEABLE, "A memory")
     least = min([255 if kind == "blank" else face.most(memory) or 16 for face in of], default=1)
     draft = Draft(

@@ -63,9 +63,9 @@ class Hub:
         found = VIEW.fullmatch(view)
         assert found is not None
         if found[1] is None:
-            return lambda held: wall.parts(self.service, held)
-        of, row = OF[found[1]], int(found[2])
-        return lambda held: of(self.service, held, row)
+            return lambda database: wall.parts(self.service, database)
+        of, sign_id = OF[found[1]], int(found[2])
+        return lambda database: of(self.service, database, sign_id)
 
     async def run(self) -> None:
         """For ever."""
@@ -89,7 +89,7 @@ class Hub:
     async def look(self) -> None:
         """What has changed goes to those who listen to it."""
         await self.tell_time()
-        mark, now = await self.connections.run(lambda held: held.mark()), time.monotonic()
+        mark, now = await self.connections.run(lambda database: database.mark()), time.monotonic()
         watched = {stream.view for stream in self.streams}
         is_new = mark != self.mark or now - self.looked > AGES
         self.last = {view: parts for view, parts in self.last.items() if view in watched}
@@ -160,7 +160,7 @@ async def told(service: Service, stream: Stream) -> bytes | None:
         words = b": here\n\n"
     now = time.monotonic()
     if words is not None and now - stream.looked >= SILENCE:
-        if await service.connections.run(lambda held: logins.find(held, stream.login)) is None:
+        if await service.connections.run(lambda database: logins.find(database, stream.login)) is None:
             return None
         stream.looked = now
     return words

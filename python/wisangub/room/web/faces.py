@@ -103,4 +103,4 @@ def faces_of(signs: dict[int, Sign], program: str) -> dict[int, Face]:
         if sign.text not in seen:
             check(sign, program)
         seen.add(sign.text)
-    return {row: face_of(sign) for row, sign in signs.items()}
+    return {sign_id: face_of(sign) for sign_id, sign in signs.items()}

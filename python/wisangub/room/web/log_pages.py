@@ -49,14 +49,14 @@ def told(mib: Mib, octets: bytes, communities: tuple[bytes, ...]) -> dict[str, A
     return fields
 
 
-def entries(service: Service, row: int, lines: list[Line]) -> list[Entry]:
+def entries(service: Service, sign_id: int, lines: list[Line]) -> list[Entry]:
     """The events of a centre's last lines."""
-    sign = service.signs[row]
+    sign = service.signs[sign_id]
     try:
         handed = replayed(service.settings.program, sign, lines)
     except (Refusal, OSError) as fault:
         raise web.HTTPServiceUnavailable(text=f"What went out cannot be told now: {fault}") from fault
-    return [one for line in handed[-MOST:] for one in events_of(service.mib, sign, service.faces[row], line)]
+    return [one for line in handed[-MOST:] for one in events_of(service.mib, sign, service.faces[sign_id], line)]
 
 
 def events_of(mib: Mib, sign: Sign, face: Face, handed: Handed) -> list[Entry]:
@@ -79,13 +79,13 @@ def events_of(mib: Mib, sign: Sign, face: Face, handed: Handed) -> list[Entry]:
 
 
 async def log(request: web.Request) -> web.Response:
-    service, row, before = service_of(request), sign_of(request), number_of(request, "before")
+    service, sign_id, before = service_of(request), sign_of(request), number_of(request, "before")
 
-    def found(held: Database) -> tuple[SignView | None, list[Line], float]:
-        return queries.sign(held, row), history.centre_lines(held, row, before), queries.now(held)
+    def found(database: Database) -> tuple[SignView | None, list[Line], float]:
+        return queries.sign(database, sign_id), history.centre_lines(database, sign_id, before), queries.now(database)
 
     sign, lines, now = await service.connections.run(found)
-    said = await service.connections.work(lambda: entries(service, row, lines))
+    said = await service.connections.work(lambda: entries(service, sign_id, lines))
     first = said[0].number if said else 1
     return service.page(
         request,

@@ -37,7 +37,7 @@ def hidden(word: str) -> str:
     return hashlib.sha256(word.encode()).hexdigest()
 
 
-def attempt(held: Database, name: str, address: str) -> int | None:
+def attempt(database: Database, name: str, address: str) -> int | None:
     """The number of an attempt, which counts as failed until it is taken back; None where there were too many. Each is
     counted before its password is looked at, so that many at once are no way around."""
     since = "at > {clock} - ?"
@@ -46,39 +46,41 @@ def attempt(held: Database, name: str, address: str) -> int | None:
         ("address = ?", (address,), MOST_OF_ADDRESS),
         ("name = ?", (hidden(name),), MOST_OF_NAME),
     )
-    with held.transaction(is_alone=True):
-        held.run(
+    with database.transaction(is_alone=True):
+        database.run(
             "DELETE FROM failed_logins WHERE at < {clock} - ? OR at > {clock} + ?", KEPT, SLACK
         )  # the clock jumped
         for where, values, most in counts:
-            found = held.run(f"SELECT count(*) FROM failed_logins WHERE {where} AND {since}", *values, WINDOW)
+            found = database.run(f"SELECT count(*) FROM failed_logins WHERE {where} AND {since}", *values, WINDOW)
             if int(found[0][0] or 0) >= most:
                 return None
-        rows = held.run(
+        rows = database.run(
             "INSERT INTO failed_logins (at, name, address) VALUES ({clock}, ?, ?) RETURNING id", hidden(name), address
         )
         return int(rows[0][0] or 0)
 
 
-def failed(held: Database, name: str, address: str) -> None:
+def failed(database: Database, name: str, address: str) -> None:
     """The audit of a log-in with a wrong password; a name that is nobody's may be a password, and is not kept."""
-    if held.run("SELECT name FROM users WHERE name = ?", name):
-        note(held, name, f"a log-in failed, from {address}")
+    if database.run("SELECT name FROM users WHERE name = ?", name):
+        note(database, name, f"a log-in failed, from {address}")
 
 
-def begin(held: Database, name: str, address: str) -> str:
+def begin(database: Database, name: str, address: str) -> str:
     """A log-in: what its cookie says. The user's failed ones from this address are forgotten."""
     made = secrets.token_urlsafe(24)
-    with held.transaction():
-        held.run("DELETE FROM failed_logins WHERE name = ? AND address = ?", hidden(name), address)
-        held.run("INSERT INTO logins (id, name, address, begun) VALUES (?, ?, ?, {clock})", hidden(made), name, address)
-        note(held, name, f"logged in, from {address}")
+    with database.transaction():
+        database.run("DELETE FROM failed_logins WHERE name = ? AND address = ?", hidden(name), address)
+        database.run(
+            "INSERT INTO logins (id, name, address, begun) VALUES (?, ?, ?, {clock})", hidden(made), name, address
+        )
+        note(database, name, f"logged in, from {address}")
     return made
 
 
-def find(held: Database, cookie: str) -> Visitor | None:
+def find(database: Database, cookie: str) -> Visitor | None:
     """Who a cookie is of, where its log-in has not ended. One that begins at a time to come has: the clock jumped."""
-    rows = held.run(
+    rows = database.run(
         "SELECT users.name, users.role FROM logins JOIN users ON users.name = logins.name"
         " WHERE logins.id = ? AND logins.ended IS NULL AND logins.begun > {clock} - ?"
         " AND logins.begun <= {clock} + ? AND users.disabled = 0",
@@ -89,8 +91,8 @@ def find(held: Database, cookie: str) -> Visitor | None:
     return Visitor(str(rows[0][0]), Role.of(str(rows[0][1])), cookie) if rows else None
 
 
-def end(held: Database, visitor: Visitor) -> None:
+def end(database: Database, visitor: Visitor) -> None:
     """Logs out."""
-    with held.transaction():
-        held.run("UPDATE logins SET ended = {clock} WHERE id = ? AND ended IS NULL", hidden(visitor.login))
-        note(held, visitor.name, "logged out")
+    with database.transaction():
+        database.run("UPDATE logins SET ended = {clock} WHERE id = ? AND ended IS NULL", hidden(visitor.login))
+        note(database, visitor.name, "logged out")

@@ -29,18 +29,18 @@ async def change(request: web.Request) -> web.Response:
     fields = {key: str(value) for key, value in (await request.post()).items()}
     name, do = fields.get("name", "").strip(), fields.get("do", "")
 
-    def done(held: Database) -> str:
+    def done(database: Database) -> str:
         if do == "add":
-            users.add(held, name, Role.of(fields.get("role", "")), fields.get("password", ""), who)
+            users.add(database, name, Role.of(fields.get("role", "")), fields.get("password", ""), who)
             return f"{name} was added."
         if do == "role":
-            users.change_role(held, name, Role.of(fields.get("role", "")), who)
+            users.change_role(database, name, Role.of(fields.get("role", "")), who)
             return f"{name} has another role."
         if do == "password":
-            users.change_password(held, name, fields.get("password", ""), who)
+            users.change_password(database, name, fields.get("password", ""), who)
             return f"{name} has another password."
         if do in ("disable", "enable"):
-            users.disable(held, name, do == "disable", who)
+            users.disable(database, name, do == "disable", who)
             return f"{name} may {'no longer' if do == 'disable' else 'now'} log in."
         raise Refusal("nothing was asked for")
 
@@ -69,7 +69,7 @@ async def own_password(request: web.Request) -> web.StreamResponse:
     if new != again:
         return account_page(request, "Nothing was changed: the two new passwords differ.", 422)
     try:
-        await service.connections.run(lambda held: users.change_password(held, visitor.name, new, visitor.name))
+        await service.connections.run(lambda database: users.change_password(database, visitor.name, new, visitor.name))
     except Refusal as refused:
         return account_page(request, f"Nothing was changed: {refused}.", 422)
     raise web.HTTPSeeOther("/login")

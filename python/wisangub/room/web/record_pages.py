@@ -31,11 +31,11 @@ async def history_page(request: web.Request) -> web.Response:
         MOST,
     )
 
-    def found(held: Database) -> tuple[list[queries.CommandView], list[str], float]:
-        return queries.commands(held, wanted), history.people(held), queries.now(held)
+    def found(database: Database) -> tuple[list[queries.CommandView], list[str], float]:
+        return queries.commands(database, wanted), history.people(database), queries.now(database)
 
     rows, people, now = await service.connections.run(found)
-    signs = sorted((sign.name, row) for row, sign in service.signs.items())
+    signs = sorted((sign.name, sign_id) for sign_id, sign in service.signs.items())
     return service.page(
         request, "history.html", rows=rows, people=people, now=now, wanted=wanted, signs=signs, is_last=len(rows) < MOST
     )
@@ -58,10 +58,10 @@ def outcome_word(service: Service, outcome: str) -> str:
 
 
 async def ledger(request: web.Request) -> web.Response:
-    service, row = service_of(request), sign_of(request)
+    service, sign_id = service_of(request), sign_of(request)
 
-    def found(held: Database) -> tuple[SignView | None, list[tuple[int, str, str, float]], float]:
-        return queries.sign(held, row), history.ledger(held, row), queries.now(held)
+    def found(database: Database) -> tuple[SignView | None, list[tuple[int, str, str, float]], float]:
+        return queries.sign(database, sign_id), history.ledger(database, sign_id), queries.now(database)
 
     sign, rows, now = await service.connections.run(found)
     entries = [(number, code_words(code), outcome_word(service, outcome), at) for number, code, outcome, at in rows]
@@ -69,21 +69,21 @@ async def ledger(request: web.Request) -> web.Response:
 
 
 async def shown(request: web.Request) -> web.Response:
-    service, row = service_of(request), sign_of(request)
+    service, sign_id = service_of(request), sign_of(request)
 
-    def found(held: Database) -> tuple[SignView | None, list[history.ReadingView], float]:
-        return queries.sign(held, row), history.readings(held, row), queries.now(held)
+    def found(database: Database) -> tuple[SignView | None, list[history.ReadingView], float]:
+        return queries.sign(database, sign_id), history.readings(database, sign_id), queries.now(database)
 
     sign, rows, now = await service.connections.run(found)
-    said = [(one, service.picture(row, one.shown.text) if one.shown else None) for one in rows]
+    said = [(one, service.picture(sign_id, one.shown.text) if one.shown else None) for one in rows]
     return service.page(request, "shown.html", sign=sign, rows=said, now=now, tab="shown")
 
 
 async def audit(request: web.Request) -> web.Response:
     service, before = service_of(request), number_of(request, "before")
 
-    def found(held: Database) -> tuple[list[tuple[int, float, str, str]], float]:
-        return history.audit(held, before), queries.now(held)
+    def found(database: Database) -> tuple[list[tuple[int, float, str, str]], float]:
+        return history.audit(database, before), queries.now(database)
 
     rows, now = await service.connections.run(found)
     lines = [(number, at, who, words.audit_words(what)) for number, at, who, what in rows]

@@ -32,15 +32,15 @@ async def prepare(_: web.Request, response: web.StreamResponse) -> None:
     response.headers.setdefault("Cache-Control", "no-store")
 
 
-def key_of(held: Database, name: str = "cookies") -> bytes:
+def key_of(database: Database, name: str = "cookies") -> bytes:
     """The key of the signatures, made once for all processes of the database."""
-    rows = held.run("SELECT value FROM keys WHERE name = ?", name)
+    rows = database.run("SELECT value FROM keys WHERE name = ?", name)
     if not rows:
         try:
-            held.run("INSERT INTO keys (name, value) VALUES (?, ?)", name, secrets.token_hex(32))
+            database.run("INSERT INTO keys (name, value) VALUES (?, ?)", name, secrets.token_hex(32))
         except Taken:
             pass
-        rows = held.run("SELECT value FROM keys WHERE name = ?", name)
+        rows = database.run("SELECT value FROM keys WHERE name = ?", name)
     return bytes.fromhex(str(rows[0][0]))
 
 

@@ -51,10 +51,10 @@ async def send(request: web.Request) -> web.StreamResponse:
     if not await is_drawn(service, draft):
         return await compose.answer(request, draft, 422)
 
-    def done(held: Database) -> int:
-        signs = [(row, service.signs[row]) for row in draft.signs]
-        lines = [(row, draft.line(visitor.name, own_address(sign))) for row, sign in signs]
-        return Store(held).ask_all(lines, visitor.name, asked(lines[0][1]).what, confirmation)
+    def done(database: Database) -> int:
+        signs = [(sign_id, service.signs[sign_id]) for sign_id in draft.signs]
+        lines = [(sign_id, draft.line(visitor.name, own_address(sign))) for sign_id, sign in signs]
+        return Store(database).ask_all(lines, visitor.name, asked(lines[0][1]).what, confirmation)
 
     raise web.HTTPSeeOther(f"/batches/{await service.connections.run(done)}")
 
@@ -67,27 +67,27 @@ class Part:
     picture: str | None
 
 
-def parts_of(service: Service, held: Database, number: int) -> tuple[Batch | None, list[Part], float]:
-    found = history.batch(held, number)
+def parts_of(service: Service, database: Database, number: int) -> tuple[Batch | None, list[Part], float]:
+    found = history.batch(database, number)
     made = []
     for command in found.commands if found else []:
         line = asked(command.line)
         picture = service.picture(command.sign, line.text) if line.kind in ("publish", "blank") else None
         made.append(Part(command, picture))
-    return found, made, queries.now(held)
+    return found, made, queries.now(database)
 
 
 async def batch(request: web.Request) -> web.Response:
     service, number = service_of(request), int(request.match_info["batch"])
-    found, made, now = await service.connections.run(lambda held: parts_of(service, held, number))
+    found, made, now = await service.connections.run(lambda database: parts_of(service, database, number))
     if found is None:
         raise web.HTTPNotFound(text="Nothing of this number was asked for.")
     return service.page(request, "batch.html", batch=found, parts=made, now=now, view=f"batch/{number}")
 
 
-def parts(service: Service, held: Database, number: int) -> dict[str, str]:
+def parts(service: Service, database: Database, number: int) -> dict[str, str]:
     """What an event may replace."""
-    _, made, _ = parts_of(service, held, number)
+    _, made, _ = parts_of(service, database, number)
     return {f"command-{one.command.id}": service.part("parts.html", "part", one) for one in made} | {
         "summary": service.part("parts.html", "summary", made)
     }
@@ -97,6 +97,6 @@ async def withdraw(request: web.Request) -> web.StreamResponse:
     """Ends a command that waits for its turn; one that was begun goes on."""
     service, visitor, number = service_of(request), visitor_of(request), int(request.match_info["command"])
 
-    if not await service.connections.run(lambda held: Store(held).withdraw(number, visitor.name)):
+    if not await service.connections.run(lambda database: Store(database).withdraw(number, visitor.name)):
         raise web.HTTPConflict(text="This command was begun, or has ended: it cannot be withdrawn.")
     raise web.HTTPSeeOther("/history?outcome=open")

@@ -34,7 +34,7 @@ class Service:
         self.settings = settings
         self.connections = Connections(settings.database, settings.threads)
         held = self.connections.held()
-        rows = {sign.name: row for row, sign in Store(held).enter(signs).items()}
+        rows = {sign.name: sign_id for sign_id, sign in Store(held).enter(signs).items()}
         self.signs = {rows[sign.name]: sign for sign in signs}  # in the fleet's order
         self.faces = faces_of(self.signs, settings.program)
         self.by_key = {face.key: face for face in self.faces.values()}
@@ -93,13 +93,13 @@ class Service:
 
     # ---- what pages ask for
 
-    def face(self, row: int) -> Face | None:
+    def face(self, sign_id: int) -> Face | None:
         """A sign's face; None for one of another fleet."""
-        return self.faces.get(row)
+        return self.faces.get(sign_id)
 
-    def picture(self, row: int, text: bytes) -> str | None:
+    def picture(self, sign_id: int, text: bytes) -> str | None:
         """Where the picture of a text on a sign is."""
-        face = self.faces.get(row)
+        face = self.faces.get(sign_id)
         return f"/pictures/{face.key}/{text.hex() or '-'}.svg" if face else None
 
     def close(self) -> None:
@@ -122,7 +122,7 @@ def visitor_of(request: web.Request) -> Visitor:
 
 def sign_of(request: web.Request) -> int:
     """The sign that the address names."""
-    row = int(request.match_info["sign"])
-    if row not in service_of(request).signs:
+    sign_id = int(request.match_info["sign"])
+    if sign_id not in service_of(request).signs:
         raise web.HTTPNotFound(text="There is no such sign in the fleet.")
-    return row
+    return sign_id

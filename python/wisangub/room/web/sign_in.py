@@ -44,7 +44,7 @@ async def form(request: web.Request) -> web.Response:
 
 async def is_right(service: Service, name: str, password: str) -> bool:
     """Whether somebody of this name has this password; it takes the same time where there is nobody."""
-    kept = await service.connections.run(lambda held: users.secret(held, name))
+    kept = await service.connections.run(lambda database: users.secret(database, name))
     async with ONE_AT_A_TIME:
         found = await asyncio.to_thread(lambda: passwords.is_password(password, kept or passwords.nobody()))
     return found and kept is not None
@@ -59,14 +59,14 @@ async def log_in(request: web.Request) -> web.StreamResponse:
     if before is None or not await service.seal.is_own(request, before):
         return shown(request, then, "This form was open for too long, or cookies are off. Please try again.", 403, name)
     of = address_of(request, service.settings.is_behind_tls)
-    if await service.connections.run(lambda held: logins.attempt(held, name, of)) is None:
+    if await service.connections.run(lambda database: logins.attempt(database, name, of)) is None:
         answer = shown(request, then, "Too many log-ins failed. Please try again in five minutes.", 429, name)
         answer.headers["Retry-After"] = str(logins.WINDOW)
         return answer
     if not await is_right(service, name, password):
-        await service.connections.run(lambda held: logins.failed(held, name, of))
+        await service.connections.run(lambda database: logins.failed(database, name, of))
         return shown(request, then, "This name and this password do not go together.", 403, name)
-    cookie = await service.connections.run(lambda held: logins.begin(held, name, of))
+    cookie = await service.connections.run(lambda database: logins.begin(database, name, of))
     answer = web.Response(status=303, headers={"Location": then})
     service.seal.set(answer, "login", cookie, logins.LASTS)
     service.seal.drop(answer, BEFORE)
@@ -75,7 +75,7 @@ async def log_in(request: web.Request) -> web.StreamResponse:
 
 async def log_out(request: web.Request) -> web.StreamResponse:
     service, visitor = service_of(request), visitor_of(request)
-    await service.connections.run(lambda held: logins.end(held, visitor))
+    await service.connections.run(lambda database: logins.end(database, visitor))
     answer = web.Response(status=303, headers={"Location": "/login"})
     service.seal.drop(answer, "login")
     return answer

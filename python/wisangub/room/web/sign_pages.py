@@ -25,33 +25,33 @@ class Overview:
     now: float
 
 
-def overviewed(service: Service, held: Database, row: int) -> Overview:
-    sign = queries.sign(held, row)
+def overviewed(service: Service, database: Database, sign_id: int) -> Overview:
+    sign = queries.sign(database, sign_id)
     assert sign is not None
-    now = queries.now(held)
-    commands = queries.commands(held, Wanted(sign=row, most=FEW))
-    picture = service.picture(row, sign.shown.text) if sign.shown else None
+    now = queries.now(database)
+    commands = queries.commands(database, Wanted(sign=sign_id, most=FEW))
+    picture = service.picture(sign_id, sign.shown.text) if sign.shown else None
     return Overview(sign, picture, sign.is_stale(now), commands, now)
 
 
 async def overview(request: web.Request) -> web.Response:
-    service, row = service_of(request), sign_of(request)
-    found = await service.connections.run(lambda held: overviewed(service, held, row))
+    service, sign_id = service_of(request), sign_of(request)
+    found = await service.connections.run(lambda database: overviewed(service, database, sign_id))
     return service.page(
         request,
         "sign.html",
         it=found,
         sign=found.sign,
         now=found.now,
-        face=service.faces[row],
+        face=service.faces[sign_id],
         tab="overview",
-        view=f"sign/{row}",
+        view=f"sign/{sign_id}",
     )
 
 
-def parts(service: Service, held: Database, row: int) -> dict[str, str]:
+def parts(service: Service, database: Database, sign_id: int) -> dict[str, str]:
     """What an event may replace."""
-    found = overviewed(service, held, row)
+    found = overviewed(service, database, sign_id)
     return {
         "shown": service.part("parts.html", "shown", found),
         "commands": service.part("parts.html", "commands", found),
@@ -59,23 +59,23 @@ def parts(service: Service, held: Database, row: int) -> dict[str, str]:
 
 
 async def table(request: web.Request) -> web.Response:
-    service, row = service_of(request), sign_of(request)
+    service, sign_id = service_of(request), sign_of(request)
 
-    def found(held: Database) -> tuple[SignView | None, TableView, float]:
-        return queries.sign(held, row), queries.table(held, row), queries.now(held)
+    def found(database: Database) -> tuple[SignView | None, TableView, float]:
+        return queries.sign(database, sign_id), queries.table(database, sign_id), queries.now(database)
 
     sign, held, now = await service.connections.run(found)
-    return service.page(request, "table.html", sign=sign, table=held, now=now, tab="table", view=f"table/{row}")
+    return service.page(request, "table.html", sign=sign, table=held, now=now, tab="table", view=f"table/{sign_id}")
 
 
-def table_parts(service: Service, held: Database, row: int) -> dict[str, str]:
+def table_parts(service: Service, database: Database, sign_id: int) -> dict[str, str]:
     """What an event may replace."""
-    sign = queries.sign(held, row)
-    return {"table": service.part("parts.html", "table", sign, queries.table(held, row))}
+    sign = queries.sign(database, sign_id)
+    return {"table": service.part("parts.html", "table", sign, queries.table(database, sign_id))}
 
 
 async def read_table(request: web.Request) -> web.StreamResponse:
     """Has a worker read the table before its time."""
-    service, row = service_of(request), sign_of(request)
-    await service.connections.run(lambda held: Store(held).want_table(row))
-    raise web.HTTPSeeOther(f"/signs/{row}/table")
+    service, sign_id = service_of(request), sign_of(request)
+    await service.connections.run(lambda database: Store(database).want_table(sign_id))
+    raise web.HTTPSeeOther(f"/signs/{sign_id}/table")

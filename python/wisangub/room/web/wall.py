@@ -46,27 +46,27 @@ def card(service: Service, sign: SignView, now: float, open_: list[CommandView])
     return Card(sign, picture, sign.is_stale(now), command, step, len(open_), service.faces[sign.id].width > WIDE)
 
 
-def cards(service: Service, held: Database) -> tuple[list[Card], float]:
+def cards(service: Service, database: Database) -> tuple[list[Card], float]:
     """All signs of the fleet, and the database's time."""
-    open_ = queries.under_way(held)
+    open_ = queries.under_way(database)
     of: dict[int, list[CommandView]] = {}
     for command in open_:
         of.setdefault(command.sign, []).append(command)
-    known = {sign.id: sign for sign in queries.signs(held)}
-    now = queries.now(held)  # after what it is compared with
-    found = [known[row] for row in service.signs if row in known]
+    known = {sign.id: sign for sign in queries.signs(database)}
+    now = queries.now(database)  # after what it is compared with
+    found = [known[sign_id] for sign_id in service.signs if sign_id in known]
     return [card(service, sign, now, of.get(sign.id, [])) for sign in found], now
 
 
 async def wall(request: web.Request) -> web.Response:
     service = service_of(request)
-    found, now = await service.connections.run(lambda held: cards(service, held))
+    found, now = await service.connections.run(lambda database: cards(service, database))
     return service.page(request, "wall.html", cards=found, now=now, view="wall")
 
 
-def parts(service: Service, held: Database) -> dict[str, str]:
+def parts(service: Service, database: Database) -> dict[str, str]:
     """What an event may replace: each card."""
-    found, _ = cards(service, held)
+    found, _ = cards(service, database)
     return {f"sign-{one.sign.id}": service.card(one) for one in found} | {
         "counts": service.part("parts.html", "counts", found)
     }

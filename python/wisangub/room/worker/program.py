@@ -30,24 +30,24 @@ def seconds(word: str) -> float:
 
 
 def arguments() -> argparse.ArgumentParser:
-    words = argparse.ArgumentParser(
+    parser = argparse.ArgumentParser(
         prog=called("wisangub-control worker"),
         description=__doc__,
         formatter_class=argparse.RawDescriptionHelpFormatter,
     )
-    words.add_argument("--fleet", required=True, metavar="FILE", help="the signs, as in signs/fleet.toml")
-    words.add_argument("--database", required=True, metavar="WHERE", help=database.WHERE)
-    words.add_argument("--create", action="store_true", help=database.CREATE)
-    words.add_argument("--signtool", default=str(SIGNTOOL), metavar="PATH")
-    words.add_argument("--tick", type=seconds, default=Pace.tick, metavar="SECONDS", help="from tick to tick")
-    words.add_argument(
+    parser.add_argument("--fleet", required=True, metavar="FILE", help="the signs, as in signs/fleet.toml")
+    parser.add_argument("--database", required=True, metavar="WHERE", help=database.WHERE)
+    parser.add_argument("--create", action="store_true", help=database.CREATE)
+    parser.add_argument("--signtool", default=str(SIGNTOOL), metavar="PATH")
+    parser.add_argument("--tick", type=seconds, default=Pace.tick, metavar="SECONDS", help="from tick to tick")
+    parser.add_argument(
         "--lease",
         type=seconds,
         default=Pace.lease,
         metavar="SECONDS",
         help="after which another worker goes on where this one fell silent",
     )
-    return words
+    return parser
 
 
 def main() -> int:

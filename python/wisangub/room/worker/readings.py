@@ -43,18 +43,18 @@ class Readings:
     def begin(self) -> None:
         """Sends a Get to each sign whose reading is due; a sign of another fleet is let be."""
         room = max(0, self.most - len(self.gets.waiting))
-        due = [row for row in self.store.to_read() if row in self.signs][:room]
-        for row, number in self.store.due(due):
-            self.gets.begin(self.signs[row], number, list(self.asked.values()), partial(self.end, row, number))
+        due = [sign_id for sign_id in self.store.to_read() if sign_id in self.signs][:room]
+        for sign_id, number in self.store.due(due):
+            self.gets.begin(self.signs[sign_id], number, list(self.asked.values()), partial(self.end, sign_id, number))
 
-    def end(self, row: int, number: int, values: Values | str) -> None:
+    def end(self, sign_id: int, number: int, values: Values | str) -> None:
         """What came of it: the minutes that are left and what is shown, or why there is none of it."""
         if isinstance(values, str):
-            self.said.append(Said(row, number, fault=values))
+            self.said.append(Said(sign_id, number, fault=values))
             return
         held = dict(zip(self.asked, values))
         minutes = held.pop(MINUTES)
-        self.said.append(Said(row, number, minutes if isinstance(minutes, int) else None, json.dumps(held)))
+        self.said.append(Said(sign_id, number, minutes if isinstance(minutes, int) else None, json.dumps(held)))
 
     def keep(self) -> None:
         """Puts what was said since the last time into the database."""

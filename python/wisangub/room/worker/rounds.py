@@ -61,8 +61,8 @@ class Worker:
         """Until it is stopped."""
         while not self.waiting.is_stopped:
             self.guarded_round()
-        for row in list(self.sessions):
-            self.drop(row)
+        for sign_id in list(self.sessions):
+            self.drop(sign_id)
         try:
             self.release()
         except (Failed, Taken) as fault:
@@ -116,10 +116,10 @@ class Worker:
             session.door.fileno() for session in self.sessions.values() if session.is_busy and session.ready_at <= now
         ]
         due = [self.next_look, self.next_renewal]
-        for row, session in self.sessions.items():
+        for sign_id, session in self.sessions.items():
             if session.ready_at > now or not session.is_busy:
                 due.append(session.ready_at)
-            due.append(max(self.ticks[row], session.ready_at))
+            due.append(max(self.ticks[sign_id], session.ready_at))
         for file in self.waiting.until([*doors, *self.gets.waiting], max(0.0, min(due) - now)):
             if file in self.gets.waiting:
                 self.gets.heard(file)
@@ -128,26 +128,26 @@ class Worker:
         """The next line of each sign that has one; a sign without work is let go."""
         offers: list[Offer] = []
         now = time.monotonic()
-        for row, session in list(self.sessions.items()):
+        for sign_id, session in list(self.sessions.items()):
             if session.ready_at > now:
                 continue
-            line = session.offer(now >= self.ticks[row])
+            line = session.offer(now >= self.ticks[sign_id])
             if line is not None:
                 offers.append((session, line))
-                self.tick_later(row, line.text, now)
+                self.tick_later(sign_id, line.text, now)
             elif not session.is_busy:
-                self.drop(row)
+                self.drop(sign_id)
         if offers:
             self.carried(offers)
         self.release()
 
-    def tick_later(self, row: int, line: bytes, now: float) -> None:
+    def tick_later(self, sign_id: int, line: bytes, now: float) -> None:
         """The next tick is one after the last, or after the line that a command begins with; ticks that were missed do
         not come in a row."""
         if line == b"tick":
-            self.ticks[row] = max(self.ticks[row] + self.pace.tick, now + self.pace.tick / 2)
-        elif not self.sessions[row].is_busy:
-            self.ticks[row] = now + self.pace.tick
+            self.ticks[sign_id] = max(self.ticks[sign_id] + self.pace.tick, now + self.pace.tick / 2)
+        elif not self.sessions[sign_id].is_busy:
+            self.ticks[sign_id] = now + self.pace.tick
 
     def carried(self, offers: list[Offer]) -> None:
         """Carries lines; where it is not known what the database did, their lines say where the next worker goes
@@ -155,61 +155,61 @@ class Worker:
         try:
             carry(self.store, self.name, offers, self.dropped)
             for session, _ in offers:
-                self.verdicts.want(session.row, session.taken_in_error())
+                self.verdicts.want(session.sign_id, session.taken_in_error())
         except (Failed, Taken):
             for session, _ in offers:
-                self.drop(session.row)
+                self.drop(session.sign_id)
             raise
 
     def dropped(self, session: Session, fault: Exception | None) -> None:
         """A session that is no more: where something failed, its lease keeps others from it for a while."""
         if fault is not None:
             say(f"{session.sign.name}: {fault}")
-        self.drop(session.row, is_released=fault is None)
+        self.drop(session.sign_id, is_released=fault is None)
 
     # ---- leases
 
     def move(self) -> None:
         """Lets signs go that stand still from now on, or are at another address: they begin again where they are."""
-        for row in self.where.look():
-            self.drop(row)
+        for sign_id in self.where.look():
+            self.drop(sign_id)
 
     def lease(self) -> None:
         """Takes signs that have work and that nobody drives; looks again soon where there are more of them."""
         room = min(BEGUN_AT_ONCE, self.pace.most - len(self.sessions))
-        free = [row for row in self.store.with_work() if row in self.signs and row not in self.sessions]
+        free = [sign_id for sign_id in self.store.with_work() if sign_id in self.signs and sign_id not in self.sessions]
         leased = self.store.lease(free[: max(0, room)], self.name, self.pace.lease)
-        for row in sorted(leased):
-            self.begin(row)
+        for sign_id in sorted(leased):
+            self.begin(sign_id)
         if len(free) > room and room > 0 and leased:
             self.next_look = 0.0
 
-    def begin(self, row: int) -> None:
+    def begin(self, sign_id: int) -> None:
         """A session where the sign's lines left it. A sign that cannot be begun is kept from all until its lease
         ends."""
         try:
-            session = Session(self.store, row, self.signs[row], self.name, self.program, self.mib)
-            self.sessions[row], self.ticks[row] = session, time.monotonic() + self.pace.tick
-            self.verdicts.want(row, session.taken_in_error())
+            session = Session(self.store, sign_id, self.signs[sign_id], self.name, self.program, self.mib)
+            self.sessions[sign_id], self.ticks[sign_id] = session, time.monotonic() + self.pace.tick
+            self.verdicts.want(sign_id, session.taken_in_error())
         except Lost:
-            self.to_release.add(row)
+            self.to_release.add(sign_id)
         except (Refusal, Failed, Taken, OSError) as fault:
-            say(f"{self.signs[row].name}: {fault}")
+            say(f"{self.signs[sign_id].name}: {fault}")
 
     def renew(self) -> None:
         """Lets signs go whose lease ran out, and keeps the others."""
         kept = self.store.renew(list(self.sessions), self.name, self.pace.lease)
-        for row in set(self.sessions) - kept:
-            self.drop(row)
+        for sign_id in set(self.sessions) - kept:
+            self.drop(sign_id)
 
-    def drop(self, row: int, is_released: bool = True) -> None:
+    def drop(self, sign_id: int, is_released: bool = True) -> None:
         """Ends a session; its lines stay, and another worker may go on at once, or when the lease ends."""
-        session = self.sessions.pop(row, None)
-        self.ticks.pop(row, None)
+        session = self.sessions.pop(sign_id, None)
+        self.ticks.pop(sign_id, None)
         if session is not None:
             session.close()
         if is_released:
-            self.to_release.add(row)
+            self.to_release.add(sign_id)
 
     def release(self) -> None:
         """Lets signs go, all at once; again later where the database did not do it."""

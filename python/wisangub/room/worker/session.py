@@ -49,8 +49,9 @@ class Session:
     is_busy = is_ticked = False
     in_error: Command | None = None  # that ended since the sign found its row in error
 
-    def __init__(self, store: Store, row: int, sign: Sign, worker: str, program: str, mib: Mib) -> None:
-        self.store, self.row, self.sign, self.worker, self.program, self.mib = store, row, sign, worker, program, mib
+    def __init__(self, store: Store, sign_id: int, sign: Sign, worker: str, program: str, mib: Mib) -> None:
+        self.store, self.sign_id, self.sign, self.mib = store, sign_id, sign, mib
+        self.worker, self.program = worker, program
         self.ledger: set[str] = set()
         self.steps = Steps(mib)
         self.ready_at = time.monotonic() + PACE
@@ -70,7 +71,7 @@ class Session:
         """Which centre goes on, the number of the line that says so, and the lines that it was handed. The first one
         begins with the fleet's number; another description, other rules, or a database that was restored from a copy
         want another centre, above all numbers of the one before."""
-        first, least, lines = self.store.lines(self.row)
+        first, least, lines = self.store.lines(self.sign_id)
         head = Head("centre", self.sign.digest, max(self.sign.first, least))
         if not lines:
             return self.begun_anew(head, first, "")
@@ -85,7 +86,7 @@ class Session:
 
     def begun_anew(self, head: Head, number: int, why: str) -> tuple[Head, int, list[bytes]]:
         """A centre without lines; what was under way with one before it is over."""
-        if not self.store.replace(Line(self.row, number, head.line(), is_first=True), self.worker, why):
+        if not self.store.replace(Line(self.sign_id, number, head.line(), is_first=True), self.worker, why):
             raise Lost
         return head, number, []
 
@@ -102,7 +103,7 @@ class Session:
 
     def go_on(self, lines: list[bytes]) -> None:
         """Where the lines left it. Nothing of it goes out; the last answer tells whether a command was refused."""
-        begun = self.store.begun(self.row)
+        begun = self.store.begun(self.sign_id)
         if begun is not None and begun[1] >= self.number:
             raise Lost  # it was begun after the lines were read
         self.command = begun[0] if begun else None
@@ -125,12 +126,12 @@ class Session:
         heard = received(self.door) if self.is_ticked or not is_due else None
         self.is_ticked = heard is None and is_due
         if heard is not None:
-            return Line(self.row, self.number, b"datagram " + (heard[0].hex().encode() or b"-"))
-        return Line(self.row, self.number, b"tick") if is_due else None
+            return Line(self.sign_id, self.number, b"datagram " + (heard[0].hex().encode() or b"-"))
+        return Line(self.sign_id, self.number, b"tick") if is_due else None
 
     def beginning(self) -> Line | None:
         """The next command, or before it a new centre, above all numbers, where the lines of this one grew long."""
-        while (command := self.store.next(self.row)) is not None:
+        while (command := self.store.next(self.sign_id)) is not None:
             if is_command(command.line):
                 break
             self.store.end(command.id, "bad line")
@@ -138,12 +139,12 @@ class Session:
             return None
         if self.count >= MOST_LINES:
             head = dataclasses.replace(self.head, first=above(self.head, self.count))
-            return Line(self.row, self.number, head.line(), is_first=True)
+            return Line(self.sign_id, self.number, head.line(), is_first=True)
         for _ in range(MOST_LATE):  # what comes while no job is under way answers nothing
             if received(self.door) is None:
                 break
         self.command = command
-        return Line(self.row, self.number, command.line.encode(), command.id)
+        return Line(self.sign_id, self.number, command.line.encode(), command.id)
 
     def hand(self, line: Line) -> None:
         """Hands over a line that is in the database under its number."""
@@ -172,7 +173,7 @@ class Session:
         """What is new in the ledger, and how a command ended: from the answer to a `status` that was handed over."""
         is_busy, last, *ledger = [line.decode("latin-1") for line in self.process.until(b"ok")]
         self.is_busy = is_busy == "busy"
-        news = News(self.row, [line for line in ledger if line not in self.ledger])
+        news = News(self.sign_id, [line for line in ledger if line not in self.ledger])
         self.ledger = set(ledger)
         if self.command is not None and not self.is_busy:
             is_refused = answer.split(" ")[0] in ("refused", "bad")

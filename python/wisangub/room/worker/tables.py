@@ -43,8 +43,8 @@ def places(sign: Sign) -> list[Place]:
 class Pass:
     """One reading of one sign's table, a Get after the other."""
 
-    def __init__(self, tables: "Tables", row: int, sign: Sign) -> None:
-        self.tables, self.row, self.sign = tables, row, sign
+    def __init__(self, tables: "Tables", sign_id: int, sign: Sign) -> None:
+        self.tables, self.sign_id, self.sign = tables, sign_id, sign
         self.to_ask = places(sign)
         self.used: list[tuple[Place, int]] = []
 
@@ -69,7 +69,7 @@ class Pass:
     def end(self, take: "partial[None]", number: int, values: Values | str) -> None:
         """A sign that does not answer is asked again at the next time; else its table is read on."""
         if isinstance(values, str):
-            self.tables.going.discard(self.row)
+            self.tables.going.discard(self.sign_id)
             return
         take(number, values)
         self.tables.ready.append(self)
@@ -79,11 +79,11 @@ class Pass:
             if isinstance(status, int) and status != NOT_USED:
                 self.used.append((place, status))
             elif isinstance(status, int):
-                self.tables.said.append(RowSaid(self.row, *place, number, status, None))
+                self.tables.said.append(RowSaid(self.sign_id, *place, number, status, None))
 
     def held(self, place: Place, status: int, number: int, values: Values) -> None:
         cells = json.dumps(dict(zip(self.tables.columns, values)))
-        self.tables.said.append(RowSaid(self.row, *place, number, status, cells))
+        self.tables.said.append(RowSaid(self.sign_id, *place, number, status, cells))
 
 
 class Tables:
@@ -102,24 +102,24 @@ class Tables:
     def begin(self) -> None:
         """Begins those that are due, and has those go on that heard something."""
         now = time.monotonic()
-        free = [row for row in self.signs if row not in self.going] if now >= self.next_look else []
+        free = [sign_id for sign_id in self.signs if sign_id not in self.going] if now >= self.next_look else []
         self.next_look = now + LOOK if free else self.next_look
-        for row in self.store.tables_due(free, EVERY, MOST - len(self.going)):
-            self.going.add(row)
-            self.ready.append(Pass(self, row, self.signs[row]))
+        for sign_id in self.store.tables_due(free, EVERY, MOST - len(self.going)):
+            self.going.add(sign_id)
+            self.ready.append(Pass(self, sign_id, self.signs[sign_id]))
         self.go_on()
 
     def go_on(self) -> None:
         """The next Get of each that heard something; a reading that ended or cannot go on is let go."""
         ready, self.ready = self.ready, []
         for one in ready:
-            self.going.discard(one.row)
-        more = [one for one in ready if not one.is_done and self.signs.get(one.row) is one.sign]
-        numbers = self.store.numbers([one.row for one in more])
+            self.going.discard(one.sign_id)
+        more = [one for one in ready if not one.is_done and self.signs.get(one.sign_id) is one.sign]
+        numbers = self.store.numbers([one.sign_id for one in more])
         for one in more:
-            if one.row in numbers:
-                self.going.add(one.row)
-                one.go_on(numbers[one.row])
+            if one.sign_id in numbers:
+                self.going.add(one.sign_id)
+                one.go_on(numbers[one.sign_id])
 
     def keep(self) -> None:
         """Puts what was said since the last time into the database."""

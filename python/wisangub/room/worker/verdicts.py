@@ -20,21 +20,23 @@ class Verdicts:
         self.to_ask: list[tuple[int, Command]] = []
         self.said: list[tuple[int, str]] = []
 
-    def want(self, row: int, command: Command | None) -> None:
+    def want(self, sign_id: int, command: Command | None) -> None:
         """Has the sign asked, where a command of it ended so."""
         if command is not None:
-            self.to_ask.append((row, command))
+            self.to_ask.append((sign_id, command))
 
     def begin(self) -> None:
         """Sends a Get to each sign that is to be asked; a sign that is no more is let be."""
         if not self.to_ask:
             return
         first = dict(reversed(self.to_ask))
-        numbers = self.store.numbers([row for row in first if row in self.signs])
-        self.to_ask = [(row, command) for row, command in self.to_ask if command != first[row] and row in numbers]
-        for row, number in numbers.items():
-            end = partial(self.end, self.signs[row], first[row])
-            self.gets.begin(self.signs[row], number, self.asked, end)
+        numbers = self.store.numbers([sign_id for sign_id in first if sign_id in self.signs])
+        self.to_ask = [
+            (sign_id, command) for sign_id, command in self.to_ask if command != first[sign_id] and sign_id in numbers
+        ]
+        for sign_id, number in numbers.items():
+            end = partial(self.end, self.signs[sign_id], first[sign_id])
+            self.gets.begin(self.signs[sign_id], number, self.asked, end)
 
     def end(self, sign: Sign, command: Command, values: Values | str) -> None:
         """What came of it; where the sign said nothing, nothing is said."""

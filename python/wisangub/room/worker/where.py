@@ -24,32 +24,39 @@ class Where:
     def look(self) -> set[int]:
         """Takes addresses that resolved anew, and those that another sign had, once it has them no more: the signs that
         stand still from now on, or are elsewhere."""
-        found = {row: self.addresses.of((sign.host, sign.port)) for row, sign in self.fleet.items()}
+        found = {sign_id: self.addresses.of((sign.host, sign.port)) for sign_id, sign in self.fleet.items()}
         now = time.monotonic()
         is_due = now >= self.next_look
-        to_take = [row for row in found if found[row] != self.known.get(row) or is_due and row in self.still]
+        to_take = [
+            sign_id
+            for sign_id in found
+            if found[sign_id] != self.known.get(sign_id) or is_due and sign_id in self.still
+        ]
         if not to_take:
             return set()
         self.next_look = now + self.again
         with self.store.database.transaction(is_alone=True):
             still = self.store.placed(
-                {row: (found[row].every | {self.fleet[row].address}, found[row].fault) for row in to_take}
+                {
+                    sign_id: (found[sign_id].every | {self.fleet[sign_id].address}, found[sign_id].fault)
+                    for sign_id in to_take
+                }
             )
-        return {row for row in to_take if self.is_moved(row, found[row], still.get(row, ""))}
+        return {sign_id for sign_id in to_take if self.is_moved(sign_id, found[sign_id], still.get(sign_id, ""))}
 
-    def is_moved(self, row: int, found: Found, why: str) -> bool:
+    def is_moved(self, sign_id: int, found: Found, why: str) -> bool:
         """Whether the sign is no more where it was."""
-        self.known[row] = found
-        before = self.signs.pop(row, None)
-        if why and why != self.still.get(row):
-            say(f"{self.fleet[row].name}: it stands still: {why}")
+        self.known[sign_id] = found
+        before = self.signs.pop(sign_id, None)
+        if why and why != self.still.get(sign_id):
+            say(f"{self.fleet[sign_id].name}: it stands still: {why}")
         if why:
-            self.still[row] = why
+            self.still[sign_id] = why
         else:
-            if self.still.pop(row, ""):
-                say(f"{self.fleet[row].name}: it goes on, at {found.host}")
-            self.signs[row] = dataclasses.replace(self.fleet[row], host=found.host)
-        return before is not None and before != self.signs.get(row)
+            if self.still.pop(sign_id, ""):
+                say(f"{self.fleet[sign_id].name}: it goes on, at {found.host}")
+            self.signs[sign_id] = dataclasses.replace(self.fleet[sign_id], host=found.host)
+        return before is not None and before != self.signs.get(sign_id)
 
     def close(self) -> None:
         self.addresses.close()
