@@ -1,5 +1,5 @@
-"""A service with pages as a process, somebody who asks for its pages, and the programs that end beside it: for chaos and
-for tests."""
+"""A service with pages as a process, somebody who asks for its pages, and the programs that end beside it: for chaos
+and for tests."""
 
 import pathlib
 import re

@@ -1,11 +1,11 @@
-"""A fleet in trouble: python3 -m trials.room.chaos [--signs N] [--commands N] [--workers N] [--database KIND] [--seed N] ..
+"""A fleet in trouble: python3 -m trials.room.chaos [--signs N] [--commands N] [--workers N] [--database KIND] ..
 
 Signs on loopback, where one datagram in ten is lost, late or doubled; commands to them; workers, each a process, of
 which some are killed, or stopped for longer than their lease while others go on; a service whose pages are asked for,
 many at a time, and which is killed now and then, with programs over the database that end beside it; and a server of
-PostgreSQL of its own, which crashes and is started again. At the end every command has ended, and all datagrams that came to a sign, what it
-accepted, its lines and its ledger are looked at. The seed decides the commands, the fate of each datagram, and after
-how many lines who is killed or stopped and the server crashes; not how fast the machine is.
+PostgreSQL of its own, which crashes and is started again. At the end every command has ended, and all datagrams that
+came to a sign, what it accepted, its lines and its ledger are looked at. The seed decides the commands, the fate of
+each datagram, and after how many lines who is killed or stopped and the server crashes; not how fast the machine is.
 """
 
 import argparse

@@ -15,12 +15,13 @@ from .test_database import BLANK
 __all__ = ["empty"]
 BEFORE = 14  # the last migration of the version before
 OLD = (
-    "INSERT INTO signs (name, place, address, poll, holder, until, centre, polled, reading_number, least, tabled, wanted,"
-    " leased) VALUES ('one', 'here', '127.0.0.1:1161', 10, 'a worker', 90, 3, 70, -9, 1000, 60, 1, 80)",
+    "INSERT INTO signs (name, place, address, poll, holder, until, centre, polled, reading_number, least, tabled,"
+    " wanted, leased) VALUES ('one', 'here', '127.0.0.1:1161', 10, 'a worker', 90, 3, 70, -9, 1000, 60, 1, 80)",
     "INSERT INTO signs (name, place, address, poll) VALUES ('two', 'there', '127.0.0.1:1162', 10)",
     "INSERT INTO commands (sign, who, at, line, number, ended, how, step, why)"
     " SELECT id, 'me', 11, 'blank 2 0 0 127.0.0.1', 4, 12, 'accepted', 7, 'nothing' FROM signs WHERE name = 'one'",
-    "INSERT INTO commands (sign, who, at, line, number) SELECT id, 'me', 21, '{blank}', 5 FROM signs WHERE name = 'one'",
+    "INSERT INTO commands (sign, who, at, line, number)"
+    " SELECT id, 'me', 21, '{blank}', 5 FROM signs WHERE name = 'one'",
     "INSERT INTO commands (sign, who, at, line) SELECT id, 'you', 31, '{blank}' FROM signs WHERE name = 'one'",
 )
 

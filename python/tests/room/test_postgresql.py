@@ -90,11 +90,11 @@ def test_connections_that_the_server_ends(tmp_path: pathlib.Path, url: str) -> N
     with bench(tmp_path, url) as at:
         worker = at.worker()
         commands = [at.ask(HELLO) for _ in range(3)]
-        for command in commands:
+        for number in commands:
             ended_from_beside(url)
             at.store.database = database.connected(url)
             at.store.run = at.store.database.run
-            assert at.ended(worker, command) == "accepted"
+            assert at.ended(worker, number) == "accepted"
 
 
 def test_within_a_transaction_a_lost_connection_is_not_made_anew(url: str) -> None:

@@ -36,8 +36,8 @@ PLACE = re.compile(r" \(at (?:line (\d+), column \d+|end of document)\)$")
 @dataclass(frozen=True)
 class Sign:
     """A sign of the fleet. `text` is its description in the fleet's order of checksums, `reader` its reading community,
-    `poll` the seconds between two readings, `first` the number of the first request that a centre ever sends it, `every`
-    all that its address resolved to as the fleet was read, `path` the file of its description."""
+    `poll` the seconds between two readings, `first` the number of the first request that a centre ever sends it,
+    `every` all that its address resolved to as the fleet was read, `path` the file of its description."""
 
     name: str
     place: str

@@ -49,7 +49,8 @@ def main() -> int:
     from wisangub.room.store.users import users
     from wisangub.room.web.settings import Settings, zone_of
 
-    from .service import Pace, Pages, work  # aiohttp is there from here on
+    from .service import Pages, work  # aiohttp is there from here on
+    from .worker.rounds import Pace
 
     host, port = host_and_port(asked.listen)
     settings = Settings(asked.database, asked.signtool, asked.behind_tls, zone_of(asked.zone))

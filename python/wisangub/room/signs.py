@@ -1,7 +1,8 @@
 """The signs of the database: wisangub-control signs --database WHERE  list | rename OLD NEW
 
     list                each sign's name and address
-    rename OLD NEW      another name, for a sign that has another one in the fleet: it keeps its numbers, lines and ledger
+    rename OLD NEW      another name, for a sign that has another one in the fleet: it keeps its numbers, its lines and
+                        its ledger
 
 A sign is told by its name. A worker that begins with another name for it finds the address taken, and does not begin.
 Workers that go on meanwhile drive the sign under the name that they began with. A change stands in the audit.

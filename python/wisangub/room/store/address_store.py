@@ -39,8 +39,8 @@ class AddressStore(CommandStore):
         return least if head is None else max(least, above(head, len(lines) - 1))
 
     def placed(self, wanted: dict[int, tuple[frozenset[str], str]]) -> dict[int, str]:
-        """Each of the signs takes the addresses that it has now, or says why they are not known: why a sign stands still.
-        Within a transaction that is alone."""
+        """Each of the signs takes the addresses that it has now, or says why they are not known: why a sign stands
+        still. Within a transaction that is alone."""
         held: dict[int, set[str]] = {}
         for address, sign in self.run("SELECT address, sign FROM addresses WHERE now = 1"):
             held.setdefault(whole(sign), set()).add(str(address))
@@ -48,7 +48,7 @@ class AddressStore(CommandStore):
         for sign, (addresses, fault) in sorted(wanted.items()):
             if fault:
                 still[sign] = f"its address is not known, so it waits: {fault}"
-            elif held.get(sign) != addresses and (other := self.take(sign, set(addresses))) is not None:
+            elif held.get(sign) != set(addresses) and (other := self.take(sign, set(addresses))) is not None:
                 still[sign] = f"its address is that of {other}"
         self.database.run_all(
             "UPDATE signs SET still = ? WHERE id = ? AND COALESCE(still, '') <> ?",
@@ -64,9 +64,9 @@ class AddressStore(CommandStore):
         )
 
     def take(self, sign: int, addresses: set[str]) -> str | None:
-        """The sign has these addresses from now on, and no other ones; within a transaction that is alone. Where another
-        one has one of them it takes none: that one's name. Where another one had one before, its numbers go on above
-        all of that one's."""
+        """The sign has these addresses from now on, and no other ones; within a transaction that is alone. Where
+        another one has one of them it takes none: that one's name. Where another one had one before, its numbers go on
+        above all of that one's."""
         rows = self.run(
             f"SELECT addresses.now, addresses.sign, signs.name FROM addresses JOIN signs"
             f" ON signs.id = addresses.sign WHERE addresses.sign <> ? AND addresses.address IN"

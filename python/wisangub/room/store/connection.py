@@ -4,12 +4,11 @@ How SQL is written, so that SQLite and PostgreSQL both take it:
 
 - `?` stands for a value and for nothing else; a text in quotes holds no `?` and no `{clock}`. `{clock}` is the
   database's time, in seconds since 1970. No other clock is written into a table.
-- Types are TEXT, BIGINT, DOUBLE PRECISION, and `{key}` for a column `id` that numbers its rows (in migrations). Truth is
-  0 or 1, octets are pairs of hexadecimal digits. A text holds no character of number 0.
+- Types are TEXT, BIGINT, DOUBLE PRECISION, and `{key}` for a column `id` that numbers its rows (in migrations). Truth
+  is 0 or 1, octets are pairs of hexadecimal digits. A text holds no character of number 0.
 - `INSERT .. ON CONFLICT .. DO UPDATE`, `RETURNING` and partial indexes are there in both. `LIKE` differs (case), and a
   sum of BIGINT is written `CAST(sum(a) AS BIGINT)`.
-- A migration is `python/wisangub/room/store/migrations/NNN_name.sql`: comments are lines of their own, a statement ends with `;` at a line's
-  end.
+- A migration is `migrations/NNN_name.sql`: comments are lines of their own, a statement ends with `;` at a line's end.
 - PostgreSQL runs a transaction as "read committed", so others may write between two of its statements: what was looked
   at is looked at again by the statement that writes (`UPDATE .. WHERE .. RETURNING`), or a key decides, or
   `transaction(is_alone=True)` keeps out all others that are alone.

@@ -89,7 +89,8 @@ def connected(where: str) -> Database:
 
 
 def opened(where: str, may_create: bool = True) -> Database:
-    """The database of a file's path or of postgresql://.., with today's tables; made where there is none, or refused."""
+    """The database of a file's path or of postgresql://.., with today's tables. Where there is none it is made, or
+    refused; one of an earlier program is carried over."""
     if not may_create and not is_url(where) and not os.path.exists(where):
         raise Refusal(f"{where}: there is no database: --create makes one")
     database = connected(where)

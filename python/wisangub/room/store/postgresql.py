@@ -1,4 +1,4 @@
-"""PostgreSQL behind the interface of python/wisangub/room/store/connection.py, by Debian's python3-psycopg (psycopg 3)."""
+"""PostgreSQL behind the interface of connection.py, by Debian's python3-psycopg (psycopg 3)."""
 
 import contextlib
 import logging
@@ -9,9 +9,9 @@ os.environ.setdefault("PSYCOPG_WAIT_FUNC", "wait_selector")  # select, its first
 
 import psycopg  # noqa: E402
 
-from wisangub.refusal import Refusal
+from wisangub.refusal import Refusal  # noqa: E402
 
-from .connection import PATIENCE, Away, Database, Failed, NotYet, Row, Taken
+from .connection import PATIENCE, Away, Database, Failed, NotYet, Row, Taken  # noqa: E402
 
 SETTINGS = {
     "default_transaction_isolation": "read committed",

@@ -87,8 +87,8 @@ class Shown:
 
 @dataclass(frozen=True)
 class SignView:
-    """A sign, what it said last and when: `fault` is why it says nothing now, since `fault_at`; `still` why it is neither
-    driven nor read."""
+    """A sign, what it said last and when: `fault` is why it says nothing now, since `fault_at`; `still` why it is
+    neither driven nor read."""
 
     id: int
     name: str

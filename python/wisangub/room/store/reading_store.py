@@ -139,7 +139,8 @@ class ReadingStore:
             f"WITH due AS MATERIALIZED (SELECT id FROM signs WHERE id IN ({places(signs)})"
             f" AND (table_wanted = 1 OR table_read_at + ? <= {CLOCK} OR table_read_at > {CLOCK})"
             f" ORDER BY table_wanted DESC, table_read_at LIMIT ? {{skip}})"
-            f" UPDATE signs SET table_read_at = {CLOCK}, table_wanted = 0 WHERE id IN (SELECT id FROM due) RETURNING id",
+            f" UPDATE signs SET table_read_at = {CLOCK}, table_wanted = 0"
+            " WHERE id IN (SELECT id FROM due) RETURNING id",
             *signs,
             seconds,
             most,

@@ -50,8 +50,8 @@ class Store(AddressStore):
     # ---- signs and their leases
 
     def enter(self, signs: list[Sign]) -> dict[int, Sign]:
-        """The fleet as rows: each sign by the number of its row. Refused where a sign is to have an address that another
-        one has."""
+        """The fleet as rows: each sign by the number of its row. Refused where a sign is to have an address that
+        another one has."""
         self.part()
         said = {sign.name: (sign.place, sign.address, sign.poll) for sign in signs}
         held = {str(row[0]): row[1:] for row in self.run("SELECT name, place, address, poll, id FROM signs")}

@@ -5,7 +5,7 @@ from dataclasses import dataclass, field, replace
 from typing import Any, Mapping
 
 from .faces import CHANGEABLE, VOLATILE, Face
-from .words import NO_END, Asked
+from .words import NO_END
 
 NUMBER = re.compile(r"[0-9]{1,5}")
 KINDS = ("publish", "blank", "activate")

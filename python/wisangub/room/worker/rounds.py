@@ -1,4 +1,4 @@
-"""What a worker does, round after round: leases, lines, readings. python/wisangub/room/worker/program.py is the program."""
+"""What a worker does, round after round: leases, lines, readings. program.py is the program."""
 
 import os
 import secrets
