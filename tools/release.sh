@@ -71,7 +71,7 @@ import pathlib
 import sys
 
 HOME = pathlib.Path(__file__).resolve().parents[1] / "share/wisangub"
-sys.path[:1] = [str(HOME / "python"), str(HOME)]
+sys.path[:1] = [str(HOME / "python")]
 from $2 import run  # noqa: E402
 
 sys.exit(run())
@@ -84,10 +84,9 @@ tree() {
     local share=$usr/share/wisangub page section command module
     mkdir -p "$usr/bin" "$share/python" "$share/docs" "$usr"/share/{doc/wisangub,man/man1,man/man7}
     install -m 755 "$program" "$usr/bin/wisangub-signtool"
-    cp -R "$source"/model "$source"/mibs "$source"/signs "$source"/vectors "$share/"
+    cp -R "$source"/mibs "$source"/signs "$source"/vectors "$share/"
     cp -R "$source"/python/wisangub "$share/python/"
     cp -R "$source"/docs/{PROFILE,COVERAGE,JOURNAL,CONFORMANCE,CONTROL,C}.md "$source"/docs/pictures "$share/docs/"
-    rm -rf "$share"/model/tests "$share"/model/signtool
     find "$share" -name '*.py' -exec sed -i '1{/^#!/d}' {} + -exec chmod 644 {} +
     entries > "$room/entries"
     while read -r command module; do command_of "$command" "$module"; done < "$room/entries"

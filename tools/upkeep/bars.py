@@ -21,24 +21,6 @@ class Bar:
         return found if is_all else [line for line in found if not line.startswith(self.later or ("\0",))]
 
 
-# what still imports the model
-OF_THE_MODEL = (
-    "room/web/faces.py",
-    "room/web/replay.py",
-    "room/web/room.py",
-    "tester/bench.py",
-    "tester/centre/program.py",
-    "tester/chapters/get.py",
-    "tester/chapters/getnext.py",
-    "tester/chapters/rooms.py",
-    "tester/cli.py",
-    "tester/context.py",
-    "tester/kept.py",
-    "tester/sign/oracle.py",
-    "tester/soak.py",
-    "tester/state/beginning.py",
-    "tester/state/wanted.py",
-)
 BARS = (
     Bar("lines of pages", documents.wide_lines),
     Bar("rows of tables", documents.wide_rows),
@@ -66,7 +48,7 @@ BARS = (
     Bar("nothing is put off", words.put_off),
     Bar("nothing is named that is gone", words.gone),
     Bar("lines of code", code.wide),
-    Bar("what is shipped stands alone", shipped.alone, tuple(f"{shipped.FOLDER}{name}:" for name in OF_THE_MODEL)),
+    Bar("what is shipped stands alone", shipped.alone),
 )
 
 # Bars that do not hold yet: they are looked at with --all, or by name.

@@ -1,7 +1,7 @@
 """A wrong sign on a UDP port, to see what a report looks like: python3 -m trials.wrong_signs.door --sign FILE NAME ..
 
-The names are those of the tables in trials/wrong_signs; the sign has all of these edits at once. It ticks once a second,
-and ends at an interrupt or a SIGTERM.
+The names are those of the tables in trials/wrong_signs; the sign has all of these edits at once. It ticks once a
+second, and ends at an interrupt or a SIGTERM.
 """
 
 import argparse

@@ -9,7 +9,7 @@ FILES = ("wire.txt", "objects.txt", "rows.txt", "showing.txt")
 
 
 def mutant(lines: list[str]) -> Mutant:
-    """The wrong sign of a paragraph: name, `rule:`, perhaps `has:` and `order:`, `file:`, the lines before and after."""
+    """The wrong sign of a paragraph: name, `rule:`, perhaps `has:`, `order:`, `file:`, the lines before and after."""
     words = dict(line.split(": ", 1) for line in lines[1:] if line[0] not in "-+")
     old, new = ("".join(line[1:] + "\n" for line in lines if line[0] == sign) for sign in "-+")
     has, order = words.get("has", "1 0").encode(), words.get("order", "high").encode()

@@ -8,7 +8,7 @@ import sys
 import pytest
 
 PYTHON = pathlib.Path(__file__).resolve().parents[2]
-PARTS = ("snmp", "process", "endpoint")  # whose modules stand alone; tester and room will
+PARTS = ("snmp", "process", "endpoint", "tester", "room")
 PACKAGES = {"aiohttp", "jinja2", "psycopg"}  # that a part of the room needs
 IMPORTS = """
 import importlib, sys

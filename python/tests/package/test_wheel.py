@@ -14,9 +14,11 @@ from wisangub import __version__
 from wisangub.process.places import TOP
 
 PYPROJECT = tomllib.loads((TOP / "python/pyproject.toml").read_text(encoding="utf-8"))
-LATER = "wisangub-conform"  # which still imports the model
-COMMANDS = sorted(set(PYPROJECT["project"]["scripts"]) - {LATER})
-PARTS = [f"wisangub-control {part}" for part in ("users", "demo", "backup", "signs", "command", "worker")]
+COMMANDS = sorted(PYPROJECT["project"]["scripts"])
+PARTS = [
+    *(f"wisangub-control {part}" for part in ("users", "demo", "backup", "signs", "command", "worker")),
+    *(f"wisangub-conform {part}" for part in ("centre", "soak", "vectors")),
+]
 WAIT = 600  # seconds for an installation on a busy machine
 LACKS = [name for name in ("pip", "setuptools", "wheel", "ensurepip") if importlib.util.find_spec(name) is None]
 LOOKS = """

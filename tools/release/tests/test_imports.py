@@ -8,7 +8,7 @@ from collections.abc import Iterator
 
 TOP = pathlib.Path(__file__).resolve().parents[3]
 SCRIPT = (TOP / "tools/release.sh").read_text(encoding="utf-8")
-PACKAGES = ["python/wisangub", "model"]
+PACKAGES = ["python/wisangub"]
 
 
 def files() -> list[pathlib.Path]:
