@@ -34,7 +34,7 @@ FOLDERS = (
 SLOW = ("python/tests/tester/test_signs.py", "tools/tries/tests/test_planted.py")  # a minute of a processor each
 
 CONFIGURED = "python/pyproject.toml"
-LAYOUTS = {  # .flake8 has the options of flake8
+LAYOUTS: dict[str, list[str]] = {  # .flake8 has the options of flake8
     "black": ["--check", "--quiet", "--config", CONFIGURED],
     "isort": ["--check-only", "--filter-files", "--settings-path", CONFIGURED],
     "flake8": [],
