@@ -36,7 +36,7 @@ STEPS = (
     Step("no memory", "trials/no_memory.sh --built --count 1000", 900),
     Step("lasting", "python3 -m trials.lasting --short {program}", 400),
     Step("conformance", "env -C python python3 -m tests.tester.short", 500),
-    Step("library for C", "python3 -m trials.c_library --short --program {program}", 720),
+    Step("library for C", "python3 -m trials.c_library --short --program {program}", 1300),
     Step("helps", "tools/helps.sh", 400),
     Step("control room", "env -C python python3 -m tests.room.short --signtool {program}", 900),
     Step("tests of tools, types", "tools/python_tests.py", 1800),

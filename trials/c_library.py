@@ -13,7 +13,7 @@ refused once; signd and wisangub-sign go on from each other's journals, which ar
 disk; strangers do not fill them; C++, CMake and pkg-config build with it; and mutated datagrams go in for --seconds.
 With --aarch64 the vectors go through that library too, for ARM64, under qemu-user.
 
-The short form makes the library over crates that stand proved alone, in 400 seconds at most. Once it is there nothing
+The short form makes the library over crates that stand proved alone, in 1000 seconds at most. Once it is there nothing
 begins after 230 seconds, and all is stopped after 280: what there is no time for is skipped by name. In the long form
 what takes too long has failed. It needs no network but loopback, and leaves no process and no file but the library.
 """
@@ -35,7 +35,7 @@ from typing import Callable
 from trials.library import against_program, against_vectors, builds, disks, hostile, journals, powers, strangers, tested
 from trials.library.trial import AARCH64, PLAIN, REFUSING, SANITIZE, SANITIZED, TOP, UNDER_VALGRIND, Late, Trial, Way
 
-SHORT, MOST_MADE, LONG = 230.0, 400.0, 3600.0  # seconds of the short form, of making the library in it, and else
+SHORT, MOST_MADE, LONG = 230.0, 1000.0, 3600.0  # seconds of the short form, of making the library in it, and else
 LACKS = 3  # the status of tools/static_library.py where it skipped the library and said why
 
 
