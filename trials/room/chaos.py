@@ -25,7 +25,8 @@ from wisangub.refusal import Refusal, status_of, tell
 from wisangub.room import fleet, start
 from wisangub.room.store import database
 from wisangub.room.store.database import Failed
-from wisangub.room.store.store import Store, whole
+from wisangub.room.store.store import Store
+from wisangub.room.store.values import whole
 
 from .beside import enter
 from .chaos_beside import Beside
@@ -66,7 +67,7 @@ def command(chance: random.Random) -> str:
 
 def count(store: Store, rows: str) -> int:
     """How many rows there are."""
-    return whole(store.run(f"SELECT count(*) FROM {rows}")[0][0])
+    return whole(store.database.run(f"SELECT count(*) FROM {rows}")[0][0])
 
 
 @contextlib.contextmanager
@@ -106,7 +107,7 @@ class Run:
         """A portion of the commands, and the trouble that is due; False where all has ended."""
         for _ in range(min(len(self.to_ask), max(1, self.asked.commands // PORTIONS))):
             row, line = self.to_ask[-1]
-            self.store.ask(row, "chaos", line)
+            self.store.commands.ask(row, "chaos", line)
             self.to_ask.pop()
         self.workers.wake()
         self.lines = count(self.store, "lines")
@@ -134,7 +135,7 @@ def run(asked: Asked, folder: pathlib.Path, place: Place) -> Outcome:
         )
     )
     with opened(place.where) as store:
-        rows = store.enter(fleet.read(folder / "fleet.toml"))
+        rows = store.signs.enter(fleet.read(folder / "fleet.toml"))
     enter(place.where)
     workers = Workers(asked.workers, folder, place.where, asked.signtool, asked.tick, asked.lease)
     beside = Beside(folder / "fleet.toml", place.where, asked.signtool, names[0])
@@ -171,7 +172,7 @@ def going(run: Run, beside: Beside) -> None:
 
 def told(store: Store, loopback: Loopback, workers: Workers, place: Place, seconds: float) -> None:
     """The numbers of a run."""
-    for how, times in store.run("SELECT outcome, count(*) FROM commands GROUP BY outcome ORDER BY 2 DESC"):
+    for how, times in store.database.run("SELECT outcome, count(*) FROM commands GROUP BY outcome ORDER BY 2 DESC"):
         tell(f"{times} commands: {how}")
     lines, datagrams = count(store, "lines"), sum(len(live.requests) for live in loopback.signs)
     accepted = sum(len(live.accepted) for live in loopback.signs)

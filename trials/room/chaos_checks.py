@@ -5,7 +5,8 @@ from model.centre import Centre
 from wisangub.endpoint.records import Head
 from wisangub.process import description
 from wisangub.room import fleet
-from wisangub.room.store.store import Store, whole
+from wisangub.room.store.store import Store
+from wisangub.room.store.values import whole
 
 from .loopback import LoopbackSign
 
@@ -25,7 +26,7 @@ def foretold(store: Store, row: int, sign: fleet.Sign) -> list[str]:
     """The ledger that the model has after the sign's lines, one centre after the other."""
     ledger: list[str] = []
     centre: Centre | None = None
-    for (line,) in [*store.run("SELECT line FROM lines WHERE sign = ? ORDER BY number", row), ("journal",)]:
+    for (line,) in [*store.database.run("SELECT line FROM lines WHERE sign = ? ORDER BY number", row), ("journal",)]:
         words = str(line).encode().split(b" ")
         if words[0] == b"journal":
             if centre is not None:
@@ -65,7 +66,7 @@ def look_at_datagrams(found: Outcome, live: LoopbackSign) -> set[int]:
 def look_at(found: Outcome, store: Store, row: int, sign: fleet.Sign, live: LoopbackSign) -> None:
     """What holds of a sign."""
     activations = look_at_datagrams(found, live)
-    ledger = {int(line.split(" ")[1]): line.split(" ", 3)[2:] for line in store.ledger(row)}
+    ledger = {int(line.split(" ")[1]): line.split(" ", 3)[2:] for line in store.lines.ledger(row)}
     found.holds(f"{live.name}: each activation that went out stands in the ledger", activations <= set(ledger))
     found.holds(
         f"{live.name}: each acceptance of the sign stands in the ledger",
@@ -74,18 +75,18 @@ def look_at(found: Outcome, store: Store, row: int, sign: fleet.Sign, live: Loop
     for number, (code, how) in ledger.items():
         if how == "accepted":
             found.holds(f"{live.name}: the sign accepted {number}", (number, code) in live.accepted)
-    accepted = store.run("SELECT count(*) FROM commands WHERE sign = ? AND outcome = 'accepted'", row)[0][0]
+    accepted = store.database.run("SELECT count(*) FROM commands WHERE sign = ? AND outcome = 'accepted'", row)[0][0]
     found.holds(
         f"{live.name}: each command that ended accepted has its activation",
         accepted == sum(how == "accepted" for _, how in ledger.values()),
     )
-    asked = whole(store.run("SELECT count(*) FROM commands WHERE sign = ?", row)[0][0])
-    audit = [str(what[0]) for what in store.run("SELECT what FROM audit")]
+    asked = whole(store.database.run("SELECT count(*) FROM commands WHERE sign = ?", row)[0][0])
+    audit = [str(what[0]) for what in store.database.run("SELECT what FROM audit")]
     found.holds(
         f"{live.name}: each command stands in the audit",
         asked == sum(what.startswith(f"{live.name}: ") for what in audit),
     )
-    is_foretold = store.ledger(row) == foretold(store, row, sign)
+    is_foretold = store.lines.ledger(row) == foretold(store, row, sign)
     found.holds(f"{live.name}: the ledger is the model's, handed the lines", is_foretold)
-    numbers = [line[0] for line in store.run("SELECT number FROM lines WHERE sign = ? ORDER BY number", row)]
+    numbers = [line[0] for line in store.database.run("SELECT number FROM lines WHERE sign = ? ORDER BY number", row)]
     found.holds(f"{live.name}: no line is missing", numbers == list(range(1, len(numbers) + 1)))

@@ -21,7 +21,8 @@ from wisangub.process.places import SIGNTOOL, TOP
 from wisangub.refusal import status_of, tell
 from wisangub.room import fleet, start
 from wisangub.room.store import database
-from wisangub.room.store.store import Store, whole
+from wisangub.room.store.store import Store
+from wisangub.room.store.values import whole
 
 from .chaos_place import KINDS, Place, placed
 from .chaos_workers import Workers
@@ -57,7 +58,7 @@ def publication(at: int) -> str:
 
 
 def count(store: Store, rows: str) -> int:
-    return whole(store.run(f"SELECT count(*) FROM {rows}")[0][0])
+    return whole(store.database.run(f"SELECT count(*) FROM {rows}")[0][0])
 
 
 def begun_once(store: Store, rows: list[int]) -> None:
@@ -88,7 +89,7 @@ class Watch:
 
     def gets(self) -> int:
         """How many Gets of readings and tables went out, but for those that were sent again."""
-        return -whole(self.store.run("SELECT CAST(sum(reading_number) AS BIGINT) FROM signs")[0][0])
+        return -whole(self.store.database.run("SELECT CAST(sum(reading_number) AS BIGINT) FROM signs")[0][0])
 
     def span(self) -> float:
         return time.monotonic() - self.begun
@@ -100,7 +101,7 @@ class Watch:
         self.next_look, of = time.monotonic() + LOOK_AT_MEMORY, children()
         for group in self.groups:
             group.look(of)
-        age = self.store.run(
+        age = self.store.database.run(
             "SELECT max({clock} - heard) FROM readings"
             " WHERE (sign, number) IN (SELECT sign, min(number) FROM readings GROUP BY sign)"
         )[0][0]
@@ -146,7 +147,9 @@ def told(asked: Asked, store: Store, seconds: float, watch: Watch) -> None:
     span, gets = watch.span(), watch.gets() - watch.gets_before
     took = sorted(
         float(row[0] or 0)
-        for row in store.run("SELECT ended - asked_at FROM commands WHERE who = 'measure' AND outcome = 'accepted'")
+        for row in store.database.run(
+            "SELECT ended - asked_at FROM commands WHERE who = 'measure' AND outcome = 'accepted'"
+        )
     )
     tell(
         f"{asked.signs} signs, {asked.workers} workers, {asked.database}, tick {asked.tick:g} s, poll {asked.poll:g} s,"
@@ -190,7 +193,7 @@ def run(asked: Asked, folder: pathlib.Path, place: Place) -> bool:
         )
     )
     store = Store(database.opened(place.where))
-    rows = sorted(store.enter(fleet.read(folder / "fleet.toml")))
+    rows = sorted(store.signs.enter(fleet.read(folder / "fleet.toml")))
     workers = Workers(asked.workers, folder, place.where, asked.signtool, asked.tick, 10.0)
     loopback.start()
     try:

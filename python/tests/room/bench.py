@@ -12,7 +12,8 @@ from wisangub.process.places import SIGNTOOL, TOP
 from wisangub.room import fleet
 from wisangub.room.fleet import Sign
 from wisangub.room.store import database
-from wisangub.room.store.store import Line, Store
+from wisangub.room.store.lines import Line
+from wisangub.room.store.store import Store
 from wisangub.room.worker.carry import carry
 from wisangub.room.worker.program import Pace, Worker
 from wisangub.room.worker.session import Lost, Session
@@ -41,7 +42,7 @@ class Bench:
         self.sign_id = next(iter(self.signs(self.store)))
 
     def signs(self, store: Store) -> dict[int, Sign]:
-        return store.enter(fleet.read(self.fleet))
+        return store.signs.enter(fleet.read(self.fleet))
 
     def worker(self, pace: Pace = PACE, program: str = PROGRAM) -> Worker:
         """A worker with a connection of its own."""
@@ -54,12 +55,12 @@ class Bench:
         return Session(store, self.sign_id, self.signs(store)[self.sign_id], name, PROGRAM, Mib.read())
 
     def ask(self, line: str) -> int:
-        return self.store.ask(self.sign_id, "me", line)
+        return self.store.commands.ask(self.sign_id, "me", line)
 
     def ended(self, worker: Worker, command: int, wait: float = 60.0) -> str | None:
         """How the command ended, carried out by the worker."""
         ends = time.monotonic() + wait
-        while (how := self.store.how(command)) is None and time.monotonic() < ends:
+        while (how := self.store.commands.how(command)) is None and time.monotonic() < ends:
             worker.guarded_round()
         return how
 

@@ -109,7 +109,7 @@ def entered(folder: pathlib.Path, loopback: Loopback) -> dict[str, int]:
     for role in Role:
         users.add(held, role.word, role, PASSWORD, "a test")
     passwords.COST = before
-    rows = Store(held).enter(fleet.read(folder / "fleet.toml"))
+    rows = Store(held).signs.enter(fleet.read(folder / "fleet.toml"))
     held.close()
     return {sign.name: row for row, sign in rows.items()}
 

@@ -21,13 +21,13 @@ def in_trouble(bench: Bench) -> None:
         (None, None, None),
     )
     for sign, (number, step, how) in zip((bench.gantry, bench.two, bench.two, bench.two), states):
-        command = bench.store.ask(sign, "operator", line)
-        bench.store.run(
+        command = bench.store.commands.ask(sign, "operator", line)
+        bench.store.database.run(
             "UPDATE commands SET line_number = ?, step = ?, outcome = ? WHERE id = ?", number, step, how, command
         )
-        bench.store.run("INSERT INTO batch_commands (batch, command) VALUES (1, ?)", command)
+        bench.store.database.run("INSERT INTO batch_commands (batch, command) VALUES (1, ?)", command)
     bench.read(bench.two, text="")
-    bench.store.run("UPDATE messages SET status = 5 WHERE sign = ?", bench.one)
+    bench.store.database.run("UPDATE messages SET status = 5 WHERE sign = ?", bench.one)
     users.disable(bench.store.database, "reader", True, "a test")
 
 

@@ -10,7 +10,9 @@ from trials.room.cluster import Cluster
 from wisangub.refusal import Refusal
 from wisangub.room.fleet import LAST_NUMBER
 from wisangub.room.store import advance, backup, database
-from wisangub.room.store.store import Line, Store, whole
+from wisangub.room.store.lines import Line
+from wisangub.room.store.store import Store
+from wisangub.room.store.values import whole
 from wisangub.room.worker.session import RESTORED
 from wisangub.snmp import wire
 
@@ -46,8 +48,8 @@ def test_a_copy_is_whole_while_others_write(tmp_path: pathlib.Path, where: str) 
         number = 0
         while not is_done.is_set():
             number += 1
-            assert other.insert([Line(sign, number, b"tick")], "me") == {sign}
-            other.ask(sign, "me", BLANK)
+            assert other.lines.insert([Line(sign, number, b"tick")], "me") == {sign}
+            other.commands.ask(sign, "me", BLANK)
 
     writer = threading.Thread(target=write)
     writer.start()
@@ -84,41 +86,41 @@ def test_a_restored_database_uses_no_number_again(tmp_path: pathlib.Path, where:
         told = backup.restore(empty, tmp_path / "copy", "me", None)
         assert "2 commands that had not ended are ended as unknown" in told
         at.where, at.store = empty, Store(database.opened(empty))
-        assert [at.store.how(begun), at.store.how(waiting)] == [RESTORED, advance.NOT_DONE]
+        assert [at.store.commands.how(begun), at.store.commands.how(waiting)] == [RESTORED, advance.NOT_DONE]
         assert at.ended(at.worker(), at.ask(HELLO)) == "accepted"
         after = numbers_sent(at)
         new = set(after) - set(before)
         assert {number for number in new if number >= 0} and {number for number in new if number < 0}
         assert all(after[number] == before[number] for number in before)
         assert min(number for number in new if number >= 0) > max(before) + advance.LEAST_STEP / 2
-        who, what = at.store.run("SELECT who, what FROM audit WHERE what LIKE 'restored%'")[0]
+        who, what = at.store.database.run("SELECT who, what FROM audit WHERE what LIKE 'restored%'")[0]
         assert who == "me" and "above all that were used before" in str(what)
 
 
 def test_the_first_number_is_said_by_hand(where: str) -> None:
     store, _, sign = two_stores(where)
     head = b"journal 1 centre rules 1 description x first 70"
-    assert store.insert([Line(sign, 1, head, is_first=True)], "me") == {sign}
-    assert store.insert([Line(sign, 2, b"tick")], "me") == {sign}
+    assert store.lines.insert([Line(sign, 1, head, is_first=True)], "me") == {sign}
+    assert store.lines.insert([Line(sign, 2, b"tick")], "me") == {sign}
     for first, words in ((70, "has used numbers up to 70"), (LAST_NUMBER + 1, "say --first NUMBER")):
         with pytest.raises(Refusal, match=words):
             advance.advance(store, "me", first)
-    assert store.lines(sign)[1] == 0, "a restore that is refused changes nothing"
-    assert advance.advance(store, "me", 71).least == 71 and store.lines(sign)[1] == 71
+    assert store.lines.of(sign)[1] == 0, "a restore that is refused changes nothing"
+    assert advance.advance(store, "me", 71).least == 71 and store.lines.of(sign)[1] == 71
     assert advance.advance(store, "me", None).least == 71 + advance.LEAST_STEP
 
 
 def test_seconds_that_passed_are_numbers_that_were_used(where: str) -> None:
     store, _, sign = two_stores(where)
-    store.run("UPDATE signs SET read_at = {clock} - 100000")
+    store.database.run("UPDATE signs SET read_at = {clock} - 100000")
     found = advance.advance(store, "me", None)
     assert found.left_out >= 100_000 * advance.LINES_A_SECOND and found.least == found.left_out
-    store.run("UPDATE signs SET read_at = {clock} + 100000")
+    store.database.run("UPDATE signs SET read_at = {clock} + 100000")
     with pytest.raises(Refusal, match="clock is before its newest entry"):
         advance.advance(store, "me", None)
     advance.advance(store, "me", 50_000_000)
     for table, column in (("signs", "read_at"), ("audit", "at")):
-        store.run(f"UPDATE {table} SET {column} = {{clock}} - 30000000")
+        store.database.run(f"UPDATE {table} SET {column} = {{clock}} - 30000000")
     with pytest.raises(Refusal, match="none is left"):
         advance.advance(store, "me", None)
 

@@ -88,8 +88,8 @@ def test_programs_that_end_beside_a_service_take_nothing_from_it(tmp_path: pathl
         finally:
             service.kill()
         store = Store(database.opened(where))
-        ledger = {int(line.split(" ")[1]): line.split(" ")[2] for line in store.ledger(at.sign_id)}
-        audit = [str(row[0]) for row in store.run("SELECT what FROM audit")]
+        ledger = {int(line.split(" ")[1]): line.split(" ")[2] for line in store.lines.ledger(at.sign_id)}
+        audit = [str(row[0]) for row in store.database.run("SELECT what FROM audit")]
         store.database.close()
         twice = [number for number, octets in contents(at).items() if len(octets) > 1]
         missing = [number for number, code in at.live.accepted if ledger.get(number) != code]

@@ -6,8 +6,9 @@ import pytest
 
 from wisangub.refusal import Refusal
 from wisangub.room.store import backup, database
+from wisangub.room.store.commands import Command
 from wisangub.room.store.database import Database, Taken
-from wisangub.room.store.store import Command, Store
+from wisangub.room.store.store import Store
 
 from .test_backup import empty
 from .test_database import BLANK
@@ -49,10 +50,12 @@ def check(made: Database) -> None:
     assert commands[0] == ("me", 11, 4, 12, "accepted", 7, "nothing")
     assert commands[1:] == [("me", 21, 5, None, None, None, None), ("you", 31, None, None, None, None, None)]
     number = int(made.run("SELECT max(id) FROM commands")[0][0] or 0)
-    assert store.begun(one) == (Command(number - 1, BLANK), 5) and store.next(one) == Command(number, BLANK)
+    assert store.commands.begun(one) == (Command(number - 1, BLANK), 5) and store.commands.next(one) == Command(
+        number, BLANK
+    )
     with pytest.raises(Taken):
         made.run("UPDATE commands SET line_number = 6 WHERE id = ?", number)
-    assert store.lease([one], "another", 10.0) == {one}, "the lease of before is over"
+    assert store.leases.take([one], "another", 10.0) == {one}, "the lease of before is over"
 
 
 def test_a_database_of_before_is_carried_over(where: str, capsys: pytest.CaptureFixture[str]) -> None:

@@ -6,7 +6,7 @@ import time
 import pytest
 
 from wisangub.room.store.database import Failed
-from wisangub.room.store.store import Line
+from wisangub.room.store.lines import Line
 from wisangub.room.worker.session import Lost
 from wisangub.snmp import wire
 
@@ -27,14 +27,14 @@ def test_the_ledger_is_in_the_database_before_an_activation_goes_out(
             if found.out is not None:
                 message = wire.spelled(found.out)
                 assert message is not None
-                seen.append((message.number, at.store.ledger(at.sign_id), len(at.live.requests)))
+                seen.append((message.number, at.store.lines.ledger(at.sign_id), len(at.live.requests)))
             send()
 
         monkeypatch.setattr(found, "send", watched)
         begin(found)
         carried_on(found, 1000)
         found.close()
-        assert at.store.how(command) == "accepted" and seen
+        assert at.store.commands.how(command) == "accepted" and seen
         number, ledger, before = seen[0]
         assert ledger[0].split(" ")[1] == str(number) and ledger[0].endswith(" waiting") and before == 0
 
@@ -51,11 +51,11 @@ def test_what_is_not_kept_does_not_go_out(tmp_path: pathlib.Path, where: str, mo
             carried_on(found, 3)
         found.close()
         time.sleep(0.2)
-        assert at.live.requests == [] and at.store.how(command) is None
+        assert at.live.requests == [] and at.store.commands.how(command) is None
         after = at.session("second")
         carried_on(after, 1000)
         after.close()
-        assert at.store.how(command) == "accepted", "the next one goes on from the lines"
+        assert at.store.commands.how(command) == "accepted", "the next one goes on from the lines"
 
 
 def test_a_line_that_lost_its_number_is_not_handed_over(
@@ -65,7 +65,9 @@ def test_a_line_that_lost_its_number_is_not_handed_over(
         at.ask(BLANK)
         found = at.session("first")
         line = found.offer(False)
-        assert line is not None and at.store.insert([Line(at.sign_id, line.number, b"tick")], "second") == {at.sign_id}
+        assert line is not None and at.store.lines.insert([Line(at.sign_id, line.number, b"tick")], "second") == {
+            at.sign_id
+        }
         handed: list[Line] = []
         monkeypatch.setattr(found, "hand", handed.append)
         with pytest.raises(Lost):

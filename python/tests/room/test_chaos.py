@@ -64,14 +64,16 @@ def test_a_number_that_is_used_twice_is_found(number: int) -> None:
 BREAKS: dict[str, Callable[[Bench], object]] = {
     "the sign accepted": lambda at: at.live.accepted.clear(),
     "each acceptance of the sign stands in the ledger": lambda at: at.live.accepted.append((999, "ff")),
-    "each activation that went out stands in the ledger": lambda at: at.store.run("DELETE FROM ledger"),
+    "each activation that went out stands in the ledger": lambda at: at.store.database.run("DELETE FROM ledger"),
     "each command that ended accepted has its activation": lambda at: at.ended(
-        at.worker(), at.store.ask(at.sign_id, "me", "restart")
+        at.worker(), at.store.commands.ask(at.sign_id, "me", "restart")
     )
-    and at.store.run("UPDATE commands SET outcome = 'accepted'"),
-    "the ledger is the model's, handed the lines": lambda at: at.store.run("UPDATE ledger SET outcome = 'noreply'"),
-    "each command stands in the audit": lambda at: at.store.run("DELETE FROM audit"),
-    "no line is missing": lambda at: at.store.run("DELETE FROM lines WHERE number = 3"),
+    and at.store.database.run("UPDATE commands SET outcome = 'accepted'"),
+    "the ledger is the model's, handed the lines": lambda at: at.store.database.run(
+        "UPDATE ledger SET outcome = 'noreply'"
+    ),
+    "each command stands in the audit": lambda at: at.store.database.run("DELETE FROM audit"),
+    "no line is missing": lambda at: at.store.database.run("DELETE FROM lines WHERE number = 3"),
 }
 
 

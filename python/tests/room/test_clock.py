@@ -6,7 +6,7 @@ from wisangub.room.store import database
 from wisangub.room.store.database import Database
 from wisangub.room.store.queries import now as time_now
 from wisangub.room.store.queries import sign as sign_view
-from wisangub.room.store.reading_store import Said
+from wisangub.room.store.readings import Said
 from wisangub.room.store.store import Store
 
 from .bench import HELLO, bench
@@ -23,43 +23,45 @@ def jump(held: Database, seconds: float) -> None:
 def test_a_reading_that_was_asked_at_a_time_to_come_is_due(where: str) -> None:
     store, other, sign = two_stores(where)
     jump(store.database, AHEAD)
-    assert store.due([sign]) == [(sign, -1)] and store.tables_due([sign], 60, 9) == [sign]
-    assert store.to_read() == [] == store.tables_due([sign], 60, 9)
-    assert other.to_read() == [sign] and other.tables_due([sign], 60, 9) == [sign]
-    assert other.due([sign]) == [(sign, -2)] and other.to_read() == [] == other.tables_due([sign], 60, 9)
+    assert store.readings.due([sign]) == [(sign, -1)] and store.messages.due([sign], 60, 9) == [sign]
+    assert store.readings.to_read() == [] == store.messages.due([sign], 60, 9)
+    assert other.readings.to_read() == [sign] and other.messages.due([sign], 60, 9) == [sign]
+    assert other.readings.due([sign]) == [(sign, -2)] and other.readings.to_read() == [] == other.messages.due(
+        [sign], 60, 9
+    )
 
 
 def test_a_lease_that_was_taken_at_a_time_to_come_is_over(where: str) -> None:
     store, other, sign = two_stores(where)
-    store.ask(sign, "me", BLANK)
+    store.commands.ask(sign, "me", BLANK)
     jump(store.database, AHEAD)
-    assert store.lease([sign], "first", 60) == {sign} and store.with_work() == []
-    assert other.with_work() == [sign] and other.lease([sign], "second", 60) == {sign}
-    assert other.with_work() == [] == list(other.lease([sign], "third", 60))
+    assert store.leases.take([sign], "first", 60) == {sign} and store.leases.with_work() == []
+    assert other.leases.with_work() == [sign] and other.leases.take([sign], "second", 60) == {sign}
+    assert other.leases.with_work() == [] == list(other.leases.take([sign], "third", 60))
     jump(other.database, 30.0)
-    assert other.renew([sign], "second", 60) == {sign}
+    assert other.leases.renew([sign], "second", 60) == {sign}
     jump(other.database, 0.0)
-    assert other.lease([sign], "third", 60) == {sign}, "a renewal counts as it was written"
+    assert other.leases.take([sign], "third", 60) == {sign}, "a renewal counts as it was written"
 
 
 def test_a_lease_lasts_as_long_as_it_was_taken_for(where: str) -> None:
     store, other, sign = two_stores(where)
-    assert store.lease([sign], "first", 60) == {sign}
+    assert store.leases.take([sign], "first", 60) == {sign}
     for seconds, taken in ((-AHEAD, {sign}), (61.0, {sign}), (59.0, set())):
         jump(other.database, 0.0)
-        store.run("UPDATE signs SET leased_by = 'first', leased_at = {clock}, leased_until = {clock} + 60")
+        store.database.run("UPDATE signs SET leased_by = 'first', leased_at = {clock}, leased_until = {clock} + 60")
         jump(other.database, seconds)
-        assert other.lease([sign], "second", 60) == taken, seconds
+        assert other.leases.take([sign], "second", 60) == taken, seconds
 
 
 def test_what_was_heard_at_a_time_to_come_is_stale(where: str) -> None:
     store, other, sign = two_stores(where)
     jump(store.database, AHEAD)
-    store.read([Said(sign, -1, 5, '{"mode": 8}')])
+    store.readings.keep([Said(sign, -1, 5, '{"mode": 8}')])
     for held, is_stale in ((store.database, False), (other.database, True)):
         found = sign_view(held, sign)
         assert found is not None and found.is_stale(time_now(held)) is is_stale
-    other.read([Said(sign, -2, 5, '{"mode": 8}')])
+    other.readings.keep([Said(sign, -2, 5, '{"mode": 8}')])
     found = sign_view(other.database, sign)
     assert found is not None and not found.is_stale(time_now(other.database)), "it is heard again"
 
@@ -84,5 +86,5 @@ def test_a_clock_that_is_behind_the_database_lets_no_number_come_twice(where: st
     numbers = []
     for seconds in (AHEAD, 0.0, -AHEAD, AHEAD):
         jump(store.database, seconds)
-        numbers += [store.due([sign])[0][1], other.numbers([sign])[sign]]
+        numbers += [store.readings.due([sign])[0][1], other.readings.numbers([sign])[sign]]
     assert len(set(numbers)) == len(numbers) and numbers == sorted(numbers, reverse=True)

@@ -10,8 +10,8 @@ from . import needs
 
 needs.modules("aiohttp", "jinja2")
 
+from wisangub.room.store import logins
 from wisangub.room.store.sqlite import Sqlite
-from wisangub.room.web import logins
 from wisangub.room.web.words import age_word
 
 from .test_clock import AHEAD, jump

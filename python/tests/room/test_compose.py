@@ -164,10 +164,10 @@ def test_blanking_and_showing_a_row(tmp_path: pathlib.Path) -> None:
 def test_a_command_that_waits_is_withdrawn(tmp_path: pathlib.Path, where: str) -> None:
     async def act(bench: Bench, visitor: Visitors) -> None:
         one = await bench.logged_in(visitor, "operator")
-        number = bench.store.ask(bench.one, "operator", "blank 1 65535 255 127.0.0.1")
+        number = bench.store.commands.ask(bench.one, "operator", "blank 1 65535 255 127.0.0.1")
         assert "Withdraw" in (await one.get("/history"))[1]
         assert (await one.post(f"/commands/{number}/withdraw", {}))[0] == 303
-        assert bench.store.how(number) == "withdrawn by operator"
+        assert bench.store.commands.how(number) == "withdrawn by operator"
         assert (await one.post(f"/commands/{number}/withdraw", {}))[0] == 409
         assert (await one.post("/commands/999/withdraw", {}))[0] == 409
 

@@ -15,9 +15,12 @@ from wisangub.refusal import Refusal
 from wisangub.room.__main__ import PARTS
 from wisangub.room.fleet import Sign
 from wisangub.room.store import database, users
+from wisangub.room.store.commands import Command
 from wisangub.room.store.database import Database, Failed, Taken
-from wisangub.room.store.reading_store import RowSaid, Said
-from wisangub.room.store.store import Command, Line, News, Store
+from wisangub.room.store.lines import Line, News
+from wisangub.room.store.messages import RowSaid
+from wisangub.room.store.readings import Said
+from wisangub.room.store.store import Store
 
 BLANK = "blank 1 65535 255 192.0.2.1"
 OTHER = Sign("other", "", "127.0.0.1", 1162, b"", b"public", 10.0, 1)
@@ -27,7 +30,7 @@ SIGN = Sign("one", "a place", "127.0.0.1", 1161, b"", b"public", 10.0, 1)
 def two_stores(where: str) -> tuple[Store, Store, int]:
     """Two connections to one database with one sign, as two workers have them."""
     first, second = (Store(database.opened(where)) for _ in range(2))
-    return first, second, next(iter(first.enter([SIGN])))
+    return first, second, next(iter(first.signs.enter([SIGN])))
 
 
 def numbers(made: Database) -> list[object]:
@@ -114,21 +117,27 @@ def test_a_transaction_is_whole_or_nothing(where: str) -> None:
 def test_a_mark_differs_where_something_was_written(where: str) -> None:
     first, second, sign = two_stores(where)
     mark = first.database.mark()
-    second.ask(sign, "me", BLANK)
+    second.commands.ask(sign, "me", BLANK)
     later = first.database.mark()
     assert later != mark
-    first.ask(sign, "me", BLANK)
+    first.commands.ask(sign, "me", BLANK)
     assert first.database.mark() != later
 
 
 def test_many_threads_take_turns(where: str) -> None:
     store, _, sign = two_stores(where)
-    threads = [threading.Thread(target=lambda: [store.ask(sign, "me", BLANK) for _ in range(20)]) for _ in range(4)]
+    threads = [
+        threading.Thread(target=lambda: [store.commands.ask(sign, "me", BLANK) for _ in range(20)]) for _ in range(4)
+    ]
     for thread in threads:
         thread.start()
     for thread in threads:
         thread.join()
-    assert store.run("SELECT count(*) FROM commands") == [(80,)] == store.run("SELECT count(*) FROM audit")
+    assert (
+        store.database.run("SELECT count(*) FROM commands")
+        == [(80,)]
+        == store.database.run("SELECT count(*) FROM audit")
+    )
 
 
 def test_values_are_what_they_were(where: str) -> None:
@@ -144,70 +153,70 @@ def test_values_are_what_they_were(where: str) -> None:
 
 def test_a_number_is_given_once(where: str) -> None:
     first, second, sign = two_stores(where)
-    command = first.ask(sign, "me", BLANK)
-    assert first.insert([Line(sign, 1, b"journal", is_first=True)], "first") == {sign}
-    assert second.insert([Line(sign, 2, b"tick")], "second") == {sign}
-    assert first.insert([Line(sign, 2, BLANK.encode(), command)], "first") == set()
-    assert second.lines(sign) == (1, 0, [b"journal", b"tick"])
-    assert first.begun(sign) is None, "a command whose line lost is not begun"
-    assert first.insert([Line(sign, 3, b"journal again", is_first=True)], "first") == {sign}
-    assert second.lines(sign) == (3, 0, [b"journal again"])
+    command = first.commands.ask(sign, "me", BLANK)
+    assert first.lines.insert([Line(sign, 1, b"journal", is_first=True)], "first") == {sign}
+    assert second.lines.insert([Line(sign, 2, b"tick")], "second") == {sign}
+    assert first.lines.insert([Line(sign, 2, BLANK.encode(), command)], "first") == set()
+    assert second.lines.of(sign) == (1, 0, [b"journal", b"tick"])
+    assert first.commands.begun(sign) is None, "a command whose line lost is not begun"
+    assert first.lines.insert([Line(sign, 3, b"journal again", is_first=True)], "first") == {sign}
+    assert second.lines.of(sign) == (3, 0, [b"journal again"])
 
 
 def test_of_many_lines_those_are_kept_whose_numbers_are_free(where: str) -> None:
     first, second, one = two_stores(where)
-    other = [row for row in first.enter([SIGN, OTHER]) if row != one][0]
-    commands = [first.ask(sign, "me", BLANK) for sign in (one, other)]
-    assert second.insert([Line(one, 1, b"journal", is_first=True)], "second") == {one}
+    other = [row for row in first.signs.enter([SIGN, OTHER]) if row != one][0]
+    commands = [first.commands.ask(sign, "me", BLANK) for sign in (one, other)]
+    assert second.lines.insert([Line(one, 1, b"journal", is_first=True)], "second") == {one}
     lines = [Line(other, 1, BLANK.encode(), commands[1]), Line(one, 1, BLANK.encode(), commands[0])]
-    assert first.insert(lines, "first", [(3, commands[1])]) == {other}
-    assert first.begun(one) is None and first.begun(other) == (Command(commands[1], BLANK), 1)
-    assert not first.withdraw(commands[1], "withdrawn") and first.withdraw(commands[0], "withdrawn")
-    assert second.insert([Line(one, 2, BLANK.encode(), commands[0])], "second") == set(), "it waits no longer"
-    assert second.lines(one) == (1, 0, [b"journal"])
+    assert first.lines.insert(lines, "first", [(3, commands[1])]) == {other}
+    assert first.commands.begun(one) is None and first.commands.begun(other) == (Command(commands[1], BLANK), 1)
+    assert not first.commands.withdraw(commands[1], "withdrawn") and first.commands.withdraw(commands[0], "withdrawn")
+    assert second.lines.insert([Line(one, 2, BLANK.encode(), commands[0])], "second") == set(), "it waits no longer"
+    assert second.lines.of(one) == (1, 0, [b"journal"])
 
 
 def test_a_lease_is_one_worker_s_until_it_ends(where: str) -> None:
     first, second, sign = two_stores(where)
-    assert first.with_work() == [] and first.lease([], "first", 60) == set()
-    first.ask(sign, "me", BLANK)
-    assert second.with_work() == [sign]
-    assert first.lease([sign], "first", 60) == {sign} and second.lease([sign], "second", 60) == set()
-    assert second.with_work() == []
-    assert first.renew([sign], "first", 60) == {sign} and second.renew([sign], "second", 60) == set()
-    assert first.renew([sign], "first", -1) == {sign}
-    assert first.renew([sign], "first", 60) == set(), "a lease that ended is not renewed"
-    assert second.lease([sign], "second", 60) == {sign}
-    first.release([sign], "first")
-    assert first.lease([sign], "first", 60) == set(), "what another worker has is not let go"
-    second.release([sign], "second")
-    assert first.lease([sign], "first", 60) == {sign}
+    assert first.leases.with_work() == [] and first.leases.take([], "first", 60) == set()
+    first.commands.ask(sign, "me", BLANK)
+    assert second.leases.with_work() == [sign]
+    assert first.leases.take([sign], "first", 60) == {sign} and second.leases.take([sign], "second", 60) == set()
+    assert second.leases.with_work() == []
+    assert first.leases.renew([sign], "first", 60) == {sign} and second.leases.renew([sign], "second", 60) == set()
+    assert first.leases.renew([sign], "first", -1) == {sign}
+    assert first.leases.renew([sign], "first", 60) == set(), "a lease that ended is not renewed"
+    assert second.leases.take([sign], "second", 60) == {sign}
+    first.leases.release([sign], "first")
+    assert first.leases.take([sign], "first", 60) == set(), "what another worker has is not let go"
+    second.leases.release([sign], "second")
+    assert first.leases.take([sign], "first", 60) == {sign}
 
 
 def test_a_lease_is_by_the_database_s_clock(where: str, monkeypatch: pytest.MonkeyPatch) -> None:
     first, second, sign = two_stores(where)
-    now = float(first.run("SELECT {clock}")[0][0] or 0)
+    now = float(first.database.run("SELECT {clock}")[0][0] or 0)
     for clock in ("time", "monotonic"):
         monkeypatch.setattr(time, clock, lambda: 7.0)
-    assert first.lease([sign], "first", 60) == {sign}
-    until = float(first.run("SELECT leased_until FROM signs WHERE id = ?", sign)[0][0] or 0)
+    assert first.leases.take([sign], "first", 60) == {sign}
+    until = float(first.database.run("SELECT leased_until FROM signs WHERE id = ?", sign)[0][0] or 0)
     assert now + 60 <= until <= now + 120, "a worker's clock that is wrong changes no lease"
-    assert second.lease([sign], "second", 60) == set()
+    assert second.leases.take([sign], "second", 60) == set()
 
 
 def test_commands_have_their_turns(where: str) -> None:
     first, second, sign = two_stores(where)
-    numbers = [first.ask(sign, "me", line) for line in ("blank 1 1 1 192.0.2.1", "blank 2 1 1 192.0.2.1")]
-    found = second.next(sign)
+    numbers = [first.commands.ask(sign, "me", line) for line in ("blank 1 1 1 192.0.2.1", "blank 2 1 1 192.0.2.1")]
+    found = second.commands.next(sign)
     assert found is not None and found.id == numbers[0]
-    second.insert([Line(sign, 1, found.line.encode(), found.id)], "second")
-    assert first.begun(sign) == (found, 1)
-    first.end(found.id, "accepted")
-    second.end(found.id, "failed")
-    assert first.how(found.id) == "accepted" and first.begun(sign) is None
-    following = first.next(sign)
+    second.lines.insert([Line(sign, 1, found.line.encode(), found.id)], "second")
+    assert first.commands.begun(sign) == (found, 1)
+    first.commands.end(found.id, "accepted")
+    second.commands.end(found.id, "failed")
+    assert first.commands.how(found.id) == "accepted" and first.commands.begun(sign) is None
+    following = first.commands.next(sign)
     assert following is not None and following.id == numbers[1]
-    assert first.run("SELECT who, what FROM audit ORDER BY id") == [
+    assert first.database.run("SELECT who, what FROM audit ORDER BY id") == [
         ("me", "one: blank 1 1 1 192.0.2.1"),
         ("me", "one: blank 2 1 1 192.0.2.1"),
     ]
@@ -215,55 +224,66 @@ def test_commands_have_their_turns(where: str) -> None:
 
 def test_the_ledger_goes_on_from_what_waits_alone(where: str) -> None:
     first, second, sign = two_stores(where)
-    first.keep([News(sign, ["ledger 4 ff waiting", "ledger 9 ee waiting"])])
-    second.keep([News(sign, ["ledger 4 ff refused 5"])])
-    first.keep([News(sign, ["ledger 4 ff waiting"])])
-    assert first.ledger(sign) == ["ledger 4 ff refused 5", "ledger 9 ee waiting"]
-    assert first.replace(Line(sign, 1, b"journal", is_first=True), "first", "")
-    assert not second.replace(Line(sign, 1, b"journal", is_first=True), "second", "")
-    assert first.ledger(sign) == ["ledger 4 ff refused 5", "ledger 9 ee unknown"]
+    first.lines.keep([News(sign, ["ledger 4 ff waiting", "ledger 9 ee waiting"])])
+    second.lines.keep([News(sign, ["ledger 4 ff refused 5"])])
+    first.lines.keep([News(sign, ["ledger 4 ff waiting"])])
+    assert first.lines.ledger(sign) == ["ledger 4 ff refused 5", "ledger 9 ee waiting"]
+    assert first.lines.replace(Line(sign, 1, b"journal", is_first=True), "first", "")
+    assert not second.lines.replace(Line(sign, 1, b"journal", is_first=True), "second", "")
+    assert first.lines.ledger(sign) == ["ledger 4 ff refused 5", "ledger 9 ee unknown"]
 
 
 def test_a_reading_is_a_row_where_it_is_another(where: str) -> None:
     first, second, sign = two_stores(where)
-    assert first.to_read() == [sign] and first.due([sign]) == [(sign, -1)] and second.due([sign]) == []
-    assert [store.numbers([sign])[sign] for store in (first, second, first)] == [-2, -3, -4]
-    first.read([Said(sign, -1, 5, "a"), Said(sign, -5, 4, "a")])
-    assert first.readings(sign) == [(4, "a", None)]
-    second.read([Said(sign, -7, fault="no reply")])
-    first.read([Said(sign, -6, 4, "b")])
-    assert first.readings(sign) == [(None, None, "no reply"), (4, "a", None)], "one that comes late is not the newest"
+    assert (
+        first.readings.to_read() == [sign]
+        and first.readings.due([sign]) == [(sign, -1)]
+        and second.readings.due([sign]) == []
+    )
+    assert [store.readings.numbers([sign])[sign] for store in (first, second, first)] == [-2, -3, -4]
+    first.readings.keep([Said(sign, -1, 5, "a"), Said(sign, -5, 4, "a")])
+    assert first.readings.of(sign) == [(4, "a", None)]
+    second.readings.keep([Said(sign, -7, fault="no reply")])
+    first.readings.keep([Said(sign, -6, 4, "b")])
+    assert first.readings.of(sign) == [
+        (None, None, "no reply"),
+        (4, "a", None),
+    ], "one that comes late is not the newest"
 
 
 def test_a_table_has_the_newest_of_each_row(where: str) -> None:
     first, second, sign = two_stores(where)
-    assert first.tables_due([sign], 60, 9) == [sign] and second.tables_due([sign], 60, 9) == []
-    first.want_table(sign)
-    assert second.tables_due([sign], 60, 0) == [] and second.tables_due([sign], 60, 9) == [sign]
-    first.read_rows([RowSaid(sign, 3, 1, -1, 1, None), RowSaid(sign, 3, 2, -2, 4, "a")])
-    second.read_rows([RowSaid(sign, 3, 2, -4, 4, "b"), RowSaid(sign, 3, 1, -5, 5, "c")])
-    first.read_rows([RowSaid(sign, 3, 2, -3, 4, "late"), RowSaid(sign, 3, 1, -6, 1, None)])
-    assert [row[:4] for row in first.table(sign)] == [(3, 1, 1, None), (3, 2, 4, "b")]
+    assert first.messages.due([sign], 60, 9) == [sign] and second.messages.due([sign], 60, 9) == []
+    first.messages.want(sign)
+    assert second.messages.due([sign], 60, 0) == [] and second.messages.due([sign], 60, 9) == [sign]
+    first.messages.keep([RowSaid(sign, 3, 1, -1, 1, None), RowSaid(sign, 3, 2, -2, 4, "a")])
+    second.messages.keep([RowSaid(sign, 3, 2, -4, 4, "b"), RowSaid(sign, 3, 1, -5, 5, "c")])
+    first.messages.keep([RowSaid(sign, 3, 2, -3, 4, "late"), RowSaid(sign, 3, 1, -6, 1, None)])
+    assert [row[:4] for row in first.messages.of(sign)] == [(3, 1, 1, None), (3, 2, 4, "b")]
 
 
 def test_numbers_of_readings_are_used_up_once(where: str) -> None:
     store, _, sign = two_stores(where)
-    store.run("UPDATE signs SET reading_number = ? WHERE id = ?", -(2**31) + 1, sign)
-    assert store.numbers([sign]) == {sign: -(2**31)} and store.numbers([sign]) == {} and store.due([sign]) == []
+    store.database.run("UPDATE signs SET reading_number = ? WHERE id = ?", -(2**31) + 1, sign)
+    assert (
+        store.readings.numbers([sign]) == {sign: -(2**31)}
+        and store.readings.numbers([sign]) == {}
+        and store.readings.due([sign]) == []
+    )
 
 
 def test_a_command_and_its_audit_are_one(where: str) -> None:
     first, second, sign = two_stores(where)
     lines = [(sign, BLANK), (sign, BLANK)]
-    batch = first.ask_all(lines, "me", "nothing", "a confirmation")
-    assert second.ask_all(lines, "me", "nothing", "a confirmation") == batch, "it counts once"
+    batch = first.commands.ask_all(lines, "me", "nothing", "a confirmation")
+    assert second.commands.ask_all(lines, "me", "nothing", "a confirmation") == batch, "it counts once"
     with pytest.raises(Taken):
-        second.ask_all(lines, "you", "nothing", "a confirmation")
+        second.commands.ask_all(lines, "you", "nothing", "a confirmation")
     with pytest.raises(Taken):
-        second.ask_all([(sign, BLANK), (sign + 1, BLANK)], "me", "nothing", "another confirmation")
-    commands = [int(row[0] or 0) for row in first.run("SELECT command FROM batch_commands ORDER BY command")]
-    assert first.withdraw(commands[0], "you") and not first.withdraw(commands[0], "me")
-    assert not first.withdraw(commands[1] + 100, "me")
-    assert first.how(commands[0]) == "withdrawn by you" and first.how(commands[1]) is None
+        second.commands.ask_all([(sign, BLANK), (sign + 1, BLANK)], "me", "nothing", "another confirmation")
+    commands = [int(row[0] or 0) for row in first.database.run("SELECT command FROM batch_commands ORDER BY command")]
+    assert first.commands.withdraw(commands[0], "you") and not first.commands.withdraw(commands[0], "me")
+    assert not first.commands.withdraw(commands[1] + 100, "me")
+    assert first.commands.how(commands[0]) == "withdrawn by you" and first.commands.how(commands[1]) is None
     noted = [("me", f"one: {BLANK}")] * 2 + [("you", f"one: command {commands[0]} is withdrawn")]
-    assert first.run("SELECT who, what FROM audit ORDER BY id") == noted
+    assert first.database.run("SELECT who, what FROM audit ORDER BY id") == noted

@@ -48,7 +48,7 @@ def test_what_has_changed_is_told(tmp_path: pathlib.Path, where: str) -> None:
             assert set(parts) == {"counts", f"sign-{bench.two}"} and "shows NEW" in parts[f"sign-{bench.two}"]
         sign = await listened(one, f"sign/{bench.one}")
         assert set(await told(sign)) == {"shown", "commands"}
-        bench.store.ask(bench.one, "operator", "blank 1 65535 255 127.0.0.1")
+        bench.store.commands.ask(bench.one, "operator", "blank 1 65535 255 127.0.0.1")
         parts = await told(sign)
         assert set(parts) == {"commands"} and "waits for its turn" in parts["commands"]
         for stream in (*streams, sign):
@@ -69,7 +69,7 @@ def test_a_card_is_made_anew_where_its_sign_says_something_new(tmp_path: pathlib
         assert [made(), made()] == [len(bench.rows), 0]
         bench.read(bench.two, text=b"NEW".hex())
         assert [made(), made()] == [1, 0] and "shows NEW" in wall.parts(room, held)[f"sign-{bench.two}"]
-        bench.store.ask(bench.one, "operator", "blank 1 65535 255 127.0.0.1")
+        bench.store.commands.ask(bench.one, "operator", "blank 1 65535 255 127.0.0.1")
         assert [made(), made()] == [1, 0] and "1 waiting" in wall.parts(room, held)[f"sign-{bench.one}"]
 
     run(tmp_path, where, act)

@@ -56,7 +56,7 @@ def test_all_through_the_proxy(tmp_path: pathlib.Path) -> None:
             for word in ("Secure", "HttpOnly", "SameSite=Strict", "Path=/"):
                 assert word in cookie, cookie
             assert (await one.get("/"))[0] == 200
-            lines = bench.store.run("SELECT what FROM audit WHERE who = 'operator' ORDER BY id DESC LIMIT 1")
+            lines = bench.store.database.run("SELECT what FROM audit WHERE who = 'operator' ORDER BY id DESC LIMIT 1")
             assert lines == [("logged in, from 127.0.0.1",)], "the proxy's word counts, and not the client's"
             await refused(one)
             await followed(bench, one)

@@ -8,7 +8,7 @@ from . import needs
 needs.modules("aiohttp", "jinja2")
 
 from wisangub.room.store import history
-from wisangub.room.store.store import Line
+from wisangub.room.store.lines import Line
 from wisangub.room.store.users import Role
 from wisangub.room.web.app import ROUTES
 from wisangub.room.web.security import POLICY
@@ -61,7 +61,7 @@ def filled(bench: Bench) -> None:
     bench.table(bench.one)
     head = f"journal 1 centre rules 1 description {bench.service.signs[bench.one].digest} first 1"
     line = f"publish 3 1 {MARKUP.encode().hex()} {b'me'.hex()} 0 0 100 65535 255 192.0.2.1"
-    command = bench.store.ask(bench.one, "operator", line)
+    command = bench.store.commands.ask(bench.one, "operator", line)
     broken = "datagram 30" + WRITER.encode().hex()
     lines = [
         head,
@@ -74,14 +74,18 @@ def filled(bench: Bench) -> None:
         "tick",
     ]
     for number, text in enumerate(lines, 1):
-        bench.store.insert([Line(bench.one, number, text.encode(), command if number == 2 else None, number == 1)], "w")
-    bench.store.run(
+        bench.store.lines.insert(
+            [Line(bench.one, number, text.encode(), command if number == 2 else None, number == 1)], "w"
+        )
+    bench.store.database.run(
         "INSERT INTO ledger (sign, number, code, outcome, at) VALUES (?, 7, ?, 'refused 5', {clock})",
         bench.one,
         "ffffff0300019a66c0000201",
     )
-    bench.store.run("INSERT INTO batches (confirmation, who, at, what) VALUES ('x', 'operator', {clock}, ?)", MARKUP)
-    bench.store.run("INSERT INTO batch_commands (batch, command) VALUES (1, ?)", command)
+    bench.store.database.run(
+        "INSERT INTO batches (confirmation, who, at, what) VALUES ('x', 'operator', {clock}, ?)", MARKUP
+    )
+    bench.store.database.run("INSERT INTO batch_commands (batch, command) VALUES (1, ?)", command)
 
 
 def where_of(bench: Bench, path: str) -> str:
@@ -150,7 +154,7 @@ def test_no_community_stands_anywhere(tmp_path: pathlib.Path, where: str) -> Non
             for word in (READER, WRITER, READER.encode().hex(), WRITER.encode().hex()):
                 assert word not in text, (path, word)
             assert bench.service.signs[bench.one].digest not in text, "the digest of what holds the communities"
-        held = str(bench.store.run("SELECT line FROM lines"))
+        held = str(bench.store.database.run("SELECT line FROM lines"))
         assert WRITER.encode().hex() in held, "lines do hold it"
 
     run(tmp_path, where, act)
@@ -178,7 +182,7 @@ def test_headers_of_every_answer(tmp_path: pathlib.Path) -> None:
 def test_a_sign_that_stands_still_is_an_alarm(tmp_path: pathlib.Path) -> None:
     async def act(bench: Bench, visitor: Visitors) -> None:
         bench.read(bench.one)
-        bench.store.run("UPDATE signs SET still = 'its address is that of <b>two</b>' WHERE id = ?", bench.one)
+        bench.store.database.run("UPDATE signs SET still = 'its address is that of <b>two</b>' WHERE id = ?", bench.one)
         one = await bench.logged_in(visitor, "operator")
         words = "stands still: its address is that of &lt;b&gt;two&lt;/b&gt;"
         wall = (await one.get("/"))[1]
@@ -201,7 +205,7 @@ def test_what_the_wall_says(tmp_path: pathlib.Path) -> None:
         assert "central · priority 100 · without end" in text and " s ago</time>" in text
         assert "3 signs, 1 lit, 2 silent" in text and len(re.findall(r'<li class="card', text)) == len(NAMES)
         assert 'type="checkbox"' not in text, "a reader chooses nothing"
-        bench.store.run("UPDATE readings SET heard = heard - 3600 WHERE sign = ?", bench.one)
+        bench.store.database.run("UPDATE readings SET heard = heard - 3600 WHERE sign = ?", bench.one)
         assert "not heard lately" in (await one.get("/"))[1]
 
     run(tmp_path, str(tmp_path / "database"), act)
@@ -214,7 +218,7 @@ def test_a_table_is_wanted(tmp_path: pathlib.Path) -> None:
         text = (await one.get(f"/signs/{bench.one}/table"))[1]
         assert "changeable 1" in text and "9a66" in text and "valid" in text and "FOG" in text
         assert (await one.post(f"/signs/{bench.one}/table", {}))[0] == 303
-        assert bench.store.run("SELECT table_wanted FROM signs WHERE id = ?", bench.one) == [(1,)]
+        assert bench.store.database.run("SELECT table_wanted FROM signs WHERE id = ?", bench.one) == [(1,)]
         assert "It is about to be read" in (await one.get(f"/signs/{bench.one}/table"))[1]
 
     run(tmp_path, str(tmp_path / "database"), act)

@@ -20,7 +20,8 @@ from wisangub.refusal import Refusal
 from wisangub.room import command, start
 from wisangub.room.store import backup, database
 from wisangub.room.store.database import Failed, NotYet
-from wisangub.room.store.store import Line
+from wisangub.room.store.lines import Line
+from wisangub.room.store.store import Store
 from wisangub.room.worker.session import Lost
 
 from .bench import HELLO, bench, carried
@@ -83,7 +84,7 @@ def test_a_line_whose_insert_has_no_known_outcome(
         assert after.is_busy and after.number == line.number + 1, "the line counts, its datagram is one that was lost"
         carried_on(after, 1000)
         after.close()
-        assert at.store.how(command) == "accepted" and len(set(at.live.accepted)) == 1
+        assert at.store.commands.how(command) == "accepted" and len(set(at.live.accepted)) == 1
 
 
 def test_connections_that_the_server_ends(tmp_path: pathlib.Path, url: str) -> None:
@@ -92,8 +93,7 @@ def test_connections_that_the_server_ends(tmp_path: pathlib.Path, url: str) -> N
         commands = [at.ask(HELLO) for _ in range(3)]
         for number in commands:
             ended_from_beside(url)
-            at.store.database = database.connected(url)
-            at.store.run = at.store.database.run
+            at.store = Store(database.connected(url))
             assert at.ended(worker, number) == "accepted"
 
 
@@ -101,12 +101,12 @@ def test_within_a_transaction_a_lost_connection_is_not_made_anew(url: str) -> No
     store, other, sign = two_stores(url)
     with pytest.raises(Failed, match="lost within a transaction"):
         with store.database.transaction():
-            store.run("INSERT INTO audit (at, who, what) VALUES (0, 'me', 'before')")
+            store.database.run("INSERT INTO audit (at, who, what) VALUES (0, 'me', 'before')")
             ended_from_beside(url)
             with pytest.raises(Failed):
-                store.run("SELECT 1")
-            store.run("INSERT INTO audit (at, who, what) VALUES (0, 'me', 'after')")
-    assert store.run("SELECT what FROM audit") == []
+                store.database.run("SELECT 1")
+            store.database.run("INSERT INTO audit (at, who, what) VALUES (0, 'me', 'after')")
+    assert store.database.run("SELECT what FROM audit") == []
 
 
 def test_who_is_stopped_within_a_transaction_loses_its_place(url: str) -> None:
@@ -114,9 +114,11 @@ def test_who_is_stopped_within_a_transaction_loses_its_place(url: str) -> None:
     begun = time.monotonic()
     with pytest.raises(Failed):
         with store.database.transaction():
-            store.run("INSERT INTO lines (sign, number, line, worker, at) VALUES (?, 1, 'a', 'first', 0)", sign)
-            assert other.insert([Line(sign, 1, b"b")], "second") == {sign}, "the server ended the first one"
-    assert time.monotonic() - begun < 9 and store.lines(sign)[2] == [b"b"]
+            store.database.run(
+                "INSERT INTO lines (sign, number, line, worker, at) VALUES (?, 1, 'a', 'first', 0)", sign
+            )
+            assert other.lines.insert([Line(sign, 1, b"b")], "second") == {sign}, "the server ended the first one"
+    assert time.monotonic() - begun < 9 and store.lines.of(sign)[2] == [b"b"]
 
 
 def test_a_server_that_is_started_again(tmp_path: pathlib.Path, own: Cluster) -> None:
@@ -126,7 +128,7 @@ def test_a_server_that_is_started_again(tmp_path: pathlib.Path, own: Cluster) ->
         command = at.ask(HELLO)
         found = at.session("first")
         begin(found)
-        lines = at.store.lines(at.sign_id)
+        lines = at.store.lines.of(at.sign_id)
         own.stop(signal.SIGQUIT)
         with pytest.raises(Failed):
             carried(found, found.offer(True))
@@ -136,8 +138,8 @@ def test_a_server_that_is_started_again(tmp_path: pathlib.Path, own: Cluster) ->
         for _ in range(3):
             worker.guarded_round()
         with pytest.raises(Failed):
-            at.store.lines(at.sign_id)
-        assert at.store.lines(at.sign_id)[2][:2] == lines[2], "what was committed is there"
+            at.store.lines.of(at.sign_id)
+        assert at.store.lines.of(at.sign_id)[2][:2] == lines[2], "what was committed is there"
         assert at.ended(worker, command) == "accepted"
 
 

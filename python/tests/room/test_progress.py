@@ -59,10 +59,10 @@ def test_the_page_of_what_was_asked_follows_the_steps(tmp_path: pathlib.Path) ->
             (5, "Step 5 of 8: is the message valid"),
             (8, "Step 8 of 8: ask why it was refused"),
         ):
-            bench.store.run("UPDATE commands SET step = ?", step)
+            bench.store.database.run("UPDATE commands SET step = ?", step)
             for path in ("/batches/1", f"/signs/{bench.one}"):
                 assert words in (await one.get(path))[1], path
-        bench.store.run("UPDATE commands SET outcome = 'failed at step 5: the row has status 5, error'")
+        bench.store.database.run("UPDATE commands SET outcome = 'failed at step 5: the row has status 5, error'")
         page = (await one.get("/batches/1"))[1]
         assert "Failed at step 5: is the message valid" in page and "the row has status 5, error" in page
 
@@ -92,11 +92,11 @@ def test_a_command_that_failed_says_what_the_sign_found(tmp_path: pathlib.Path) 
                 f"three times to {address}, and no reply came: it may be that nothing listens there",
             ),
         ):
-            bench.store.run("UPDATE commands SET line_number = 1, outcome = ?, why = ?", how, why)
+            bench.store.database.run("UPDATE commands SET line_number = 1, outcome = ?, why = ?", how, why)
             for path in ("/batches/1", f"/signs/{bench.one}", "/history"):
                 page = (await one.get(path))[1]
                 assert named in page and words in page and "<u>" not in page, (path, how)
-        bench.store.run("UPDATE commands SET outcome = 'accepted', why = NULL")
+        bench.store.database.run("UPDATE commands SET outcome = 'accepted', why = NULL")
         assert "it may be" not in (await one.get("/history"))[1]
 
     run(tmp_path, str(tmp_path / "database"), act)

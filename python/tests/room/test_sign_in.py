@@ -9,9 +9,8 @@ from . import needs
 needs.modules("aiohttp", "jinja2")
 
 from wisangub.refusal import Refusal
-from wisangub.room.store import passwords, users
+from wisangub.room.store import logins, passwords, users
 from wisangub.room.store.users import Role
-from wisangub.room.web import logins
 from wisangub.room.web.sign_in import local
 
 from .visits import PASSWORD, Bench, Visitors, run
@@ -85,12 +84,14 @@ def test_log_ins_that_fail_are_counted(tmp_path: pathlib.Path, where: str) -> No
             assert (await one.log_in("reader", "wrong"))[0] == 403
         assert (await one.log_in("reader"))[0] == 429, "the right password is no way around"
         assert (await one.log_in("operator"))[0] == 303, "another user may"
-        lines = [str(row[0]) for row in bench.store.run("SELECT what FROM audit WHERE who = 'reader'")]
+        lines = [str(row[0]) for row in bench.store.database.run("SELECT what FROM audit WHERE who = 'reader'")]
         assert lines == ["a log-in failed, from 127.0.0.1"] * logins.MOST_OF_BOTH
         for number in range(logins.MOST_OF_ADDRESS - logins.MOST_OF_BOTH):
             assert (await one.log_in(f"nobody{number}", "my secret"))[0] == 403
         assert (await one.log_in("administrator"))[0] == 429, "so many from one address"
-        held = str(bench.store.run("SELECT * FROM failed_logins")) + str(bench.store.run("SELECT * FROM audit"))
+        held = str(bench.store.database.run("SELECT * FROM failed_logins")) + str(
+            bench.store.database.run("SELECT * FROM audit")
+        )
         assert "nobody1" not in held and "my secret" not in held
 
     run(tmp_path, where, act)

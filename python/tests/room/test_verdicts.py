@@ -7,7 +7,8 @@ from typing import Sequence
 import pytest
 
 from wisangub.room.command import explain
-from wisangub.room.store.store import Command, News
+from wisangub.room.store.commands import Command
+from wisangub.room.store.lines import News
 from wisangub.room.worker.program import Worker
 from wisangub.snmp import wire
 
@@ -22,7 +23,7 @@ FOUND = "the sign found fault 5 at octet 16: "
 def said(at: Bench, worker: Worker, command: int, wait: float = 30.0) -> str:
     """What the sign said of a command, once it is there."""
     ends = time.monotonic() + wait
-    while not (why := at.store.why(command)) and time.monotonic() < ends:
+    while not (why := at.store.commands.why(command)) and time.monotonic() < ends:
         worker.guarded_round()
     return why
 
@@ -40,7 +41,7 @@ def test_a_sign_says_what_is_wrong_with_a_row(tmp_path: pathlib.Path, where: str
         assert at.ended(worker, other) == "accepted" and said(at, worker, other, 0.5) == ""
         asked = [message for message in map(wire.read, at.live.requests) if message.number < 0]
         assert len({message.number for message in asked}) == len({(m.number, str(m.bindings)) for m in asked})
-        lines = [str(line) for (line,) in at.store.run("SELECT line FROM lines")]
+        lines = [str(line) for (line,) in at.store.database.run("SELECT line FROM lines")]
         replies = [wire.read(bytes.fromhex(line.split(" ")[1])) for line in lines if line.startswith("datagram ")]
         assert replies and min(reply.number for reply in replies) >= 0, "the question is no line"
 
@@ -59,8 +60,8 @@ def test_a_sign_is_asked_after_a_worker_died(
         monkeypatch.setattr(worker.store, "keep", dies)
         with pytest.raises(KeyboardInterrupt):
             at.ended(worker, command)
-        assert at.store.how(command) is None and worker.verdicts.to_ask == []
-        at.store.run("UPDATE signs SET leased_by = NULL")
+        assert at.store.commands.how(command) is None and worker.verdicts.to_ask == []
+        at.store.database.run("UPDATE signs SET leased_by = NULL")
         second = at.worker()
         assert at.ended(second, command) == HOW and said(at, second, command).startswith(FOUND)
 
@@ -76,7 +77,7 @@ def test_a_sign_that_does_not_answer_leaves_the_words_as_they_are(tmp_path: path
         worker.verdicts.end(worker.signs[at.sign_id], Command(command, WIDE), "no reply")
         worker.verdicts.end(worker.signs[at.sign_id], Command(command, WIDE), [2, 2, 0])
         worker.verdicts.keep()
-        assert at.store.why(command) == ""
+        assert at.store.commands.why(command) == ""
 
 
 def test_one_sign_is_asked_of_one_command_at_a_time(tmp_path: pathlib.Path) -> None:
@@ -96,7 +97,7 @@ def test_one_sign_is_asked_of_one_command_at_a_time(tmp_path: pathlib.Path) -> N
 def test_a_command_on_the_command_line_says_why(tmp_path: pathlib.Path, capfd: pytest.CaptureFixture[str]) -> None:
     with bench(tmp_path, str(tmp_path / "database")) as at:
         command = at.ask(WIDE)
-        at.store.because([(command, f"{FOUND}textTooBig")])
+        at.store.commands.because([(command, f"{FOUND}textTooBig")])
         explain(at.store, command, HOW)
         assert capfd.readouterr().err == f"step 5 (is the message valid): {FOUND}textTooBig\n"
         explain(at.store, command, "failed at step 7: no reply")

@@ -86,11 +86,11 @@ def waits_and_goes_on(folder: pathlib.Path, server: Cluster) -> None:
             for words, program in made.items():
                 assert until_said(program.stdout, words), words
             with pytest.raises(Failed):
-                at.store.how(command)
+                at.store.commands.how(command)
             ends = time.monotonic() + PATIENCE
-            while at.store.how(command) is None and time.monotonic() < ends:
+            while at.store.commands.how(command) is None and time.monotonic() < ends:
                 time.sleep(0.1)
-            assert at.store.how(command) == "accepted"
+            assert at.store.commands.how(command) == "accepted"
         finally:
             for program in made.values():
                 program.terminate()
@@ -105,9 +105,9 @@ def test_a_file_that_another_one_keeps_is_waited_for(
     other = database.opened(where)
     other.begin(False)
     with pytest.raises(Away, match="locked"):
-        Store(database.opened(where)).enter([SIGN])
+        Store(database.opened(where)).signs.enter([SIGN])
     threading.Timer(1.5, other.roll_back).start()
-    assert waited(Waiting(), lambda: Store(database.opened(where)).enter([SIGN]))
+    assert waited(Waiting(), lambda: Store(database.opened(where)).signs.enter([SIGN]))
     said = capfd.readouterr().err
     assert said.count("it is waited for") == 1 and "the database answers" in said
 
@@ -131,9 +131,9 @@ def database_failed() -> int:
 def filled(where: str) -> bytes:
     """A database with a sign, its lines and commands, in one file."""
     store = Store(database.opened(where))
-    (sign,) = store.enter([SIGN])
+    (sign,) = store.signs.enter([SIGN])
     for _ in range(300):
-        store.ask(sign, "me", BLANK)
+        store.commands.ask(sign, "me", BLANK)
     store.database.close()
     with sqlite3.connect(where) as held:
         held.execute("PRAGMA journal_mode = DELETE")

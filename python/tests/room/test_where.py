@@ -13,7 +13,7 @@ from wisangub.room import addresses
 from wisangub.room.addresses import Addresses, looked_up, of_places
 from wisangub.room.fleet import Sign
 from wisangub.room.store import database
-from wisangub.room.store.address_store import MARGIN
+from wisangub.room.store.addresses import MARGIN
 from wisangub.room.store.queries import signs as sign_views
 from wisangub.room.store.store import Store
 from wisangub.room.worker.rounds import Pace, Worker
@@ -106,12 +106,12 @@ def test_many_names_are_not_waited_for_for_ever(monkeypatch: pytest.MonkeyPatch)
 @pytest.mark.parametrize("host", ("localhost", "127.1", "::ffff:127.0.0.1"))
 def test_a_sign_of_the_database_under_another_spelling_is_refused(where: str, host: str) -> None:
     store = Store(database.opened(where))
-    store.enter([sign("one", 1161)])
-    store.run("DELETE FROM addresses WHERE address <> '127.0.0.1:1161'")  # as a program of before left it
+    store.signs.enter([sign("one", 1161)])
+    store.database.run("DELETE FROM addresses WHERE address <> '127.0.0.1:1161'")  # as a program of before left it
     found = of_places([(host, 1161)])[host, 1161]
     with pytest.raises(Refusal, match="rename 'one' 'two'"):
-        store.enter([Sign("two", "", host, 1161, b"", b"public", 10.0, 1, found.every)])
-    assert store.run("SELECT name FROM signs") == [("one",)]
+        store.signs.enter([Sign("two", "", host, 1161, b"", b"public", 10.0, 1, found.every)])
+    assert store.database.run("SELECT name FROM signs") == [("one",)]
 
 
 def test_the_second_that_comes_to_one_address_stands_still(
@@ -119,7 +119,7 @@ def test_the_second_that_comes_to_one_address_stands_still(
 ) -> None:
     names.of.update({"a.example": ["127.0.0.1"], "b.example": ["127.0.0.2"]})
     store = Store(database.opened(where))
-    rows = store.enter([named("a", "a.example"), named("b", "b.example")])
+    rows = store.signs.enter([named("a", "a.example"), named("b", "b.example")])
     one, two = rows
     used(store, one, 70, -400)
     held = Where(store, rows, AGAIN)
@@ -137,7 +137,7 @@ def test_the_second_that_comes_to_one_address_stands_still(
 def test_two_that_change_places_go_on_above_one_another(where: str, names: Names) -> None:
     names.of.update({"a.example": ["127.0.0.1"], "b.example": ["127.0.0.2"]})
     store = Store(database.opened(where))
-    rows = store.enter([named("a", "a.example"), named("b", "b.example")])
+    rows = store.signs.enter([named("a", "a.example"), named("b", "b.example")])
     one, two = rows
     used(store, one, 70, -400)
     used(store, two, 5, -3)
@@ -174,7 +174,7 @@ def test_a_sign_whose_name_does_not_resolve_waits(
         until(worker, at, [words])
         for _ in range(5):
             worker.guarded_round()
-        assert at.store.how(command) is None and not at.live.requests and not worker.sessions
+        assert at.store.commands.how(command) is None and not at.live.requests and not worker.sessions
         assert f"one: it stands still: {words}" in capfd.readouterr().err
         names.of["a.example"] = ["127.0.0.1"]
         assert at.ended(worker, command) == "accepted" and len(at.live.accepted) == 1
@@ -193,11 +193,11 @@ def test_of_two_names_for_one_sign_one_is_driven(tmp_path: pathlib.Path, where: 
         until(worker, at, [None, None])
         names.of["b.example"] = ["127.0.0.1"]
         until(worker, at, [None, "its address is that of one"])
-        commands = [at.store.ask(row, "me", HELLO) for row in worker.where.fleet]
+        commands = [at.store.commands.ask(row, "me", HELLO) for row in worker.where.fleet]
         assert at.ended(worker, commands[0]) == "accepted"
         for _ in range(20):
             worker.guarded_round()
-        assert at.store.how(commands[1]) is None and len(at.live.accepted) == 1
+        assert at.store.commands.how(commands[1]) is None and len(at.live.accepted) == 1
         sent: dict[int, set[bytes]] = {}
         for octets in at.live.requests:
             message = wire.spelled(octets)

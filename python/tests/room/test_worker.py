@@ -57,10 +57,10 @@ def test_commands_end_in_words(tmp_path: pathlib.Path, where: str) -> None:
             assert at.ended(worker, command) == how, name
         while worker.sessions:
             worker.round()
-        assert at.store.run("SELECT leased_by FROM signs") == [(None,)], "a sign without work is let go"
-        assert [line.split()[3] for line in at.store.ledger(at.sign_id)] == ["accepted", "accepted", "refused"]
+        assert at.store.database.run("SELECT leased_by FROM signs") == [(None,)], "a sign without work is let go"
+        assert [line.split()[3] for line in at.store.lines.ledger(at.sign_id)] == ["accepted", "accepted", "refused"]
         accepted = [code for _, code in dict.fromkeys(at.live.accepted)]
-        assert accepted == [line.split()[2] for line in at.store.ledger(at.sign_id)[:2]]
+        assert accepted == [line.split()[2] for line in at.store.lines.ledger(at.sign_id)[:2]]
 
 
 def test_a_co_process_is_asked_for_its_ledger_where_the_news_of_it_are_wanted(
@@ -120,7 +120,7 @@ def test_a_sign_that_is_silent(tmp_path: pathlib.Path, where: str, monkeypatch: 
     with bench(tmp_path, where) as at:
         worker = at.worker()
         assert at.ended(worker, at.ask(f"blank 1 65535 255 {ADDRESS}")) == "failed at step 7: no reply"
-        assert at.store.ledger(at.sign_id)[0].endswith(" noreply")
+        assert at.store.lines.ledger(at.sign_id)[0].endswith(" noreply")
         assert len(set(filter(lambda octets: wire.read(octets).number >= 0, at.live.requests))) == 1
 
 
@@ -150,9 +150,9 @@ def test_workers_that_die_after_some_lines(tmp_path: pathlib.Path, where: str) -
             found = at.session(f"worker {lives}")
             lives += 1
         found.close()
-        assert lives > 3 and at.store.how(command) == "accepted"
+        assert lives > 3 and at.store.commands.how(command) == "accepted"
         assert len(set(at.live.accepted)) == 1
-        numbers = [row[0] for row in at.store.run("SELECT number FROM lines ORDER BY number")]
+        numbers = [row[0] for row in at.store.database.run("SELECT number FROM lines ORDER BY number")]
         assert numbers == list(range(1, len(numbers) + 1))
 
 
@@ -163,10 +163,10 @@ def test_a_command_that_was_refused_as_its_worker_died(tmp_path: pathlib.Path, w
         begin(found)
         carried_on(found, 1000)
         line = found.offer(False)
-        assert line is not None and at.store.insert([line], "first") == {at.sign_id}
+        assert line is not None and at.store.lines.insert([line], "first") == {at.sign_id}
         found.close()
         at.session("second").close()
-        hows = [at.store.how(command) for command in commands]
+        hows = [at.store.commands.how(command) for command in commands]
         assert hows == ["accepted", "refused a value is out of its range: NUMBER"]
 
 
@@ -183,7 +183,7 @@ def test_of_two_that_think_they_drive_a_sign_one_goes_on(tmp_path: pathlib.Path,
         first.close()
         carried_on(second, 1000)
         second.close()
-        assert at.store.how(command) == "accepted" and len(set(at.live.accepted)) == 1
+        assert at.store.commands.how(command) == "accepted" and len(set(at.live.accepted)) == 1
 
 
 def test_a_new_centre_where_lines_grew_long(
@@ -194,12 +194,12 @@ def test_a_new_centre_where_lines_grew_long(
         worker = at.worker()
         for _ in range(3):
             assert at.ended(worker, at.ask(HELLO)) == "accepted"
-        rows = at.store.run("SELECT line FROM lines WHERE line LIKE 'journal %' ORDER BY number")
+        rows = at.store.database.run("SELECT line FROM lines WHERE line LIKE 'journal %' ORDER BY number")
         heads = [str(row[0]).split(" ") for row in rows]
         assert len(heads) == 3
         numbers = numbers_of(at)
-        assert numbers == sorted(numbers) and len(at.store.ledger(at.sign_id)) == 3
-        assert at.store.lines(at.sign_id)[2][0].decode().split(" ") == heads[-1]
+        assert numbers == sorted(numbers) and len(at.store.lines.ledger(at.sign_id)) == 3
+        assert at.store.lines.of(at.sign_id)[2][0].decode().split(" ") == heads[-1]
 
 
 def test_another_description_is_another_centre(tmp_path: pathlib.Path, where: str) -> None:
@@ -211,7 +211,7 @@ def test_another_description_is_another_centre(tmp_path: pathlib.Path, where: st
         found.close()
         (tmp_path / "a.sign").write_bytes(TEXT.replace(b"rows 32 8", b"rows 31 8"))
         found = at.session("second")
-        assert not found.is_busy and at.store.how(command) == session.CHANGED
+        assert not found.is_busy and at.store.commands.how(command) == session.CHANGED
         assert found.head.first is not None and found.head.first > used
         found.close()
 
@@ -221,8 +221,8 @@ def test_what_cannot_be_begun_waits_for_its_lease(tmp_path: pathlib.Path, where:
         at.ask(HELLO)
         worker = at.worker(program="/bin/false")
         worker.lease()
-        assert not worker.sessions and at.store.with_work() == []
-        assert at.store.run("SELECT leased_by FROM signs") == [(worker.name,)]
+        assert not worker.sessions and at.store.leases.with_work() == []
+        assert at.store.database.run("SELECT leased_by FROM signs") == [(worker.name,)]
 
 
 def test_no_community_is_said_or_kept_beside_the_lines(
@@ -236,12 +236,12 @@ def test_no_community_is_said_or_kept_beside_the_lines(
             assert at.ended(worker, command)
         at.ask(HELLO)
         at.worker(program="/bin/false").lease()
-        at.store.run("UPDATE signs SET leased_until = 0")
+        at.store.database.run("UPDATE signs SET leased_until = 0")
         (tmp_path / "a.sign").write_bytes(text.replace(words[1].encode(), words[1].encode() * 3))  # which is too long
         at.worker().lease()
         tables = ("signs", "commands", "ledger", "readings", "messages", "audit")
-        kept = "".join(str(at.store.run(f"SELECT * FROM {table}")) for table in tables)
-        held = str(at.store.run("SELECT line FROM lines"))
+        kept = "".join(str(at.store.database.run(f"SELECT * FROM {table}")) for table in tables)
+        held = str(at.store.database.run("SELECT line FROM lines"))
     said = "".join(capfd.readouterr())
     assert said.count("one: ") == 2, "both workers said why they do not begin"
     for word in words:

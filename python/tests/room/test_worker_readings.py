@@ -18,13 +18,13 @@ def test_a_reading_says_what_is_shown(tmp_path: pathlib.Path, where: str) -> Non
         found: dict[str, object] = {}
         while found.get("text") != b"HELLO".hex() and time.monotonic() < ends:
             worker.round()
-            newest = at.store.readings(at.sign_id)[:1]
+            newest = at.store.readings.of(at.sign_id)[:1]
             found = json.loads(newest[0][1]) if newest and newest[0][1] else {}
         assert found["text"] == b"HELLO".hex() and found["owner"] == b"me".hex() and found["mode"] == 8
         sent = [message for message in map(wire.read, at.live.requests) if message is not None]
         below = [message for message in sent if message.number < 0]
         assert below and all(message.kind == wire.GET and message.community == b"public" for message in below)
-        lines = [str(line).split(" ") for (line,) in at.store.run("SELECT line FROM lines")]
+        lines = [str(line).split(" ") for (line,) in at.store.database.run("SELECT line FROM lines")]
         replies = [wire.spelled(bytes.fromhex(line[1])) for line in lines if line[0] == "datagram"]
         assert replies and all(reply is not None and reply.number >= 0 for reply in replies), "its answer is no line"
 
@@ -54,12 +54,12 @@ def test_a_table_is_read_where_it_is_in_use(tmp_path: pathlib.Path, where: str) 
         command = at.ask(HELLO)
         assert at.ended(worker, command) == "accepted"
         ends = time.monotonic() + 60
-        while len(at.store.table(at.sign_id)) < 3 and time.monotonic() < ends:
+        while len(at.store.messages.of(at.sign_id)) < 3 and time.monotonic() < ends:
             worker.round()
-        rows = {row[:2]: (row[2], json.loads(row[3] or "{}")) for row in at.store.table(at.sign_id)}
+        rows = {row[:2]: (row[2], json.loads(row[3] or "{}")) for row in at.store.messages.of(at.sign_id)}
         assert list(rows) == [(2, 1), (2, 2), (3, 1)] and {status for status, _ in rows.values()} == {4}
         assert rows[3, 1][1]["text"] == b"HELLO".hex() and rows[3, 1][1]["owner"] == b"me".hex()
         assert b"ROAD WORK" in bytes.fromhex(rows[2, 1][1]["text"]) and rows[2, 1][1]["priority"] == 100
-        assert at.store.run("SELECT step FROM commands WHERE id = ?", command) == [(7,)]
+        assert at.store.database.run("SELECT step FROM commands WHERE id = ?", command) == [(7,)]
         numbers = [message.number for message in map(wire.read, at.live.requests) if message.number < 0]
         assert len(set(numbers)) >= 2 + 3, "a number for the status of each 30 rows, and one for each row in use"

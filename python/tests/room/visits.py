@@ -15,7 +15,8 @@ from aiohttp.test_utils import TestClient, TestServer
 from wisangub.process.places import SIGNTOOL, TOP
 from wisangub.room import fleet
 from wisangub.room.store import database, passwords, users
-from wisangub.room.store.reading_store import RowSaid, Said
+from wisangub.room.store.messages import RowSaid
+from wisangub.room.store.readings import Said
 from wisangub.room.store.store import Store
 from wisangub.room.store.users import Role
 from wisangub.room.web.app import application
@@ -107,10 +108,10 @@ class Bench:
 
     def read(self, row: int, number: int = -1, minutes: int = 65535, **changed: Any) -> None:
         """A sign says what it shows."""
-        self.store.read([Said(row, number, minutes, json.dumps({**SHOWN, **changed}))])
+        self.store.readings.keep([Said(row, number, minutes, json.dumps({**SHOWN, **changed}))])
 
     def silent(self, row: int, number: int = -2) -> None:
-        self.store.read([Said(row, number, fault="no reply")])
+        self.store.readings.keep([Said(row, number, fault="no reply")])
 
     def table(self, row: int, reading: int = -3, priority: int = 9, number: int = 1) -> None:
         """A sign says a row of its table."""
@@ -122,7 +123,7 @@ class Bench:
             "pixel": 0,
             "priority": priority,
         }
-        self.store.read_rows([RowSaid(row, 3, number, reading, 4, json.dumps(held))])
+        self.store.messages.keep([RowSaid(row, 3, number, reading, 4, json.dumps(held))])
 
     @contextlib.asynccontextmanager
     async def standing(self) -> AsyncIterator[Visitors]:

@@ -17,7 +17,7 @@ from wisangub.endpoint.texts import published
 from wisangub.process.places import called
 from wisangub.refusal import Refusal, say, status_of, tell
 from wisangub.room.store.database import Failed
-from wisangub.room.store.store import Store, whole
+from wisangub.room.store.store import Store
 from wisangub.room.worker.program import seconds
 from wisangub.room.worker.session import is_command
 
@@ -36,20 +36,12 @@ def line_of(words: str) -> str:
     return line
 
 
-def row_of(store: Store, name: str) -> int:
-    """The sign's row."""
-    rows = store.run("SELECT id FROM signs WHERE name = ?", name)
-    if not rows:
-        raise Refusal(f"there is no sign {name!r}: a worker enters those of its fleet")
-    return whole(rows[0][0])
-
-
 def waited(store: Store, command: int, wait: float) -> str | None:
     """How the command ended; None where it did not in time, or the database did not say so."""
     ends = time.monotonic() + wait
     while True:
         with contextlib.suppress(Failed):  # it goes on while the database's server starts again
-            if (how := store.how(command)) is not None:
+            if (how := store.commands.how(command)) is not None:
                 return how
         if time.monotonic() >= ends:
             return None
@@ -60,10 +52,9 @@ def explain(store: Store, command: int, how: str) -> None:
     """Says of a command that failed at which step that was, and what the sign said of it or what may be the cause."""
     said, ends = "", time.monotonic() + PATIENCE
     with contextlib.suppress(Failed):
-        while is_in_error(how) and not (said := store.why(command)) and time.monotonic() < ends:
+        while is_in_error(how) and not (said := store.commands.why(command)) and time.monotonic() < ends:
             time.sleep(LOOK)
-        address = store.run("SELECT address FROM signs WHERE id = (SELECT sign FROM commands WHERE id = ?)", command)
-        if words := explained(how, str(address[0][0]), said):
+        if words := explained(how, store.commands.address(command), said):
             say(words)
 
 
@@ -84,7 +75,7 @@ def main() -> int:
     line = line_of(asked.line)
     store = Store(database.opened(asked.database, may_create=False))
     try:
-        command = store.ask(row_of(store, asked.sign), asked.who, line)
+        command = store.commands.ask(store.signs.row_of(asked.sign), asked.who, line)
     except Failed as fault:
         raise Refusal(f"the database: {fault}: whether it was asked for is not known", 1) from fault
     how = waited(store, command, asked.wait)

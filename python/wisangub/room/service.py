@@ -90,7 +90,7 @@ def work(settings: Settings, signs: list[Sign], pace: Pace, waiting: Waiting) ->
 
     def begun() -> Worker:
         store = Store(database.opened(settings.database, may_create=False))
-        return Worker(store, store.enter(signs), settings.program, pace, waiting)
+        return Worker(store, store.signs.enter(signs), settings.program, pace, waiting)
 
     worker = waited(waiting, begun)
     if worker is not None:

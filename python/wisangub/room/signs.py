@@ -14,24 +14,11 @@ import sys
 
 from wisangub.process.places import called
 from wisangub.refusal import Refusal, status_of, tell
-from wisangub.room.store.audit import note
-from wisangub.room.store.database import Database, Failed, Taken
+from wisangub.room.store.database import Failed
+from wisangub.room.store.store import Store
 
-from . import fleet, start
+from . import start
 from .store import database
-
-
-def rename(database: Database, old: str, new: str, who: str) -> None:
-    """The sign has another name."""
-    if not fleet.is_name(new):
-        raise Refusal(fleet.NAMES)
-    try:
-        with database.transaction():
-            if not database.run("UPDATE signs SET name = ? WHERE name = ? RETURNING id", new, old):
-                raise Refusal(f"there is no sign {old!r}")
-            note(database, who, f"sign {old}: its name is {new}")
-    except Taken:
-        raise Refusal(f"there is a sign {new!r} already") from None
 
 
 def arguments() -> argparse.ArgumentParser:
@@ -56,9 +43,9 @@ def main() -> int:
     held = database.opened(asked.database, may_create=False)
     try:
         if asked.call == "rename":
-            rename(held, asked.old, asked.new, f"{getpass.getuser()} at the machine")
+            Store(held).signs.rename(asked.old, asked.new, f"{getpass.getuser()} at the machine")
         else:
-            for name, address in held.run("SELECT name, address FROM signs ORDER BY id"):
+            for name, address in Store(held).signs.all():
                 tell(f"{name} {address}")
     except Failed as fault:
         raise Refusal(f"the database: {fault}", 1) from fault

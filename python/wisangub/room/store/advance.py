@@ -13,8 +13,8 @@ from wisangub.room.fleet import LAST_NUMBER
 from wisangub.room.worker.session import PACE, RESTORED
 
 from .audit import note
-from .reading_store import CLOCK, LEAST_NUMBER
-from .store import Store, whole
+from .store import Store
+from .values import CLOCK, LEAST_NUMBER, whole
 
 LINES_A_SECOND = round(1 / PACE)
 LEAST_STEP = 1_000_000  # numbers that are left out at least
@@ -60,13 +60,15 @@ class Step:
 
 def newest(store: Store) -> float:
     """The time of the newest entry, by the clock of the database that was copied."""
-    times = [store.run(f"SELECT max({column.split(' ')[0]}) FROM {column.split(' ')[2]}")[0][0] for column in TIMES]
+    times = [
+        store.database.run(f"SELECT max({column.split(' ')[0]}) FROM {column.split(' ')[2]}")[0][0] for column in TIMES
+    ]
     return max((float(time) for time in times if time is not None), default=0.0)
 
 
 def left_out(store: Store, since: float) -> tuple[float, int]:
     """The seconds since then, and how many numbers a sign may have used in them."""
-    seconds = float(store.run(f"SELECT {CLOCK}")[0][0] or 0) - since
+    seconds = float(store.database.run(f"SELECT {CLOCK}")[0][0] or 0) - since
     if seconds < 0:
         raise Refusal("the database's clock is before its newest entry: set the clock, or say --first NUMBER")
     return seconds, max(LEAST_STEP, int(seconds * LINES_A_SECOND) + LINES_A_SECOND)
@@ -77,17 +79,17 @@ def advance(store: Store, who: str, first: int | None) -> Step:
     ended."""
     with store.database.transaction(is_alone=True):
         since = newest(store)
-        known = {whole(row[0]): store.used(whole(row[0])) for row in store.run("SELECT id FROM signs")}
+        known = {whole(row[0]): store.lines.used(whole(row[0])) for row in store.database.run("SELECT id FROM signs")}
         seconds, step = left_out(store, since) if first is None else (0.0, LEAST_STEP)
         begins = {sign: number + step if first is None else first for sign, number in known.items()}
         check(known, begins)
         for sign, number in begins.items():
-            store.run(
+            store.database.run(
                 "UPDATE signs SET first_number = ?, leased_by = NULL, read_at = 0, table_wanted = 1 WHERE id = ?",
                 number,
                 sign,
             )
-        lowered = store.run(
+        lowered = store.database.run(
             "UPDATE signs SET reading_number = reading_number - ? WHERE reading_number - ? > ?" " RETURNING id",
             step,
             step,
@@ -116,14 +118,16 @@ def check(known: dict[int, int], begins: dict[int, int]) -> None:
 
 def end_all(store: Store) -> int:
     """Ends what had not ended when the copy was made, log-ins too; how many commands."""
-    begun = store.run(
+    begun = store.database.run(
         f"UPDATE commands SET outcome = ?, ended = {CLOCK} WHERE line_number IS NOT NULL AND outcome IS NULL"
         " RETURNING id",
         RESTORED,
     )
-    waiting = store.run(
+    waiting = store.database.run(
         f"UPDATE commands SET outcome = ?, ended = {CLOCK} WHERE outcome IS NULL RETURNING id", NOT_DONE
     )
-    store.run(f"UPDATE ledger SET outcome = 'unknown', at = {CLOCK} WHERE outcome = 'waiting'")
-    store.run(f"UPDATE logins SET ended = {CLOCK} WHERE ended IS NULL")  # one that was ended since would count again
+    store.database.run(f"UPDATE ledger SET outcome = 'unknown', at = {CLOCK} WHERE outcome = 'waiting'")
+    store.database.run(
+        f"UPDATE logins SET ended = {CLOCK} WHERE ended IS NULL"
+    )  # one that was ended since would count again
     return len(begun) + len(waiting)

@@ -3,7 +3,8 @@
 from dataclasses import dataclass, field
 
 from .database import Database
-from .queries import COMMANDS, CommandView, Shown, command_view, text_or_none, time_of, whole
+from .queries import COMMANDS, CommandView, Shown, command_view
+from .values import text_or_none, time_of, whole
 
 Line = tuple[int, str, float]  # of a centre: its number, what it says, and when it was handed over
 

@@ -5,7 +5,7 @@ import json
 from dataclasses import dataclass
 
 from .database import Database, Row, Value
-from .reading_store import SLACK
+from .values import SLACK, text_or_none, time_of, time_or_none, whole, whole_or_none
 
 SIGNS = """
 SELECT signs.id, signs.name, signs.place, signs.address, signs.poll,
@@ -21,24 +21,6 @@ COMMANDS = (
     " commands.line_number, commands.ended, commands.outcome, commands.step, commands.why, signs.address"
     " FROM commands JOIN signs ON signs.id = commands.sign"
 )
-
-
-def whole(value: Value) -> int:
-    assert isinstance(value, (int, float))
-    return int(value)
-
-
-def time_of(value: Value) -> float:
-    assert isinstance(value, (int, float))
-    return float(value)
-
-
-def time_or_none(value: Value) -> float | None:
-    return None if value is None else time_of(value)
-
-
-def text_or_none(value: Value) -> str | None:
-    return None if value is None else str(value)
 
 
 def number_of(held: dict[str, object], word: str) -> int | None:
@@ -120,7 +102,7 @@ def sign_view(row: Row) -> SignView:
         fault,
         time_or_none(row[5]) if fault is not None else None,
         None if row[8] is None else Shown.of(str(row[8])),
-        None if row[9] is None else whole(row[9]),
+        whole_or_none(row[9]),
         time_or_none(row[10]),
         time_or_none(row[11]),
         text_or_none(row[12]),
@@ -164,10 +146,10 @@ def command_view(row: Row) -> CommandView:
         str(row[3]),
         time_of(row[4]),
         str(row[5]),
-        None if row[6] is None else whole(row[6]),
+        whole_or_none(row[6]),
         time_or_none(row[7]),
         text_or_none(row[8]),
-        None if row[9] is None else whole(row[9]),
+        whole_or_none(row[9]),
         text_or_none(row[10]),
         str(row[11]),
     )

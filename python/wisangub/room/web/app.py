@@ -9,10 +9,11 @@ from typing import AsyncIterator, Awaitable, Callable
 
 from aiohttp import web
 
+from wisangub.room.store import logins
 from wisangub.room.store.database import Failed, Taken
 from wisangub.room.store.users import Role
 
-from . import compose, log_pages, logins, people, picture_pages, record_pages, send, sign_in, sign_pages, wall
+from . import compose, log_pages, people, picture_pages, record_pages, send, sign_in, sign_pages, wall
 from .events import Hub, events
 from .security import prepare
 from .service import HERE, SERVICE, Service, service_of

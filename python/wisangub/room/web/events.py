@@ -8,10 +8,10 @@ from typing import Callable
 
 from aiohttp import web
 
-from wisangub.room.store import queries
+from wisangub.room.store import logins, queries
 from wisangub.room.store.database import Database, Failed, Taken
 
-from . import logins, send, sign_pages, wall
+from . import send, sign_pages, wall
 from .connections import Connections
 from .service import Service, service_of, visitor_of
 

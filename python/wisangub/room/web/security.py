@@ -2,12 +2,9 @@
 
 import hashlib
 import hmac
-import secrets
 from urllib.parse import urlsplit
 
 from aiohttp import web
-
-from wisangub.room.store.database import Database, Taken
 
 POLICY = (
     "default-src 'none'; script-src 'self'; style-src 'self'; img-src 'self'; connect-src 'self';"
@@ -30,18 +27,6 @@ async def prepare(_: web.Request, response: web.StreamResponse) -> None:
     response.headers.update(HEADERS)
     response.headers["Server"] = "control"
     response.headers.setdefault("Cache-Control", "no-store")
-
-
-def key_of(database: Database, name: str = "cookies") -> bytes:
-    """The key of the signatures, made once for all processes of the database."""
-    rows = database.run("SELECT value FROM keys WHERE name = ?", name)
-    if not rows:
-        try:
-            database.run("INSERT INTO keys (name, value) VALUES (?, ?)", name, secrets.token_hex(32))
-        except Taken:
-            pass
-        rows = database.run("SELECT value FROM keys WHERE name = ?", name)
-    return bytes.fromhex(str(rows[0][0]))
 
 
 class Seal:

@@ -9,9 +9,9 @@ from wisangub.endpoint.sockets import connected
 from wisangub.refusal import Refusal
 from wisangub.room.fleet import Sign
 from wisangub.room.store import history, queries
+from wisangub.room.store.commands import Commands
 from wisangub.room.store.database import Database
 from wisangub.room.store.history import Batch
-from wisangub.room.store.store import Store
 
 from . import compose
 from . import draft as drafts
@@ -54,7 +54,7 @@ async def send(request: web.Request) -> web.StreamResponse:
     def done(database: Database) -> int:
         signs = [(sign_id, service.signs[sign_id]) for sign_id in draft.signs]
         lines = [(sign_id, draft.line(visitor.name, own_address(sign))) for sign_id, sign in signs]
-        return Store(database).ask_all(lines, visitor.name, asked(lines[0][1]).what, confirmation)
+        return Commands(database).ask_all(lines, visitor.name, asked(lines[0][1]).what, confirmation)
 
     raise web.HTTPSeeOther(f"/batches/{await service.connections.run(done)}")
 
@@ -97,6 +97,6 @@ async def withdraw(request: web.Request) -> web.StreamResponse:
     """Ends a command that waits for its turn; one that was begun goes on."""
     service, visitor, number = service_of(request), visitor_of(request), int(request.match_info["command"])
 
-    if not await service.connections.run(lambda database: Store(database).withdraw(number, visitor.name)):
+    if not await service.connections.run(lambda database: Commands(database).withdraw(number, visitor.name)):
         raise web.HTTPConflict(text="This command was begun, or has ended: it cannot be withdrawn.")
     raise web.HTTPSeeOther("/history?outcome=open")

@@ -10,17 +10,18 @@ from markupsafe import Markup
 
 from wisangub.endpoint.endings import with_step
 from wisangub.room.fleet import Sign
+from wisangub.room.store.keys import key_of
+from wisangub.room.store.logins import Visitor
 from wisangub.room.store.store import Store
 from wisangub.snmp.mib import Mib
 
 from . import words
 from .connections import Connections
 from .faces import Face, faces_of
-from .logins import Visitor
 from .pictures import Pictures
 from .plain import plain_of
 from .progress import because, states
-from .security import Seal, key_of
+from .security import Seal
 from .settings import Settings
 
 HERE = pathlib.Path(__file__).resolve().parent
@@ -34,7 +35,7 @@ class Service:
         self.settings = settings
         self.connections = Connections(settings.database, settings.threads)
         held = self.connections.held()
-        rows = {sign.name: sign_id for sign_id, sign in Store(held).enter(signs).items()}
+        rows = {sign.name: sign_id for sign_id, sign in Store(held).signs.enter(signs).items()}
         self.signs = {rows[sign.name]: sign for sign in signs}  # in the fleet's order
         self.faces = faces_of(self.signs, settings.program)
         self.by_key = {face.key: face for face in self.faces.values()}

@@ -6,9 +6,8 @@ from urllib.parse import quote
 
 from aiohttp import web
 
-from wisangub.room.store import passwords, users
+from wisangub.room.store import logins, passwords, users
 
-from . import logins
 from .security import address_of
 from .service import Service, service_of, visitor_of
 

@@ -6,8 +6,8 @@ from aiohttp import web
 
 from wisangub.room.store import queries
 from wisangub.room.store.database import Database
+from wisangub.room.store.messages import Messages
 from wisangub.room.store.queries import CommandView, SignView, TableView, Wanted
-from wisangub.room.store.store import Store
 
 from .service import Service, service_of, sign_of
 
@@ -77,5 +77,5 @@ def table_parts(service: Service, database: Database, sign_id: int) -> dict[str,
 async def read_table(request: web.Request) -> web.StreamResponse:
     """Has a worker read the table before its time."""
     service, sign_id = service_of(request), sign_of(request)
-    await service.connections.run(lambda database: Store(database).want_table(sign_id))
+    await service.connections.run(lambda database: Messages(database).want(sign_id))
     raise web.HTTPSeeOther(f"/signs/{sign_id}/table")

@@ -3,7 +3,7 @@
 import datetime
 from dataclasses import dataclass
 
-from wisangub.room.store.reading_store import SLACK
+from wisangub.room.store.values import SLACK
 
 NO_END = 65535
 STATUSES = {1: "not used", 2: "modifying", 3: "validating", 4: "valid", 5: "error"}

@@ -7,7 +7,8 @@ number, and that is on the disk; it is handed over; what is new in the ledger is
 from typing import Callable
 
 from wisangub.refusal import Refusal
-from wisangub.room.store.store import Line, News, Store
+from wisangub.room.store.lines import Line, News
+from wisangub.room.store.store import Store
 
 from .session import Session
 
@@ -19,14 +20,14 @@ def carry(store: Store, worker: str, offers: list[Offer], drop: Drop) -> None:
     """Carries the lines; a session that lost its line's number, or whose co-process failed, is dropped. Where the
     database fails, what was done is not known, and the exception leaves all of these sessions to be dropped."""
     steps = [step for session, _ in offers if (step := session.step()) is not None]
-    kept = store.insert([line for _, line in offers], worker, steps)
+    kept = store.lines.insert([line for _, line in offers], worker, steps)
     for session, _ in [offer for offer in offers if offer[1].sign not in kept]:
         drop(session, None)
     handed = [offer for offer in offers if offer[1].sign in kept and is_handed(*offer, drop)]
     answered = [(session, news) for session, line in handed if (news := news_of(session, line, drop)) is not None]
     some = [news for _, news in answered if news.is_some]
     if some:
-        store.keep(some)
+        store.lines.keep(some)
     for session, _ in answered:
         session.send()
 

@@ -59,7 +59,7 @@ def main() -> int:
 
     def begun() -> Worker:
         store = Store(database.opened(asked.database, asked.create))
-        return Worker(store, store.enter(signs), asked.signtool, Pace(asked.tick, asked.lease), waiting)
+        return Worker(store, store.signs.enter(signs), asked.signtool, Pace(asked.tick, asked.lease), waiting)
 
     worker = waited(waiting, begun)
     if worker is not None:

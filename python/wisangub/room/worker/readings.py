@@ -5,7 +5,7 @@ from functools import partial
 
 from wisangub.endpoint.asking import Name, Values
 from wisangub.room.fleet import Sign
-from wisangub.room.store.reading_store import Said
+from wisangub.room.store.readings import Said
 from wisangub.room.store.store import Store
 from wisangub.snmp.mib import Mib
 
@@ -43,8 +43,8 @@ class Readings:
     def begin(self) -> None:
         """Sends a Get to each sign whose reading is due; a sign of another fleet is let be."""
         room = max(0, self.most - len(self.gets.waiting))
-        due = [sign_id for sign_id in self.store.to_read() if sign_id in self.signs][:room]
-        for sign_id, number in self.store.due(due):
+        due = [sign_id for sign_id in self.store.readings.to_read() if sign_id in self.signs][:room]
+        for sign_id, number in self.store.readings.due(due):
             self.gets.begin(self.signs[sign_id], number, list(self.asked.values()), partial(self.end, sign_id, number))
 
     def end(self, sign_id: int, number: int, values: Values | str) -> None:
@@ -59,4 +59,4 @@ class Readings:
     def keep(self) -> None:
         """Puts what was said since the last time into the database."""
         said, self.said = self.said, []
-        self.store.read(said)
+        self.store.readings.keep(said)

@@ -177,8 +177,12 @@ class Worker:
     def lease(self) -> None:
         """Takes signs that have work and that nobody drives; looks again soon where there are more of them."""
         room = min(BEGUN_AT_ONCE, self.pace.most - len(self.sessions))
-        free = [sign_id for sign_id in self.store.with_work() if sign_id in self.signs and sign_id not in self.sessions]
-        leased = self.store.lease(free[: max(0, room)], self.name, self.pace.lease)
+        free = [
+            sign_id
+            for sign_id in self.store.leases.with_work()
+            if sign_id in self.signs and sign_id not in self.sessions
+        ]
+        leased = self.store.leases.take(free[: max(0, room)], self.name, self.pace.lease)
         for sign_id in sorted(leased):
             self.begin(sign_id)
         if len(free) > room and room > 0 and leased:
@@ -198,7 +202,7 @@ class Worker:
 
     def renew(self) -> None:
         """Lets signs go whose lease ran out, and keeps the others."""
-        kept = self.store.renew(list(self.sessions), self.name, self.pace.lease)
+        kept = self.store.leases.renew(list(self.sessions), self.name, self.pace.lease)
         for sign_id in set(self.sessions) - kept:
             self.drop(sign_id)
 
@@ -214,5 +218,5 @@ class Worker:
     def release(self) -> None:
         """Lets signs go, all at once; again later where the database did not do it."""
         rows = sorted(self.to_release - set(self.sessions))
-        self.store.release(rows, self.name)
+        self.store.leases.release(rows, self.name)
         self.to_release.clear()

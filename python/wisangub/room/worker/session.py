@@ -14,8 +14,9 @@ from wisangub.process import description
 from wisangub.process.coprocess import CoProcess
 from wisangub.refusal import Refusal, reason, say
 from wisangub.room.fleet import Sign
-from wisangub.room.store.address_store import above
-from wisangub.room.store.store import Command, Line, News, Store
+from wisangub.room.store.commands import Command
+from wisangub.room.store.lines import Line, News, above
+from wisangub.room.store.store import Store
 from wisangub.snmp.mib import Mib
 
 from .steps import Steps
@@ -71,7 +72,7 @@ class Session:
         """Which centre goes on, the number of the line that says so, and the lines that it was handed. The first one
         begins with the fleet's number; another description, other rules, or a database that was restored from a copy
         want another centre, above all numbers of the one before."""
-        first, least, lines = self.store.lines(self.sign_id)
+        first, least, lines = self.store.lines.of(self.sign_id)
         head = Head("centre", self.sign.digest, max(self.sign.first, least))
         if not lines:
             return self.begun_anew(head, first, "")
@@ -86,7 +87,7 @@ class Session:
 
     def begun_anew(self, head: Head, number: int, why: str) -> tuple[Head, int, list[bytes]]:
         """A centre without lines; what was under way with one before it is over."""
-        if not self.store.replace(Line(self.sign_id, number, head.line(), is_first=True), self.worker, why):
+        if not self.store.lines.replace(Line(self.sign_id, number, head.line(), is_first=True), self.worker, why):
             raise Lost
         return head, number, []
 
@@ -103,7 +104,7 @@ class Session:
 
     def go_on(self, lines: list[bytes]) -> None:
         """Where the lines left it. Nothing of it goes out; the last answer tells whether a command was refused."""
-        begun = self.store.begun(self.sign_id)
+        begun = self.store.commands.begun(self.sign_id)
         if begun is not None and begun[1] >= self.number:
             raise Lost  # it was begun after the lines were read
         self.command = begun[0] if begun else None
@@ -113,7 +114,7 @@ class Session:
         answer = self.process.lines(1)[0] if lines else b""
         news = self.look(answer.decode("latin-1") if is_of_command else "")
         if news.is_some:
-            self.store.keep([news])
+            self.store.lines.keep([news])
 
     # ---- lines
 
@@ -131,10 +132,10 @@ class Session:
 
     def beginning(self) -> Line | None:
         """The next command, or before it a new centre, above all numbers, where the lines of this one grew long."""
-        while (command := self.store.next(self.sign_id)) is not None:
+        while (command := self.store.commands.next(self.sign_id)) is not None:
             if is_command(command.line):
                 break
-            self.store.end(command.id, "bad line")
+            self.store.commands.end(command.id, "bad line")
         if command is None:
             return None
         if self.count >= MOST_LINES:

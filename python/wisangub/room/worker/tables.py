@@ -7,7 +7,7 @@ from functools import partial
 
 from wisangub.endpoint.asking import Name, Values
 from wisangub.room.fleet import Sign
-from wisangub.room.store.reading_store import RowSaid
+from wisangub.room.store.messages import RowSaid
 from wisangub.room.store.store import Store
 from wisangub.snmp.mib import Mib
 
@@ -104,7 +104,7 @@ class Tables:
         now = time.monotonic()
         free = [sign_id for sign_id in self.signs if sign_id not in self.going] if now >= self.next_look else []
         self.next_look = now + LOOK if free else self.next_look
-        for sign_id in self.store.tables_due(free, EVERY, MOST - len(self.going)):
+        for sign_id in self.store.messages.due(free, EVERY, MOST - len(self.going)):
             self.going.add(sign_id)
             self.ready.append(Pass(self, sign_id, self.signs[sign_id]))
         self.go_on()
@@ -115,7 +115,7 @@ class Tables:
         for one in ready:
             self.going.discard(one.sign_id)
         more = [one for one in ready if not one.is_done and self.signs.get(one.sign_id) is one.sign]
-        numbers = self.store.numbers([one.sign_id for one in more])
+        numbers = self.store.readings.numbers([one.sign_id for one in more])
         for one in more:
             if one.sign_id in numbers:
                 self.going.add(one.sign_id)
@@ -124,4 +124,4 @@ class Tables:
     def keep(self) -> None:
         """Puts what was said since the last time into the database."""
         said, self.said = self.said, []
-        self.store.read_rows(said)
+        self.store.messages.keep(said)

@@ -5,7 +5,8 @@ from functools import partial
 from wisangub.endpoint import verdict
 from wisangub.endpoint.asking import Values
 from wisangub.room.fleet import Sign
-from wisangub.room.store.store import Command, Store
+from wisangub.room.store.commands import Command
+from wisangub.room.store.store import Store
 from wisangub.snmp.mib import Mib
 
 from .gets import Gets
@@ -30,7 +31,7 @@ class Verdicts:
         if not self.to_ask:
             return
         first = dict(reversed(self.to_ask))
-        numbers = self.store.numbers([sign_id for sign_id in first if sign_id in self.signs])
+        numbers = self.store.readings.numbers([sign_id for sign_id in first if sign_id in self.signs])
         self.to_ask = [
             (sign_id, command) for sign_id, command in self.to_ask if command != first[sign_id] and sign_id in numbers
         ]
@@ -49,4 +50,4 @@ class Verdicts:
     def keep(self) -> None:
         """Puts what was said since the last time into the database."""
         said, self.said = self.said, []
-        self.store.because(said)
+        self.store.commands.because(said)

@@ -35,13 +35,12 @@ class Where:
         if not to_take:
             return set()
         self.next_look = now + self.again
-        with self.store.database.transaction(is_alone=True):
-            still = self.store.placed(
-                {
-                    sign_id: (found[sign_id].every | {self.fleet[sign_id].address}, found[sign_id].fault)
-                    for sign_id in to_take
-                }
-            )
+        still = self.store.addresses.placed(
+            {
+                sign_id: (found[sign_id].every | {self.fleet[sign_id].address}, found[sign_id].fault)
+                for sign_id in to_take
+            }
+        )
         return {sign_id for sign_id in to_take if self.is_moved(sign_id, found[sign_id], still.get(sign_id, ""))}
 
     def is_moved(self, sign_id: int, found: Found, why: str) -> bool:

@@ -4,10 +4,10 @@ import hashlib
 import secrets
 from dataclasses import dataclass
 
-from wisangub.room.store.audit import note
-from wisangub.room.store.database import Database
-from wisangub.room.store.reading_store import SLACK
-from wisangub.room.store.users import Role
+from .audit import note
+from .connection import Database
+from .users import Role
+from .values import SLACK, whole
 
 LASTS = 12 * 3600  # seconds of a log-in: a shift
 WINDOW = 300  # seconds in which failed log-ins are counted
@@ -32,7 +32,7 @@ class Visitor:
         return self.role >= Role.ADMINISTRATOR
 
 
-def hidden(word: str) -> str:
+def _hidden(word: str) -> str:
     """The digest of what is not to be read in the database."""
     return hashlib.sha256(word.encode()).hexdigest()
 
@@ -42,9 +42,9 @@ def attempt(database: Database, name: str, address: str) -> int | None:
     counted before its password is looked at, so that many at once are no way around."""
     since = "at > {clock} - ?"
     counts = (
-        ("name = ? AND address = ?", (hidden(name), address), MOST_OF_BOTH),
+        ("name = ? AND address = ?", (_hidden(name), address), MOST_OF_BOTH),
         ("address = ?", (address,), MOST_OF_ADDRESS),
-        ("name = ?", (hidden(name),), MOST_OF_NAME),
+        ("name = ?", (_hidden(name),), MOST_OF_NAME),
     )
     with database.transaction(is_alone=True):
         database.run(
@@ -52,12 +52,12 @@ def attempt(database: Database, name: str, address: str) -> int | None:
         )  # the clock jumped
         for where, values, most in counts:
             found = database.run(f"SELECT count(*) FROM failed_logins WHERE {where} AND {since}", *values, WINDOW)
-            if int(found[0][0] or 0) >= most:
+            if whole(found[0][0]) >= most:
                 return None
         rows = database.run(
-            "INSERT INTO failed_logins (at, name, address) VALUES ({clock}, ?, ?) RETURNING id", hidden(name), address
+            "INSERT INTO failed_logins (at, name, address) VALUES ({clock}, ?, ?) RETURNING id", _hidden(name), address
         )
-        return int(rows[0][0] or 0)
+        return whole(rows[0][0])
 
 
 def failed(database: Database, name: str, address: str) -> None:
@@ -70,9 +70,9 @@ def begin(database: Database, name: str, address: str) -> str:
     """A log-in: what its cookie says. The user's failed ones from this address are forgotten."""
     made = secrets.token_urlsafe(24)
     with database.transaction():
-        database.run("DELETE FROM failed_logins WHERE name = ? AND address = ?", hidden(name), address)
+        database.run("DELETE FROM failed_logins WHERE name = ? AND address = ?", _hidden(name), address)
         database.run(
-            "INSERT INTO logins (id, name, address, begun) VALUES (?, ?, ?, {clock})", hidden(made), name, address
+            "INSERT INTO logins (id, name, address, begun) VALUES (?, ?, ?, {clock})", _hidden(made), name, address
         )
         note(database, name, f"logged in, from {address}")
     return made
@@ -84,7 +84,7 @@ def find(database: Database, cookie: str) -> Visitor | None:
         "SELECT users.name, users.role FROM logins JOIN users ON users.name = logins.name"
         " WHERE logins.id = ? AND logins.ended IS NULL AND logins.begun > {clock} - ?"
         " AND logins.begun <= {clock} + ? AND users.disabled = 0",
-        hidden(cookie),
+        _hidden(cookie),
         LASTS,
         SLACK,
     )
@@ -94,5 +94,5 @@ def find(database: Database, cookie: str) -> Visitor | None:
 def end(database: Database, visitor: Visitor) -> None:
     """Logs out."""
     with database.transaction():
-        database.run("UPDATE logins SET ended = {clock} WHERE id = ? AND ended IS NULL", hidden(visitor.login))
+        database.run("UPDATE logins SET ended = {clock} WHERE id = ? AND ended IS NULL", _hidden(visitor.login))
         note(database, visitor.name, "logged out")

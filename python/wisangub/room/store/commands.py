@@ -1,11 +1,11 @@
-"""What the control room keeps of commands and of the ledger."""
+"""The table of commands: what operators ask for, each with its line of the audit, and how it ended."""
 
 from dataclasses import dataclass
 from typing import Sequence
 
 from .audit import note
-from .database import Taken, Value
-from .reading_store import CLOCK, ReadingStore, whole
+from .connection import Database, Taken
+from .values import CLOCK, text_or_none, texts, whole
 
 
 @dataclass(frozen=True)
@@ -16,25 +16,24 @@ class Command:
     line: str
 
 
-def texts(rows: list[tuple[Value, ...]]) -> list[str]:
-    """The first column, of texts."""
-    return [str(row[0]) for row in rows]
+class Commands:
+    """Commands of all signs."""
 
-
-class CommandStore(ReadingStore):
-    """The part of the tables that an operator's words go into."""
+    def __init__(self, database: Database) -> None:
+        self.database = database
+        self._run = database.run
 
     def ask(self, sign: int, who: str, line: str) -> int:
         """A command that waits for its turn: its number."""
         with self.database.transaction():
-            return self.put_command(sign, who, line)
+            return self._put(sign, who, line)
 
     def ask_all(self, lines: Sequence[tuple[int, str]], who: str, what: str, confirmation: str) -> int:
         """A command for each of these signs, or for none: the number of what was asked, which `what` says in words. A
         confirmation counts once: where it is there already, what was asked with it then."""
         try:
             with self.database.transaction():
-                rows = self.run(
+                rows = self._run(
                     f"INSERT INTO batches (confirmation, who, at, what) VALUES (?, ?, {CLOCK}, ?) RETURNING id",
                     confirmation,
                     who,
@@ -42,30 +41,30 @@ class CommandStore(ReadingStore):
                 )
                 batch = whole(rows[0][0])
                 for sign, line in lines:
-                    command = self.put_command(sign, who, line)
-                    self.run("INSERT INTO batch_commands (batch, command) VALUES (?, ?)", batch, command)
+                    command = self._put(sign, who, line)
+                    self._run("INSERT INTO batch_commands (batch, command) VALUES (?, ?)", batch, command)
                 return batch
         except Taken:
-            rows = self.run("SELECT id FROM batches WHERE confirmation = ? AND who = ?", confirmation, who)
+            rows = self._run("SELECT id FROM batches WHERE confirmation = ? AND who = ?", confirmation, who)
             if not rows:
                 raise
             return whole(rows[0][0])
 
-    def put_command(self, sign: int, who: str, line: str) -> int:
+    def _put(self, sign: int, who: str, line: str) -> int:
         """A command with its line of the audit, within a transaction: its number."""
-        rows = self.run(
+        rows = self._run(
             f"INSERT INTO commands (sign, who, asked_at, line) VALUES (?, ?, {CLOCK}, ?) RETURNING id", sign, who, line
         )
-        note(self.database, who, f"{self.name_of(sign)}: {line}")
+        note(self.database, who, f"{self._name_of(sign)}: {line}")
         return whole(rows[0][0])
 
-    def name_of(self, sign: int) -> str:
+    def _name_of(self, sign: int) -> str:
         """The sign's name."""
-        return texts(self.run("SELECT name FROM signs WHERE id = ?", sign))[0]
+        return texts(self._run("SELECT name FROM signs WHERE id = ?", sign))[0]
 
     def begun(self, sign: int) -> tuple[Command, int] | None:
         """The command that is under way, and the number of its line."""
-        rows = self.run(
+        rows = self._run(
             "SELECT id, line, line_number FROM commands"
             " WHERE sign = ? AND line_number IS NOT NULL AND outcome IS NULL",
             sign,
@@ -74,7 +73,7 @@ class CommandStore(ReadingStore):
 
     def next(self, sign: int) -> Command | None:
         """The command whose turn it is."""
-        rows = self.run(
+        rows = self._run(
             "SELECT id, line FROM commands WHERE sign = ? AND line_number IS NULL AND outcome IS NULL"
             " ORDER BY id LIMIT 1",
             sign,
@@ -83,26 +82,25 @@ class CommandStore(ReadingStore):
 
     def end(self, command: int, how: str) -> None:
         """How a command ended, in words; the first word on it stands."""
-        self.run(f"UPDATE commands SET outcome = ?, ended = {CLOCK} WHERE id = ? AND outcome IS NULL", how, command)
+        self._run(f"UPDATE commands SET outcome = ?, ended = {CLOCK} WHERE id = ? AND outcome IS NULL", how, command)
 
     def withdraw(self, command: int, who: str) -> bool:
         """Ends a command that waits for its turn, and says so in the audit; False where it was begun, or has ended, or
         where there is none."""
         with self.database.transaction():
-            rows = self.run(
+            rows = self._run(
                 f"UPDATE commands SET outcome = ?, ended = {CLOCK}"
                 " WHERE id = ? AND line_number IS NULL AND outcome IS NULL RETURNING sign",
                 f"withdrawn by {who}",
                 command,
             )
             if rows:
-                note(self.database, who, f"{self.name_of(whole(rows[0][0]))}: command {command} is withdrawn")
+                note(self.database, who, f"{self._name_of(whole(rows[0][0]))}: command {command} is withdrawn")
             return bool(rows)
 
     def how(self, command: int) -> str | None:
         """How a command ended; None where it has not."""
-        held = self.run("SELECT outcome FROM commands WHERE id = ?", command)[0][0]
-        return None if held is None else str(held)
+        return text_or_none(self._run("SELECT outcome FROM commands WHERE id = ?", command)[0][0])
 
     def because(self, said: Sequence[tuple[int, str]]) -> None:
         """What signs said of commands that ended with a row in error."""
@@ -114,9 +112,9 @@ class CommandStore(ReadingStore):
 
     def why(self, command: int) -> str:
         """What the sign said of it."""
-        return str(self.run("SELECT why FROM commands WHERE id = ?", command)[0][0] or "")
+        return str(self._run("SELECT why FROM commands WHERE id = ?", command)[0][0] or "")
 
-    def ledger(self, sign: int) -> list[str]:
-        """The rows, as lines of a status."""
-        rows = self.run("SELECT number, code, outcome FROM ledger WHERE sign = ? ORDER BY number", sign)
-        return [f"ledger {number} {code} {outcome}" for number, code, outcome in rows]
+    def address(self, command: int) -> str:
+        """The address of the command's sign."""
+        rows = self._run("SELECT address FROM signs WHERE id = (SELECT sign FROM commands WHERE id = ?)", command)
+        return texts(rows)[0]

@@ -1,0 +1,161 @@
+"""The tables of lines and of the ledger: the journal of each sign, and the activations that came of it.
+
+docs/CONTROL.md, "How a sign's lines are kept", says why the order of what is done here is as it is.
+"""
+
+from dataclasses import dataclass, field
+from typing import Sequence
+
+from wisangub.endpoint.records import Head
+
+from .connection import Database, Taken, Value
+from .values import CLOCK, whole
+
+
+@dataclass(frozen=True)
+class Line:
+    """A line of a sign under its number; `command` is the one that begins with it, `is_first` says that a centre
+    does."""
+
+    sign: int
+    number: int
+    text: bytes
+    command: int | None = None
+    is_first: bool = False
+
+
+@dataclass
+class News:
+    """What came of a line: the ledger's lines that are new, and how the sign's command ended, in words."""
+
+    sign: int
+    ledger: list[str] = field(default_factory=list)
+    command: int | None = None
+    how: str | None = None
+
+    @property
+    def is_some(self) -> bool:
+        return bool(self.ledger) or self.how is not None
+
+
+def above(head: Head, count: int) -> int:
+    """A number above all that a centre used: each of its lines sent at most one request of a new number."""
+    assert head.first is not None
+    return head.first + count
+
+
+class Lines:
+    """Journals and ledgers of all signs."""
+
+    def __init__(self, database: Database) -> None:
+        self.database = database
+        self._run = database.run
+
+    def of(self, sign: int) -> tuple[int, int, list[bytes]]:
+        """The lines of the sign's last centre, first the one that says which centre it is; that one's number; and the
+        least number that a centre of this sign may begin with."""
+        rows = self._run(
+            "SELECT number, line FROM lines WHERE sign = ? AND number >="
+            " (SELECT centre FROM signs WHERE id = ?) ORDER BY number",
+            sign,
+            sign,
+        )
+        least = whole(self._run("SELECT first_number FROM signs WHERE id = ?", sign)[0][0])
+        return (whole(rows[0][0]) if rows else 1), least, [str(row[1]).encode() for row in rows]
+
+    def used(self, sign: int) -> int:
+        """A number above all that the sign's centres are known to have used."""
+        _, least, lines = self.of(sign)
+        head = Head.of(lines[0]) if lines else None
+        return least if head is None else max(least, above(head, len(lines) - 1))
+
+    def insert(self, lines: Sequence[Line], worker: str, steps: Sequence[tuple[int, int]] = ()) -> set[int]:
+        """Lines of several signs, and with each the beginning of its command or of a centre: the signs of those that
+        are in the database. One whose number is taken is another worker's. Steps of commands go with them."""
+        try:
+            self._put(lines, worker, steps)
+            return {line.sign for line in lines}
+        except Taken:
+            if len(lines) == 1:
+                return set()
+            return set().union(*(self.insert([line], worker) for line in lines))
+
+    def _put(self, lines: Sequence[Line], worker: str, steps: Sequence[tuple[int, int]] = ()) -> None:
+        """All of them or none; raises Taken where a number is there, or where a command no longer waits."""
+        lines = sorted(lines, key=lambda line: line.sign)
+        begun: list[tuple[Value, ...]] = [(line.number, line.command) for line in lines if line.command is not None]
+        run_all = self.database.run_all
+        with self.database.transaction():
+            run_all("UPDATE commands SET step = ? WHERE id = ? AND outcome IS NULL", list(steps))
+            changed = run_all(
+                "UPDATE commands SET line_number = ? WHERE id = ? AND line_number IS NULL AND outcome IS NULL", begun
+            )
+            if changed != len(begun):
+                raise Taken("a command waits no longer")
+            run_all(
+                f"INSERT INTO lines (sign, number, line, worker, at) VALUES (?, ?, ?, ?, {CLOCK})",
+                [(line.sign, line.number, line.text.decode(), worker) for line in lines],
+            )
+            run_all(
+                "UPDATE signs SET centre = ? WHERE id = ?",
+                [(line.number, line.sign) for line in lines if line.is_first],
+            )
+
+    def replace(self, line: Line, worker: str, how: str) -> bool:
+        """A centre begins in the place of one that is no more: what was under way with that one is over, so, and what
+        waited in its ledger is unknown. False where the line's number is taken."""
+        try:
+            with self.database.transaction():
+                self._run(
+                    f"INSERT INTO lines (sign, number, line, worker, at) VALUES (?, ?, ?, ?, {CLOCK})",
+                    line.sign,
+                    line.number,
+                    line.text.decode(),
+                    worker,
+                )
+                self._run("UPDATE signs SET centre = ? WHERE id = ?", line.number, line.sign)
+                self._run(
+                    f"UPDATE commands SET outcome = ?, ended = {CLOCK}"
+                    " WHERE sign = ? AND line_number IS NOT NULL AND outcome IS NULL",
+                    how,
+                    line.sign,
+                )
+                self._run(
+                    f"UPDATE ledger SET outcome = 'unknown', at = {CLOCK} WHERE sign = ? AND outcome = 'waiting'",
+                    line.sign,
+                )
+            return True
+        except Taken:
+            return False
+
+    def keep(self, news: Sequence[News]) -> None:
+        """What came of lines, in one transaction: before anything of it goes out. A sign whose command ended is read
+        soon."""
+        news = sorted(news, key=lambda one: one.sign)
+        ended = [one for one in news if one.how is not None]
+        with self.database.transaction():
+            for one in news:
+                self.database.run_all(
+                    f"INSERT INTO ledger (sign, number, code, outcome, at) VALUES (?, ?, ?, ?, {CLOCK})"
+                    " ON CONFLICT (sign, number) DO UPDATE SET outcome = excluded.outcome, at = excluded.at"
+                    " WHERE ledger.outcome = 'waiting' AND excluded.outcome <> 'waiting'",
+                    [(one.sign, *_entry(line)) for line in one.ledger],
+                )
+            self.database.run_all(
+                f"UPDATE commands SET outcome = ?, ended = {CLOCK} WHERE id = ? AND outcome IS NULL",
+                [(one.how, one.command) for one in ended],
+            )
+            self.database.run_all(
+                "UPDATE signs SET read_at = 0, table_wanted = 1 WHERE id = ?", [(one.sign,) for one in ended]
+            )
+
+    def ledger(self, sign: int) -> list[str]:
+        """The rows, as lines of a status."""
+        rows = self._run("SELECT number, code, outcome FROM ledger WHERE sign = ? ORDER BY number", sign)
+        return [f"ledger {number} {code} {outcome}" for number, code, outcome in rows]
+
+
+def _entry(line: str) -> tuple[int, str, str]:
+    """The number, code and outcome of a ledger's line."""
+    _, number, code, outcome = line.split(" ", 3)
+    return int(number), code, outcome
