@@ -32,7 +32,7 @@ class Names:
     """Names that resolve to what a test says; all others as they do."""
 
     def __init__(self, monkeypatch: pytest.MonkeyPatch) -> None:
-        self.before = addresses.getaddrinfo
+        self.before = socket.getaddrinfo
         self.of: dict[str, list[str]] = {}
         monkeypatch.setattr(addresses, "getaddrinfo", self.getaddrinfo)
 
