@@ -21,7 +21,7 @@ from dataclasses import dataclass
 from typing import Iterator
 
 from wisangub.process.places import SIGNTOOL, TOP
-from wisangub.refusal import Refusal, status_of, tell
+from wisangub.refusal import Refusal, status_of
 from wisangub.room import fleet, start
 from wisangub.room.store import database
 from wisangub.room.store.database import Failed
@@ -157,7 +157,7 @@ def run(asked: Asked, folder: pathlib.Path, place: Place) -> Outcome:
         for row, sign in rows.items():
             look_at(found, store, row, sign, lives[sign.name])
         told(store, loopback, workers, place, seconds)
-    tell(beside.told())
+    print(beside.told())
     return found
 
 
@@ -173,18 +173,18 @@ def going(run: Run, beside: Beside) -> None:
 def told(store: Store, loopback: Loopback, workers: Workers, place: Place, seconds: float) -> None:
     """The numbers of a run."""
     for how, times in store.database.run("SELECT outcome, count(*) FROM commands GROUP BY outcome ORDER BY 2 DESC"):
-        tell(f"{times} commands: {how}")
+        print(f"{times} commands: {how}")
     lines, datagrams = count(store, "lines"), sum(len(live.requests) for live in loopback.signs)
     accepted = sum(len(live.accepted) for live in loopback.signs)
-    tell(
+    print(
         f"{datagrams} datagrams to signs, {lines} lines, {accepted} acceptances, {count(store, 'ledger')} entries of"
         f" ledgers, {count(store, 'readings')} readings and {count(store, 'messages')} rows of tables kept"
     )
-    tell(
+    print(
         f"{workers.killed} workers killed, {workers.paused} stopped past their lease, {workers.gave_up} ended as there"
         f" was no database, {place.restarts} crashes of the server"
     )
-    tell(f"{seconds:.0f} seconds, load {os.getloadavg()[0]:.1f}")
+    print(f"{seconds:.0f} seconds, load {os.getloadavg()[0]:.1f}")
 
 
 def arguments() -> argparse.ArgumentParser:
@@ -217,10 +217,10 @@ def main() -> int:
         found = run(asked, pathlib.Path(folder), place)
         if found.failed:
             for path in (pathlib.Path(folder) / name for name in ("workers", "service")):
-                tell(path.read_text(errors="replace")[-4000:] if path.exists() else "")
+                print(path.read_text(errors="replace")[-4000:] if path.exists() else "")
     for name in found.failed[:50]:
-        tell(f"does not hold: {name}")
-    tell(f"{found.passed} passed, {len(found.failed)} failed")
+        print(f"does not hold: {name}")
+    print(f"{found.passed} passed, {len(found.failed)} failed")
     return 1 if found.failed else 0
 
 

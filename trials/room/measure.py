@@ -18,7 +18,7 @@ from dataclasses import dataclass
 
 from wisangub.process.coprocess import CoProcess
 from wisangub.process.places import SIGNTOOL, TOP
-from wisangub.refusal import status_of, tell
+from wisangub.refusal import status_of
 from wisangub.room import fleet, start
 from wisangub.room.store import database
 from wisangub.room.store.store import Store
@@ -151,26 +151,26 @@ def told(asked: Asked, store: Store, seconds: float, watch: Watch) -> None:
             "SELECT ended - asked_at FROM commands WHERE who = 'measure' AND outcome = 'accepted'"
         )
     )
-    tell(
+    print(
         f"{asked.signs} signs, {asked.workers} workers, {asked.database}, tick {asked.tick:g} s, poll {asked.poll:g} s,"
         f" {'all at once' if not asked.rate else f'{asked.rate:g} a second'}"
     )
-    tell(f"{len(took)} of {asked.commands} commands accepted in {seconds:.1f} s: {len(took) / seconds:.1f} a second")
+    print(f"{len(took)} of {asked.commands} commands accepted in {seconds:.1f} s: {len(took) / seconds:.1f} a second")
     if took:
         at = [took[min(len(took) - 1, len(took) * part // 100)] for part in (50, 95)]
-        tell(
+        print(
             f"time to accepted: median {statistics.median(took):.2f} s, 95 of 100 within {at[1]:.2f} s, all within"
             f" {took[-1]:.2f} s"
         )
-    tell(
+    print(
         f"in {span:.1f} s {gets / span:.0f} Gets a second; what is known of a sign was {watch.oldest:.1f} s old at most"
     )
-    tell(f"{count(store, 'lines')} lines; a co-process begins in {beginning(asked):.1f} ms, half of the times")
+    print(f"{count(store, 'lines')} lines; a co-process begins in {beginning(asked):.1f} ms, half of the times")
     for group in watch.groups:
-        tell(group.told(span))
+        print(group.told(span))
     memory = sum(group.most_memory for group in watch.groups)
-    tell(f"together {memory:.0f} MB, {1000 * memory / asked.signs:.0f} kB a sign of the fleet")
-    tell(f"load {os.getloadavg()[0]:.1f}, {os.cpu_count()} processors")
+    print(f"together {memory:.0f} MB, {1000 * memory / asked.signs:.0f} kB a sign of the fleet")
+    print(f"load {os.getloadavg()[0]:.1f}, {os.cpu_count()} processors")
 
 
 def grouped(workers: Workers, place: Place) -> list[Group]:

@@ -16,7 +16,7 @@ import time
 
 from trials.room.loopback import Fates, Loopback
 from wisangub.process.places import TOP
-from wisangub.refusal import status_of, tell
+from wisangub.refusal import status_of
 from wisangub.room import start
 
 VISITORS = 8
@@ -90,10 +90,10 @@ async def visited(url: str, signs: int, seconds: float, process: int) -> None:
         picture = page[page.index("/pictures/") :].split('"')[0].split("?")[0]
         cookies = {cookie.key: cookie.value for cookie in session.cookie_jar}
         async with session.get(url + "/events?view=wall"):
-            tell(f"memory before: {memory(process)[0]} MiB")
+            print(f"memory before: {memory(process)[0]} MiB")
             for path in ("/", "/signs/1", "/history", "/compose?sign=1", picture):
-                tell(await measured(url, path, cookies, seconds))
-        tell("memory after: %d MiB, at most %d MiB" % memory(process))
+                print(await measured(url, path, cookies, seconds))
+        print("memory after: %d MiB, at most %d MiB" % memory(process))
 
 
 def main() -> int:
@@ -134,7 +134,7 @@ def main() -> int:
         )
         try:
             until_answers(port)
-            tell(
+            print(
                 "%d signs; load of the machine %.1f, processors %d"
                 % (asked.signs, os.getloadavg()[0], os.cpu_count() or 0)
             )

@@ -9,7 +9,7 @@ import sys
 import tempfile
 
 from wisangub.process.places import TOP
-from wisangub.refusal import status_of, tell
+from wisangub.refusal import status_of
 from wisangub.room import start
 
 MOST = 200_000  # octets of a picture
@@ -65,7 +65,7 @@ def main() -> int:
     start.needed("tests.room.pictures", "aiohttp", "jinja2", "selenium", "pytest")
     made = taken(pathlib.Path(asked.keep))
     for path in made:
-        tell(f"{path.name}: {path.stat().st_size} octets")
+        print(f"{path.name}: {path.stat().st_size} octets")
     return 0 if all(path.stat().st_size < MOST for path in made) else 1
 
 

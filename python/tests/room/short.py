@@ -15,7 +15,7 @@ import tempfile
 from dataclasses import dataclass, field
 
 from wisangub.process.places import SIGNTOOL, TOP
-from wisangub.refusal import status_of, tell
+from wisangub.refusal import status_of
 from wisangub.room import start
 
 MODULES = ("pytest", "aiohttp", "jinja2", "psycopg")
@@ -106,8 +106,8 @@ def judged(program: Program) -> Outcome:
         found.failed = max(found.failed, 1)
     if status is None or found.failed:
         found.failed = max(found.failed, 1)
-        tell(f"--- {program.module}, exit {status}\n{said[-MOST_SHOWN:].rstrip()}")
-    tell(f"{program.module}: {found.passed} passed, {found.failed} failed")
+        print(f"--- {program.module}, exit {status}\n{said[-MOST_SHOWN:].rstrip()}")
+    print(f"{program.module}: {found.passed} passed, {found.failed} failed")
     return found
 
 
@@ -141,9 +141,9 @@ def short(python: str, program: str) -> int:
     alone = Program(python, environment, "trials.room.chaos", *ALONE, "--signtool", program)
     found = [judged(alone), judged(chaos), *map(judged, tests)]
     for words in [*skipped, *(words for outcome in found for words in outcome.skipped)]:
-        tell(f"skipped {words}")
+        print(f"skipped {words}")
     failed = sum(outcome.failed for outcome in found)
-    tell(f"{sum(outcome.passed for outcome in found)} passed, {failed} failed")
+    print(f"{sum(outcome.passed for outcome in found)} passed, {failed} failed")
     return 1 if failed else 0
 
 
@@ -158,7 +158,7 @@ def main() -> int:
     python = start.seeing(MODULES)
     if python is None or not os.access(program, os.X_OK):
         why = f"there is no program at {program}" if python else f"no python3 sees {', '.join(MODULES)}"
-        tell(f"skipped control room: {why}\n0 passed, 0 failed")
+        print(f"skipped control room: {why}\n0 passed, 0 failed")
         return 0
     return short(python, program)
 

@@ -15,7 +15,8 @@ import time
 from wisangub.endpoint.endings import explained, is_in_error
 from wisangub.endpoint.texts import published
 from wisangub.process.places import called
-from wisangub.refusal import Refusal, say, status_of, tell
+from wisangub.refusal import Refusal, status_of
+from wisangub.room.output import LOG, print_line
 from wisangub.room.store.database import Failed
 from wisangub.room.store.store import Store
 from wisangub.room.worker.program import seconds
@@ -55,7 +56,7 @@ def explain(store: Store, command: int, how: str) -> None:
         while is_in_error(how) and not (said := store.commands.why(command)) and time.monotonic() < ends:
             time.sleep(LOOK)
         if words := explained(how, store.commands.address(command), said):
-            say(words)
+            LOG.warning(words)
 
 
 def main() -> int:
@@ -79,7 +80,7 @@ def main() -> int:
     except Failed as fault:
         raise Refusal(f"the database: {fault}: whether it was asked for is not known", 1) from fault
     how = waited(store, command, asked.wait)
-    tell(how if how is not None else f"command {command} has not ended after {asked.wait:g} seconds; it goes on")
+    print_line(how if how is not None else f"command {command} has not ended after {asked.wait:g} seconds; it goes on")
     if how is not None:
         explain(store, command, how)
     return 0 if how == "accepted" else 1

@@ -18,7 +18,8 @@ from typing import Iterator
 
 from wisangub.endpoint.sockets import host_and_port
 from wisangub.process.places import SIGNTOOL, TOP, called, environment
-from wisangub.refusal import Refusal, status_of, tell
+from wisangub.refusal import Refusal, status_of
+from wisangub.room.output import print_line
 from wisangub.room.store.users import Role
 
 from . import fleet, start
@@ -90,7 +91,7 @@ def enter(where: str) -> None:
     for role in Role:
         password = secrets.token_urlsafe(9)
         users.add(held, role.word, role, password, "the demonstration")
-        tell(f"log in as {role.word} with {password}")
+        print_line(f"log in as {role.word} with {password}")
     held.close()
 
 

@@ -9,7 +9,8 @@ from typing import NoReturn
 
 from wisangub.endpoint.sockets import host_and_port
 from wisangub.process import description
-from wisangub.refusal import Refusal, reason, say
+from wisangub.refusal import Refusal, reason
+from wisangub.room.output import LOG
 
 from .addresses import of_places
 
@@ -199,7 +200,7 @@ def tell_open(signs: list[Sign]) -> None:
     found = [path for path in sorted({sign.path for sign in signs}) if is_open(path)]
     if found:
         more = f" and {len(found) - MOST_NAMED} more" if len(found) > MOST_NAMED else ""
-        say(
+        LOG.warning(
             f"others on this machine can read {', '.join(found[:MOST_NAMED])}{more}, where communities stand: chmod o-r"
         )
 

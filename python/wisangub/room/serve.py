@@ -12,7 +12,8 @@ import sys
 
 from wisangub.endpoint.sockets import Waiting, host_and_port
 from wisangub.process.places import SIGNTOOL, add_version, called
-from wisangub.refusal import status_of, tell
+from wisangub.refusal import status_of
+from wisangub.room.output import print_line
 
 from . import fleet, start
 from .store import database
@@ -69,8 +70,8 @@ def main() -> int:
     if has_users is None:
         return 0
     if not has_users:
-        tell(f"there is no user yet: {called('wisangub-control users')} --database .. add NAME administrator")
-    tell(f"the control room of {len(signs)} signs is at {pages.address}")
+        print_line(f"there is no user yet: {called('wisangub-control users')} --database .. add NAME administrator")
+    print_line(f"the control room of {len(signs)} signs is at {pages.address}")
     try:
         if asked.no_worker:
             while not waiting.is_stopped:

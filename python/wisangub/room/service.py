@@ -7,7 +7,8 @@ from dataclasses import dataclass
 from aiohttp import web
 
 from wisangub.endpoint.sockets import Waiting
-from wisangub.refusal import Refusal, reason, say
+from wisangub.refusal import Refusal, reason
+from wisangub.room.output import LOG
 from wisangub.room.store.store import Store
 from wisangub.room.web.app import application
 from wisangub.room.web.service import Service
@@ -75,7 +76,7 @@ class Pages:
         self.loop.call_soon_threadsafe(self.loop.stop)
         self.thread.join(PATIENCE)
         if self.thread.is_alive():
-            say("the pages did not end in time")
+            LOG.warning("the pages did not end in time")
         self.service.close()
 
     @property

@@ -13,7 +13,8 @@ import getpass
 import sys
 
 from wisangub.process.places import called
-from wisangub.refusal import Refusal, status_of, tell
+from wisangub.refusal import Refusal, status_of
+from wisangub.room.output import print_line
 from wisangub.room.store.database import Failed
 from wisangub.room.store.store import Store
 
@@ -46,7 +47,7 @@ def main() -> int:
             Store(held).signs.rename(asked.old, asked.new, f"{getpass.getuser()} at the machine")
         else:
             for name, address in Store(held).signs.all():
-                tell(f"{name} {address}")
+                print_line(f"{name} {address}")
     except Failed as fault:
         raise Refusal(f"the database: {fault}", 1) from fault
     finally:

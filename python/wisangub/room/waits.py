@@ -3,7 +3,8 @@
 from typing import Callable, TypeVar
 
 from wisangub.endpoint.sockets import Waiting
-from wisangub.refusal import Refusal, say
+from wisangub.refusal import Refusal
+from wisangub.room.output import LOG
 from wisangub.room.store.database import Away, Failed, NotYet, Taken
 
 AGAIN = 1.0  # seconds from one try to the next
@@ -20,12 +21,12 @@ def waited(waiting: Waiting, begin: Callable[[], Answer]) -> Answer | None:
         except (Away, NotYet) as away:
             if str(away) != said:
                 said = str(away)
-                say(f"{said}: it is waited for")
+                LOG.warning(f"{said}: it is waited for")
             waiting.until([], AGAIN)
         except (Failed, Taken) as fault:
             raise Refusal(f"the database: {fault}", 1) from fault
         else:
             if said:
-                say("the database answers")
+                LOG.info("the database answers")
             return begun
     return None

@@ -22,8 +22,9 @@ from typing import Iterator
 
 from wisangub.endpoint.files import MODE, synced_folder
 from wisangub.process import places
-from wisangub.refusal import Refusal, reason, status_of, tell
+from wisangub.refusal import Refusal, reason, status_of
 from wisangub.room import start
+from wisangub.room.output import print_line
 
 from . import database
 from .advance import advance
@@ -206,9 +207,9 @@ def main() -> int:
         if asked.what == "copy":
             copy(asked.database, asked.to)
         elif asked.what == "restore":
-            tell(restore(asked.database, asked.source, asked.who, asked.first))
+            print_line(restore(asked.database, asked.source, asked.who, asked.first))
         else:
-            tell(advanced(asked.database, asked.who, asked.first))
+            print_line(advanced(asked.database, asked.who, asked.first))
     except Failed as fault:
         raise Refusal(f"the database: {fault}") from fault
     return 0

@@ -4,7 +4,8 @@ import os
 import pathlib
 
 from wisangub.process.places import called
-from wisangub.refusal import Refusal, say
+from wisangub.refusal import Refusal
+from wisangub.room.output import LOG
 
 from .connection import Away, Database, Failed, NotYet, Row, Taken, Value
 from .sqlite import Sqlite
@@ -102,7 +103,7 @@ def opened(where: str, may_create: bool = True) -> Database:
         is_old = database.has_table("migrations")
         done = migrate(database, migrations())
         if is_old and done:
-            say(f"{named(where)}: its tables are carried over by migration {', '.join(map(str, done))}. {CARRIED}")
+            LOG.info(f"{named(where)}: its tables are carried over by migration {', '.join(map(str, done))}. {CARRIED}")
     except Away as away:
         raise NotYet(f"{named(where)}: {away}", 1) from away
     except Failed as fault:

@@ -17,8 +17,9 @@ import sys
 from dataclasses import dataclass
 
 from wisangub.process.places import called
-from wisangub.refusal import Refusal, status_of, tell
+from wisangub.refusal import Refusal, status_of
 from wisangub.room import start
+from wisangub.room.output import print_line
 
 from . import database, passwords
 from .audit import note
@@ -146,7 +147,7 @@ def done(asked: argparse.Namespace, database: Database) -> None:
     who = f"{getpass.getuser()} at the machine"
     if asked.call == "list":
         for user in users(database):
-            tell(f"{user.name} {user.role.word}{' disabled' if user.is_disabled else ''}")
+            print_line(f"{user.name} {user.role.word}{' disabled' if user.is_disabled else ''}")
     elif asked.call == "add":
         add(database, asked.name, Role.of(asked.role), asked_password(), who)
     elif asked.call == "password":

@@ -2,13 +2,13 @@
 
 import asyncio
 import contextlib
-import logging
 from dataclasses import dataclass
 from functools import partial
 from typing import AsyncIterator, Awaitable, Callable
 
 from aiohttp import web
 
+from wisangub.room.output import LOG
 from wisangub.room.store import logins
 from wisangub.room.store.database import Failed, Taken
 from wisangub.room.store.users import Role
@@ -20,7 +20,6 @@ from .service import HERE, SERVICE, Service, service_of
 
 Handler = Callable[[web.Request], Awaitable[web.StreamResponse]]
 MOST_BODY = 64 * 1024
-LOG = logging.getLogger("control")
 READER, OPERATOR, ADMINISTRATOR = Role.READER, Role.OPERATOR, Role.ADMINISTRATOR
 
 

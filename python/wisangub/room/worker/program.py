@@ -10,8 +10,9 @@ import sys
 
 from wisangub.endpoint.sockets import Waiting
 from wisangub.process.places import SIGNTOOL, called
-from wisangub.refusal import status_of, tell
+from wisangub.refusal import status_of
 from wisangub.room import fleet, start
+from wisangub.room.output import print_line
 from wisangub.room.store import database
 from wisangub.room.store.store import Store
 from wisangub.room.waits import waited
@@ -63,7 +64,7 @@ def main() -> int:
 
     worker = waited(waiting, begun)
     if worker is not None:
-        tell(f"a worker of {len(signs)} signs")
+        print_line(f"a worker of {len(signs)} signs")
         worker.run()
         worker.store.database.close()
     return 0

@@ -7,9 +7,10 @@ import time
 from dataclasses import dataclass
 
 from wisangub.endpoint.sockets import Waiting
-from wisangub.refusal import Refusal, say
+from wisangub.refusal import Refusal
 from wisangub.room.addresses import AGAIN
 from wisangub.room.fleet import Sign
+from wisangub.room.output import LOG
 from wisangub.room.store.database import Failed, Taken
 from wisangub.room.store.store import Store
 from wisangub.snmp.mib import Mib
@@ -66,7 +67,7 @@ class Worker:
         try:
             self.release()
         except (Failed, Taken) as fault:
-            say(f"the database: {fault}")
+            LOG.warning(f"the database: {fault}")
         self.gets.close()
         self.where.close()
 
@@ -75,11 +76,11 @@ class Worker:
         try:
             self.round()
             if self.fault:
-                say("the database answers again")
+                LOG.info("the database answers again")
             self.fault = ""
         except (Failed, Taken) as fault:
             if str(fault) != self.fault:
-                say(f"the database: {fault}")
+                LOG.warning(f"the database: {fault}")
             self.fault = str(fault)
             self.waiting.until([], self.pace.look)
 
@@ -164,7 +165,7 @@ class Worker:
     def dropped(self, session: Session, fault: Exception | None) -> None:
         """A session that is no more: where something failed, its lease keeps others from it for a while."""
         if fault is not None:
-            say(f"{session.sign.name}: {fault}")
+            LOG.warning(f"{session.sign.name}: {fault}")
         self.drop(session.sign_id, is_released=fault is None)
 
     # ---- leases
@@ -198,7 +199,7 @@ class Worker:
         except Lost:
             self.to_release.add(sign_id)
         except (Refusal, Failed, Taken, OSError) as fault:
-            say(f"{self.signs[sign_id].name}: {fault}")
+            LOG.warning(f"{self.signs[sign_id].name}: {fault}")
 
     def renew(self) -> None:
         """Lets signs go whose lease ran out, and keeps the others."""

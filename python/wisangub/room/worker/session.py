@@ -12,8 +12,9 @@ from wisangub.endpoint.sockets import connected, received, sent
 from wisangub.endpoint.texts import ended
 from wisangub.process import description
 from wisangub.process.coprocess import CoProcess
-from wisangub.refusal import Refusal, reason, say
+from wisangub.refusal import Refusal, reason
 from wisangub.room.fleet import Sign
+from wisangub.room.output import LOG
 from wisangub.room.store.commands import Command
 from wisangub.room.store.lines import Line, News, above
 from wisangub.room.store.store import Store
@@ -199,7 +200,7 @@ class Session:
         octets, self.out = self.out, None
         fault = None if octets is None else sent(self.door, octets)
         if fault is not None:
-            say(f"{self.sign.name}: a request is lost: {reason(fault)}")
+            LOG.warning(f"{self.sign.name}: a request is lost: {reason(fault)}")
 
     def close(self) -> None:
         """Ends the co-process. The lines stay."""

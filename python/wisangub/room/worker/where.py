@@ -4,9 +4,9 @@ address, or with one that another sign has, stands still: it is neither driven n
 import dataclasses
 import time
 
-from wisangub.refusal import say
 from wisangub.room.addresses import Addresses, Found
 from wisangub.room.fleet import Sign
+from wisangub.room.output import LOG
 from wisangub.room.store.store import Store
 
 
@@ -48,12 +48,12 @@ class Where:
         self.known[sign_id] = found
         before = self.signs.pop(sign_id, None)
         if why and why != self.still.get(sign_id):
-            say(f"{self.fleet[sign_id].name}: it stands still: {why}")
+            LOG.warning(f"{self.fleet[sign_id].name}: it stands still: {why}")
         if why:
             self.still[sign_id] = why
         else:
             if self.still.pop(sign_id, ""):
-                say(f"{self.fleet[sign_id].name}: it goes on, at {found.host}")
+                LOG.info(f"{self.fleet[sign_id].name}: it goes on, at {found.host}")
             self.signs[sign_id] = dataclasses.replace(self.fleet[sign_id], host=found.host)
         return before is not None and before != self.signs.get(sign_id)
 
