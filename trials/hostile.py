@@ -30,7 +30,7 @@ from collections.abc import Iterable, Iterator
 from typing import Protocol
 
 from trials.doors.bench import Trial
-from wisangub.tester.hostile_datagrams import Datagram, Maker, all_to_sign, is_answered, near, random_ones
+from wisangub.tester.requests.hostile_datagrams import Datagram, Maker, all_to_sign, is_answered, near, random_ones
 
 from .doors import hostile_udp
 

@@ -11,7 +11,7 @@ from dataclasses import dataclass
 
 from model import text
 from wisangub.tester.chapters import ALL
-from wisangub.tester.rules import RULES
+from wisangub.tester.findings.rules import RULES
 from wisangub.tester.sign.judge import Judge, SignJudge
 from wisangub.tester.sign.oracle import Oracle, made
 

@@ -4,12 +4,12 @@ from typing import Sequence
 
 from model import layout, text
 from model.sign import Sign
-from wisangub.tester import bench
-from wisangub.tester.results import Watcher
+from wisangub.tester.findings.results import Watcher
 from wisangub.tester.session import Session
 from wisangub.tester.sign.judge import Fault, Judge
 from wisangub.tester.sign.oracle import Oracle
 from wisangub.tester.sign.simulated import SomeSign
+from wisangub.tester.soak import bench
 
 run = bench.run
 

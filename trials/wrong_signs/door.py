@@ -12,7 +12,7 @@ import sys
 
 from wisangub.tester.centre.program import Stopped, serve, stop
 from wisangub.tester.centre.watch import Watch
-from wisangub.tester.clock import RealClock
+from wisangub.tester.sign.clock import RealClock
 from wisangub.tester.sign.simulated import SomeSign
 
 from .load import sign_of

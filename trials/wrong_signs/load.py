@@ -31,7 +31,7 @@ IMPORTS = {  # the files in the order in which they are loaded, and which of the
 class Mutant:
     """A sign wrong in one rule: in this file the old lines, which stand once, are the new ones.
 
-    `rule` is a key of rules.py.
+    `rule` is a key of the findings' rules.txt.
     """
 
     name: str

@@ -10,7 +10,7 @@ from typing import Any
 from model import wire
 from model.description import Row
 from model.state import Shown
-from wisangub.tester.objects import Name
+from wisangub.tester.requests.objects import Name
 
 MOST_NAMES = 65_536
 NAMES: dict[bytes, Name] = {}

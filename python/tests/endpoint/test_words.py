@@ -7,7 +7,7 @@ from wisangub.refusal import Refusal
 from wisangub.snmp.datagrams import fields_of
 from wisangub.snmp.mib import Mib
 from wisangub.snmp.wire import is_get
-from wisangub.tester import hostile_datagrams
+from wisangub.tester.requests import hostile_datagrams
 
 ADDRESSES = [
     ("127.0.0.1:1161", ("127.0.0.1", 1161)),

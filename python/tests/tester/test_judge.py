@@ -5,8 +5,8 @@ import subprocess
 from model import text
 from trials.wrong_signs.bench import ModelJudge
 from wisangub.process.places import SIGNTOOL, TOP
-from wisangub.tester.checksum import checksum
-from wisangub.tester.described import Bad, described
+from wisangub.tester.requests.checksum import checksum
+from wisangub.tester.sign.described import Bad, described
 from wisangub.tester.sign.judge import SignJudge
 from wisangub.tester.sign.oracle import made
 

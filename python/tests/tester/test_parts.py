@@ -12,16 +12,16 @@ from wisangub.process.places import TOP
 from wisangub.snmp import wire
 from wisangub.snmp.names import scalar
 from wisangub.tester.chapters import ALL
-from wisangub.tester.classify import rule_of
-from wisangub.tester.clock import SimulatedClock
-from wisangub.tester.compare import Kind, fields, mismatch
 from wisangub.tester.context import Context
-from wisangub.tester.described import described
-from wisangub.tester.objects import integer
-from wisangub.tester.repeat import steps_of
-from wisangub.tester.rules import CHAPTERS, RULES, is_in_profile
+from wisangub.tester.findings.classify import rule_of
+from wisangub.tester.findings.compare import Kind, fields, mismatch
+from wisangub.tester.findings.rules import CHAPTERS, RULES, is_in_profile
+from wisangub.tester.requests.objects import integer
+from wisangub.tester.requests.steps import Wait, get, put
+from wisangub.tester.runs.repeat import steps_of
+from wisangub.tester.sign.clock import SimulatedClock
+from wisangub.tester.sign.described import described
 from wisangub.tester.sign.ticks import Ticks
-from wisangub.tester.steps import Wait, get, put
 
 HEIGHT = scalar("vmsSignHeightPixels")
 

@@ -12,13 +12,13 @@ from trials.wrong_signs.table import MUTANTS
 from wisangub.snmp import wire
 from wisangub.snmp.names import scalar
 from wisangub.tester.chapters import ALL
-from wisangub.tester.compare import Kind
 from wisangub.tester.context import Context
-from wisangub.tester.differences import Difference
-from wisangub.tester.objects import Name, Value
+from wisangub.tester.findings.compare import Kind
+from wisangub.tester.findings.differences import Difference
+from wisangub.tester.findings.results import Results
 from wisangub.tester.report import files, page, terminal, words
 from wisangub.tester.report.picture import pictures
-from wisangub.tester.results import Results
+from wisangub.tester.requests.objects import Name, Value
 
 ABOUT = words.About("127.0.0.1:1", "bench.sign", "model", None, 1, 0, False, "today")
 

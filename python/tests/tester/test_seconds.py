@@ -10,15 +10,15 @@ from wisangub.snmp import wire
 from wisangub.snmp.names import Memory, RowStatus, scalar
 from wisangub.tester.chapters import ALL
 from wisangub.tester.chapters.block import Block
-from wisangub.tester.clock import SimulatedClock
-from wisangub.tester.messages import spelled
-from wisangub.tester.objects import Column, Row, integer
+from wisangub.tester.findings.results import ChapterResult
 from wisangub.tester.report import terminal, words
-from wisangub.tester.results import ChapterResult
+from wisangub.tester.requests.messages import spelled
+from wisangub.tester.requests.objects import Column, Row, integer
+from wisangub.tester.requests.steps import Step, Wait, get, put
 from wisangub.tester.session import Session
+from wisangub.tester.sign.clock import SimulatedClock
 from wisangub.tester.sign.simulated import SimulatedLink
 from wisangub.tester.state.validation_ticks import LONGEST
-from wisangub.tester.steps import Step, Wait, get, put
 
 ROW, TIME = Row(Memory.CHANGEABLE, 1), scalar("defaultPageOnTime")
 LOOK = get(ROW.cell(Column.STATUS))

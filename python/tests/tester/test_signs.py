@@ -5,9 +5,9 @@ from trials.wrong_signs import bench
 from trials.wrong_signs.__main__ import BENCH, tried
 from trials.wrong_signs.table import MUTANTS
 from wisangub.process.places import SIGNTOOL, TOP
-from wisangub.tester import soak
 from wisangub.tester.sign.judge import SignJudge
 from wisangub.tester.sign.oracle import made
+from wisangub.tester.soak import program as soak
 
 SIGNS = [TOP / "signs/roadside.sign", TOP / "signs/gantry.sign"]
 FEW = (

@@ -13,9 +13,9 @@ from wisangub.process.places import TOP
 from wisangub.snmp.names import Memory, RowStatus, scalar
 from wisangub.tester.centre.watch import Habit, Watch
 from wisangub.tester.context import ADDRESS, Context, activate
-from wisangub.tester.described import described
-from wisangub.tester.objects import Column, Row, instance, integer
-from wisangub.tester.steps import Ask, get, put
+from wisangub.tester.requests.objects import Column, Row, instance, integer
+from wisangub.tester.requests.steps import Ask, get, put
+from wisangub.tester.sign.described import described
 
 ROW = Row(Memory.CHANGEABLE, 1)
 CONTEXT = Context(described(text.BENCH), (b"public", b"admin"), ModelJudge(text.BENCH))

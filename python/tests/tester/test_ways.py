@@ -7,12 +7,12 @@ from model.sign import Sign
 from trials.wrong_signs import bench
 from wisangub.snmp import wire
 from wisangub.snmp.names import Memory, RowStatus, scalar
-from wisangub.tester.clock import SimulatedClock
-from wisangub.tester.objects import Column, Row, integer, octets
+from wisangub.tester.requests.objects import Column, Row, integer, octets
+from wisangub.tester.requests.steps import Ask, get, put
 from wisangub.tester.session import Session
+from wisangub.tester.sign.clock import SimulatedClock
 from wisangub.tester.sign.port import Port
 from wisangub.tester.sign.simulated import SimulatedLink
-from wisangub.tester.steps import Ask, get, put
 
 HEIGHT, TIME = scalar("vmsSignHeightPixels"), scalar("defaultPageOnTime")
 ROW = Row(Memory.CHANGEABLE, 1)

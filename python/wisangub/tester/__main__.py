@@ -6,8 +6,8 @@ from wisangub import commands
 
 PARTS = {
     "centre": "wisangub.tester.centre.program",
-    "soak": "wisangub.tester.soak",
-    "vectors": "wisangub.tester.ask_vectors",
+    "soak": "wisangub.tester.soak.program",
+    "vectors": "wisangub.tester.vectors.program",
 }
 
 

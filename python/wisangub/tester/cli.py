@@ -7,22 +7,22 @@ import sys
 
 from wisangub.process.places import SIGNTOOL, add_version, called
 from wisangub.refusal import Refusal
-from wisangub.tester.report.picture import pictures
-from wisangub.tester.sign.judge import Judge, SignJudge
-from wisangub.tester.sign.link import UdpLink
-from wisangub.tester.sign.oracle import Oracle, made
-from wisangub.tester.sign.pair import Pair
-from wisangub.tester.sign.port import Port
-from wisangub.tester.sign.ticks import Ticks
 
 from .chapters import ALL, NAMES
-from .clock import RealClock
 from .context import Context
-from .described import Bad, described
-from .repeat import repeat
+from .findings.results import Results
 from .report import files, page, terminal, words
-from .results import Results
+from .report.picture import pictures
+from .runs.repeat import repeat
 from .session import Session, chapters_of
+from .sign.clock import RealClock
+from .sign.described import Bad, described
+from .sign.judge import Judge, SignJudge
+from .sign.link import UdpLink
+from .sign.oracle import Oracle, made
+from .sign.pair import Pair
+from .sign.port import Port
+from .sign.ticks import Ticks
 
 
 def arguments() -> argparse.ArgumentParser:

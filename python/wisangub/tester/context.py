@@ -4,12 +4,12 @@ import functools
 from dataclasses import dataclass
 
 from wisangub.snmp.names import COLUMNS, SCALARS, Memory, scalar
-from wisangub.tester.sign.judge import Judge
 
-from .checksum import checksum
-from .described import Description
-from .objects import Binding, Name, Row, instance, octets
-from .steps import Ask, put
+from .requests.checksum import checksum
+from .requests.objects import Binding, Name, Row, instance, octets
+from .requests.steps import Ask, put
+from .sign.described import Description
+from .sign.judge import Judge
 
 ADDRESS = bytes([192, 0, 2, 1])
 NOBODY = bytes(4)

@@ -3,21 +3,20 @@
 from dataclasses import dataclass, field, replace
 from typing import Sequence
 
-from wisangub.tester.sign.pair import Inconclusive, Pair
-from wisangub.tester.state.known_state import Unreachable
-from wisangub.tester.state.preflight import Preflight
-from wisangub.tester.state.reset import Reset
-
-from . import classify
 from .chapters import ALL, Block, Chapter
-from .compare import Kind
 from .context import Context
-from .differences import Difference, subject
-from .results import ChapterResult, Results, Watcher
-from .rules import RULES, Rule
-from .runs import Run, Runner
-from .shrinking import shrunk
-from .steps import Step, datagrams
+from .findings import classify
+from .findings.compare import Kind
+from .findings.differences import Difference, subject
+from .findings.results import ChapterResult, Results, Watcher
+from .findings.rules import RULES, Rule
+from .requests.steps import Step, datagrams
+from .runs.runner import Run, Runner
+from .runs.shrinking import shrunk
+from .sign.pair import Inconclusive, Pair
+from .state.known_state import Unreachable
+from .state.preflight import Preflight
+from .state.reset import Reset
 
 MOST_SHRUNK, MOST_TOLD = 4, 12  # differences of a chapter that are made small, and that are told
 

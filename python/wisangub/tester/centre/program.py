@@ -18,8 +18,8 @@ from typing import Protocol
 
 from wisangub.process.places import SIGNTOOL, called
 from wisangub.refusal import Refusal
-from wisangub.tester.clock import Clock, RealClock
-from wisangub.tester.described import Bad
+from wisangub.tester.sign.clock import Clock, RealClock
+from wisangub.tester.sign.described import Bad
 from wisangub.tester.sign.oracle import made
 
 from .watch import Watch

@@ -5,8 +5,8 @@ from enum import Enum
 
 from wisangub.snmp import wire
 from wisangub.snmp.names import KINDS, scalar
-from wisangub.tester.messages import spelled
-from wisangub.tester.objects import Column, Name, column_of, instance, row_of, scalar_of, spoken
+from wisangub.tester.requests.messages import spelled
+from wisangub.tester.requests.objects import Column, Name, column_of, instance, row_of, scalar_of, spoken
 
 RowName = tuple[int, int]
 ERROR = scalar("dmsActivateMsgError")

@@ -4,8 +4,8 @@ from typing import Iterator
 
 from wisangub.snmp.names import Memory, scalar
 from wisangub.tester.context import ADDRESS, Context, activate, activation, remaining
-from wisangub.tester.objects import Row, integer
-from wisangub.tester.steps import Step, Wait, get, put
+from wisangub.tester.requests.objects import Row, integer
+from wisangub.tester.requests.steps import Step, Wait, get, put
 
 from .block import Block, Chapter, fill, look, message, modify, reports, unuse, validate
 from .telling import telling

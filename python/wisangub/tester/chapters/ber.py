@@ -4,11 +4,11 @@ from typing import Callable, Iterator
 
 from wisangub.snmp import wire
 from wisangub.snmp.names import scalar
-from wisangub.tester import spelling
 from wisangub.tester.context import Context
-from wisangub.tester.objects import NULL
-from wisangub.tester.spelling import HEIGHT, NOWHERE, PLACES, spelled
-from wisangub.tester.steps import Ask, Raw, fixed, get, get_next
+from wisangub.tester.requests import spelling
+from wisangub.tester.requests.objects import NULL
+from wisangub.tester.requests.spelling import HEIGHT, NOWHERE, PLACES, spelled
+from wisangub.tester.requests.steps import Ask, Raw, fixed, get, get_next
 
 from .ber_contents import integers, names, values
 from .ber_forms import BAD_TAGS, of_kind, raw, whole_changed

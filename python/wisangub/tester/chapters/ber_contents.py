@@ -3,9 +3,9 @@
 from typing import Iterator
 
 from wisangub.snmp import wire
-from wisangub.tester import spelling
-from wisangub.tester.spelling import NOWHERE
-from wisangub.tester.steps import Raw
+from wisangub.tester.requests import spelling
+from wisangub.tester.requests.spelling import NOWHERE
+from wisangub.tester.requests.steps import Raw
 
 from .ber_forms import BAD_TAGS, raw
 from .block import Block

@@ -2,8 +2,8 @@
 
 from typing import Callable
 
-from wisangub.tester.spelling import Form, spelled
-from wisangub.tester.steps import Raw
+from wisangub.tester.requests.spelling import Form, spelled
+from wisangub.tester.requests.steps import Raw
 
 BAD_TAGS = bytes.fromhex("00 01 03 10 22 24 26 31 45 46 47 1f 80 a4 a5 a6 a7 b0 bf ff")
 

@@ -5,8 +5,8 @@ from typing import Callable, Iterator, Sequence
 
 from wisangub.snmp.names import RowStatus
 from wisangub.tester.context import Context
-from wisangub.tester.objects import EXECUTIVE, SHOWN_CELLS, STATE_SCALARS, Binding, Column, Name, Row
-from wisangub.tester.steps import Ask, Step, Wait, get, looks, put
+from wisangub.tester.requests.objects import EXECUTIVE, SHOWN_CELLS, STATE_SCALARS, Binding, Column, Name, Row
+from wisangub.tester.requests.steps import Ask, Step, Wait, get, looks, put
 
 
 @dataclass

@@ -6,8 +6,8 @@ from typing import Iterator
 from wisangub.snmp import wire
 from wisangub.snmp.names import Memory, RowStatus, scalar
 from wisangub.tester.context import Context, activate
-from wisangub.tester.objects import NULL, Row, cell, instance, integer
-from wisangub.tester.steps import Ask, get, get_next, put
+from wisangub.tester.requests.objects import NULL, Row, cell, instance, integer
+from wisangub.tester.requests.steps import Ask, get, get_next, put
 
 from .block import Block, Chapter, look
 

@@ -5,8 +5,8 @@ from typing import Iterator
 
 from wisangub.snmp.names import Memory
 from wisangub.tester.context import Context, activate
-from wisangub.tester.objects import Row
-from wisangub.tester.steps import Step, Wait, put
+from wisangub.tester.requests.objects import Row
+from wisangub.tester.requests.steps import Step, Wait, put
 
 from .block import Block, Chapter, fill, look, message, modify, reports, unuse, validate
 from .telling import Telling, default, spoiling, telling

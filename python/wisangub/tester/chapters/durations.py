@@ -4,8 +4,8 @@ from typing import Iterator
 
 from wisangub.snmp.names import Memory, scalar
 from wisangub.tester.context import Context, activate, remaining
-from wisangub.tester.objects import Binding, Row, octets
-from wisangub.tester.steps import Step, Wait, get, put
+from wisangub.tester.requests.objects import Binding, Row, octets
+from wisangub.tester.requests.steps import Step, Wait, get, put
 
 from .block import Block, Chapter, fill, look, message, modify, reports, validate
 from .telling import telling

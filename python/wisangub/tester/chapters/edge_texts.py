@@ -4,7 +4,7 @@ import itertools
 from dataclasses import dataclass
 
 from wisangub.tester.context import Context
-from wisangub.tester.described import Font
+from wisangub.tester.sign.described import Font
 
 
 @dataclass(frozen=True)

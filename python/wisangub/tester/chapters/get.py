@@ -6,8 +6,8 @@ from typing import Iterator
 from wisangub.snmp import wire
 from wisangub.snmp.names import DMS, scalar
 from wisangub.tester.context import Context
-from wisangub.tester.objects import NULL, Column, Name, Row, cell, column_of, instance, integer, octets, row_of
-from wisangub.tester.steps import Ask, get, looks
+from wisangub.tester.requests.objects import NULL, Column, Name, Row, cell, column_of, instance, integer, octets, row_of
+from wisangub.tester.requests.steps import Ask, get, looks
 
 from .block import Block, Chapter, look, message
 

@@ -5,8 +5,8 @@ from typing import Iterator
 from wisangub.snmp import wire
 from wisangub.snmp.names import DMS, scalar
 from wisangub.tester.context import Context
-from wisangub.tester.objects import NULL, Name, integer, octets
-from wisangub.tester.steps import Ask, get_next
+from wisangub.tester.requests.objects import NULL, Name, integer, octets
+from wisangub.tester.requests.steps import Ask, get_next
 
 from .block import Block, Chapter
 

@@ -4,8 +4,8 @@ from typing import Iterator
 
 from wisangub.snmp.names import Memory
 from wisangub.tester.context import Context, activate
-from wisangub.tester.objects import Row
-from wisangub.tester.steps import Step
+from wisangub.tester.requests.objects import Row
+from wisangub.tester.requests.steps import Step
 
 from .block import Block, Chapter, look, message, reports
 

@@ -5,8 +5,8 @@ from typing import Iterator
 from wisangub.snmp import wire
 from wisangub.snmp.names import RowStatus, scalar
 from wisangub.tester.context import Context
-from wisangub.tester.objects import NULL, Binding, integer, octets
-from wisangub.tester.steps import Ask, Raw, Step, Wait
+from wisangub.tester.requests.objects import NULL, Binding, integer, octets
+from wisangub.tester.requests.steps import Ask, Raw, Step, Wait
 
 from .block import Block, Chapter, look
 from .random_values import Values
@@ -46,7 +46,7 @@ class Requests(Values):
         return self.name(), self.wild()
 
     def hostile(self) -> Raw:
-        """Octets of python/wisangub/tester/hostile_datagrams.py, with a request number of this run."""
+        """Octets of python/wisangub/tester/requests/hostile_datagrams.py, with a request number of this run."""
         state = self.chance.randrange(2**32)
 
         def make(number: int, _communities: tuple[bytes, bytes]) -> bytes:

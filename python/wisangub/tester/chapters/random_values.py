@@ -5,8 +5,8 @@ import random
 from wisangub.snmp import wire
 from wisangub.snmp.names import SCALARS, Memory, scalar
 from wisangub.tester.context import ADDRESS, Context
-from wisangub.tester.hostile_datagrams import Maker
-from wisangub.tester.objects import (
+from wisangub.tester.requests.hostile_datagrams import Maker
+from wisangub.tester.requests.objects import (
     OWN_CODES,
     SHOWN_CELLS,
     STATE_SCALARS,

@@ -6,8 +6,8 @@ from typing import Iterator
 
 from wisangub.snmp.names import RowStatus, scalar
 from wisangub.tester.context import Context, activate, remaining
-from wisangub.tester.objects import Column, Row, instance, integer, octets
-from wisangub.tester.steps import Ask, Step, Wait, get, get_next, put
+from wisangub.tester.requests.objects import Column, Row, instance, integer, octets
+from wisangub.tester.requests.steps import Ask, Step, Wait, get, get_next, put
 
 from .block import Block, Chapter, fill, look, look_at, modify, unuse
 

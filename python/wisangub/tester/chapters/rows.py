@@ -4,8 +4,8 @@ from typing import Iterator
 
 from wisangub.snmp.names import RowStatus
 from wisangub.tester.context import Context
-from wisangub.tester.objects import Column, Row, instance
-from wisangub.tester.steps import Step, Wait, put
+from wisangub.tester.requests.objects import Column, Row, instance
+from wisangub.tester.requests.steps import Step, Wait, put
 
 from .block import Block, Chapter, fill, look, look_at, message, modify, settle, unuse, validate
 

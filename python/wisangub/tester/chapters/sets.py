@@ -4,8 +4,8 @@ from typing import Iterator
 
 from wisangub.snmp.names import Memory, RowStatus, scalar
 from wisangub.tester.context import Context, activate, activation, remaining
-from wisangub.tester.objects import OWN_CODES, Binding, Column, Name, Row, cell, instance, integer, octets
-from wisangub.tester.steps import Ask, Step, put
+from wisangub.tester.requests.objects import OWN_CODES, Binding, Column, Name, Row, cell, instance, integer, octets
+from wisangub.tester.requests.steps import Ask, Step, put
 
 from .block import Block, Chapter, alone, look, look_at, message, modify
 from .sets_values import RANGES, cells, scalars

@@ -5,8 +5,19 @@ from typing import Iterator
 from wisangub.snmp import wire
 from wisangub.snmp.names import scalar
 from wisangub.tester.context import Context
-from wisangub.tester.objects import NULL, OWN_CODES, Binding, Column, Name, Row, Value, instance, integer, octets
-from wisangub.tester.steps import put
+from wisangub.tester.requests.objects import (
+    NULL,
+    OWN_CODES,
+    Binding,
+    Column,
+    Name,
+    Row,
+    Value,
+    instance,
+    integer,
+    octets,
+)
+from wisangub.tester.requests.steps import put
 
 from .block import Block, alone, look, look_at, modify
 

@@ -6,8 +6,8 @@ from typing import Iterator
 from wisangub.snmp import wire
 from wisangub.snmp.names import Memory, scalar
 from wisangub.tester.context import Context, activate
-from wisangub.tester.objects import NULL, Binding, Row, instance, integer, octets
-from wisangub.tester.steps import Ask, Raw, Step, Wait, fixed, get, get_next, put
+from wisangub.tester.requests.objects import NULL, Binding, Row, instance, integer, octets
+from wisangub.tester.requests.steps import Ask, Raw, Step, Wait, fixed, get, get_next, put
 
 from .block import Block, Chapter, look, reports
 

@@ -5,8 +5,8 @@ from typing import Iterator, Sequence
 from wisangub.snmp import wire
 from wisangub.snmp.names import Memory, scalar
 from wisangub.tester.context import Context
-from wisangub.tester.objects import NULL, Binding, Column, Name, Row, instance, octets
-from wisangub.tester.steps import FIRST_NUMBER, Ask, Step, get, get_next, put
+from wisangub.tester.requests.objects import NULL, Binding, Column, Name, Row, instance, octets
+from wisangub.tester.requests.steps import FIRST_NUMBER, Ask, Step, get, get_next, put
 
 from .block import Block, Chapter, look, modify
 

@@ -3,8 +3,8 @@
 from dataclasses import dataclass
 
 from wisangub.tester.context import Context
-from wisangub.tester.objects import Binding, instance, integer
-from wisangub.tester.steps import Ask, put
+from wisangub.tester.requests.objects import Binding, instance, integer
+from wisangub.tester.requests.steps import Ask, put
 
 
 @dataclass(frozen=True)

@@ -4,8 +4,8 @@ from typing import Iterator
 
 from wisangub.snmp.names import scalar
 from wisangub.tester.context import Context
-from wisangub.tester.objects import Column, Row
-from wisangub.tester.steps import Step
+from wisangub.tester.requests.objects import Column, Row
+from wisangub.tester.requests.steps import Step
 
 from .block import Block, Chapter, fill, look, look_at, modify, settle
 from .edge_texts import Sample

@@ -4,8 +4,8 @@ import json
 import xml.etree.ElementTree as ET
 from typing import Any
 
-from wisangub.tester.differences import Difference
-from wisangub.tester.results import Results
+from wisangub.tester.findings.differences import Difference
+from wisangub.tester.findings.results import Results
 
 from .terminal import difference_lines
 from .words import About, how_sure, origin, sequence, verdict

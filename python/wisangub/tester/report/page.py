@@ -3,8 +3,8 @@
 import html
 import pathlib
 
-from wisangub.tester.differences import Difference
-from wisangub.tester.results import ChapterResult, Results
+from wisangub.tester.findings.differences import Difference
+from wisangub.tester.findings.results import ChapterResult, Results
 
 from .picture import pages_of, svg
 from .words import About, how_sure, origin, sequence, verdict

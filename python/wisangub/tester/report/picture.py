@@ -2,9 +2,9 @@
 
 from wisangub.snmp import wire
 from wisangub.tester.context import Context
-from wisangub.tester.differences import Difference
-from wisangub.tester.objects import Column, column_of
-from wisangub.tester.steps import Ask
+from wisangub.tester.findings.differences import Difference
+from wisangub.tester.requests.objects import Column, column_of
+from wisangub.tester.requests.steps import Ask
 
 SHADES = ["#000000", "#ff0000", "#ffff00", "#00ff00", "#00ffff", "#0000ff", "#ff00ff", "#ffffff", "#ff8000", "#ffbf00"]
 JUDGING = ("validation", "defaults", "activation")

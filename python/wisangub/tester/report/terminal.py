@@ -4,8 +4,8 @@ import sys
 from typing import Any, TextIO
 
 from wisangub.tester.chapters import Chapter
-from wisangub.tester.differences import Difference
-from wisangub.tester.results import ChapterResult, Results
+from wisangub.tester.findings.differences import Difference
+from wisangub.tester.findings.results import ChapterResult, Results
 
 from .words import About, how_sure, origin, sequence, verdict
 

@@ -5,10 +5,10 @@ from dataclasses import dataclass
 
 from wisangub.process.places import called
 from wisangub.tester.chapters import Chapter
-from wisangub.tester.compare import fields
 from wisangub.tester.context import Context
-from wisangub.tester.differences import Difference
-from wisangub.tester.results import Results
+from wisangub.tester.findings.compare import fields
+from wisangub.tester.findings.differences import Difference
+from wisangub.tester.findings.results import Results
 
 NOT_SEEN = [
     "losses and returns of power, and the codes that they activate: no request makes them",

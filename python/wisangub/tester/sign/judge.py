@@ -5,10 +5,10 @@ from typing import Protocol, Sequence
 
 from wisangub.snmp import wire
 from wisangub.snmp.names import Memory, RowStatus, scalar
-from wisangub.tester.described import described
-from wisangub.tester.objects import Binding, Column, Row, instance, integer, octets
-from wisangub.tester.steps import get, put
+from wisangub.tester.requests.objects import Binding, Column, Row, instance, integer, octets
+from wisangub.tester.requests.steps import get, put
 
+from .described import described
 from .oracle import CoProcessOracle, program_of
 
 Fault = tuple[int, int]  # a code of dmsMultiSyntaxError and its offset in octets

@@ -5,7 +5,7 @@ import select
 import socket
 from typing import Protocol
 
-from wisangub.tester.clock import Clock
+from .clock import Clock
 
 MOST_RECEIVED = 65_535
 

@@ -6,7 +6,8 @@ from typing import Protocol
 from wisangub.process.coprocess import CoProcess
 from wisangub.process.places import TOP
 from wisangub.refusal import Refusal
-from wisangub.tester.described import Bad, ended
+
+from .described import Bad, ended
 
 MODEL = TOP / "model/signtool"  # what `model` stands for
 

@@ -4,13 +4,13 @@ from dataclasses import dataclass, field
 
 from wisangub.snmp import wire
 from wisangub.snmp.names import scalar
-from wisangub.tester.clock import Clock
-from wisangub.tester.compare import Kind, Mismatch, mismatch
-from wisangub.tester.messages import spelled
-from wisangub.tester.objects import Name, Row, is_validation, row_of
+from wisangub.tester.findings.compare import Kind, Mismatch, mismatch
+from wisangub.tester.requests.messages import spelled
+from wisangub.tester.requests.objects import Name, Row, is_validation, row_of
+from wisangub.tester.requests.steps import Ask, Raw, Step, Wait, get
 from wisangub.tester.state.unanswered import is_command, is_known
-from wisangub.tester.steps import Ask, Raw, Step, Wait, get
 
+from .clock import Clock
 from .oracle import Oracle
 from .port import Port
 from .ticks import Ticks

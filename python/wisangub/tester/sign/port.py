@@ -3,10 +3,10 @@
 from dataclasses import dataclass, field
 
 from wisangub.snmp import wire
-from wisangub.tester.clock import Clock
-from wisangub.tester.messages import spelled
-from wisangub.tester.steps import FIRST_NUMBER, LAST_NUMBER
+from wisangub.tester.requests.messages import spelled
+from wisangub.tester.requests.steps import FIRST_NUMBER, LAST_NUMBER
 
+from .clock import Clock
 from .link import Link
 
 TRIES = 3

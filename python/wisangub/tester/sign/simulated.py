@@ -4,7 +4,7 @@ import heapq
 import random
 from typing import Protocol
 
-from wisangub.tester.clock import SimulatedClock
+from .clock import SimulatedClock
 
 
 class SomeSign(Protocol):

@@ -2,7 +2,7 @@
 
 import math
 
-from wisangub.tester.clock import Clock
+from .clock import Clock
 
 LONG_AGO, SOON, LATE, MOST_MARGIN = 30.0, 0.3, 0.3, 0.12
 

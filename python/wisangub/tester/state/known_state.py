@@ -6,9 +6,9 @@ from typing import Iterable
 from wisangub.snmp import wire
 from wisangub.snmp.names import RowStatus, scalar
 from wisangub.tester.context import Context
-from wisangub.tester.messages import spelled
-from wisangub.tester.objects import NO_ADDRESS, OWN_CODES, Column, Name, Row, Value, instance, integer, octets
-from wisangub.tester.steps import Ask, Step, Wait, get, put
+from wisangub.tester.requests.messages import spelled
+from wisangub.tester.requests.objects import NO_ADDRESS, OWN_CODES, Column, Name, Row, Value, instance, integer, octets
+from wisangub.tester.requests.steps import Ask, Step, Wait, get, put
 
 CENTRAL = 8  # dmsMsgSourceMode of what the central system activated
 VERDICTS = (scalar("dmsValidateMessageError"), scalar("dmsMultiSyntaxError"), scalar("dmsMultiSyntaxErrorPosition"))

@@ -4,16 +4,16 @@ from dataclasses import dataclass
 
 from wisangub.snmp import wire
 from wisangub.snmp.names import scalar
-from wisangub.tester import classify
-from wisangub.tester.compare import Kind, Mismatch, mismatch, value_words
 from wisangub.tester.context import Context
-from wisangub.tester.differences import Difference
-from wisangub.tester.messages import spelled
-from wisangub.tester.objects import Column, Name, Value, instance, integer, octets, row_of, spoken
-from wisangub.tester.results import Results, Watcher
-from wisangub.tester.rules import RULES, Rule
+from wisangub.tester.findings import classify
+from wisangub.tester.findings.compare import Kind, Mismatch, mismatch, value_words
+from wisangub.tester.findings.differences import Difference
+from wisangub.tester.findings.results import Results, Watcher
+from wisangub.tester.findings.rules import RULES, Rule
+from wisangub.tester.requests.messages import spelled
+from wisangub.tester.requests.objects import Column, Name, Value, instance, integer, octets, row_of, spoken
+from wisangub.tester.requests.steps import Ask, Wait, get, looks
 from wisangub.tester.sign.pair import Exchange, Pair
-from wisangub.tester.steps import Ask, Wait, get, looks
 
 from .known_state import Unreached
 from .reset import Reset

@@ -5,10 +5,10 @@ from dataclasses import dataclass, field
 from wisangub.snmp import wire
 from wisangub.snmp.names import RowStatus, scalar
 from wisangub.tester.context import Context, activate
-from wisangub.tester.messages import spelled
-from wisangub.tester.objects import Column, Name, Row, Value
+from wisangub.tester.requests.messages import spelled
+from wisangub.tester.requests.objects import Column, Name, Row, Value
+from wisangub.tester.requests.steps import Ask, get, looks, put
 from wisangub.tester.sign.pair import Pair
-from wisangub.tester.steps import Ask, get, looks, put
 
 from .known_state import VERDICTS, KnownState, Unreachable, Unreached
 from .unanswered import ours_reads

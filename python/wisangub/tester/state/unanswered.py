@@ -4,9 +4,9 @@ from typing import TYPE_CHECKING
 
 from wisangub.snmp import wire
 from wisangub.snmp.names import scalar
-from wisangub.tester.messages import spelled
-from wisangub.tester.objects import EXECUTIVE, SHOWN_CELLS, Name, Row, Value, row_of, scalar_of
-from wisangub.tester.steps import looks
+from wisangub.tester.requests.messages import spelled
+from wisangub.tester.requests.objects import EXECUTIVE, SHOWN_CELLS, Name, Row, Value, row_of, scalar_of
+from wisangub.tester.requests.steps import looks
 
 if TYPE_CHECKING:
     from wisangub.tester.sign.pair import Pair

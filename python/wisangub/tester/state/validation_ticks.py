@@ -2,11 +2,11 @@
 
 from dataclasses import dataclass
 
-from wisangub.tester.messages import spelled
-from wisangub.tester.objects import Column, Row
+from wisangub.tester.requests.messages import spelled
+from wisangub.tester.requests.objects import Column, Row
+from wisangub.tester.requests.steps import get
 from wisangub.tester.sign.pair import Pair
 from wisangub.tester.sign.port import Heard
-from wisangub.tester.steps import get
 
 VALIDATING = 3
 POLL, SURE, MOST_SURE = 0.004, 0.04, 0.2  # seconds between two looks at a row; within which its end is seen

@@ -3,18 +3,17 @@
 import random
 from typing import Sequence
 
+from wisangub.tester.context import Context
+from wisangub.tester.findings.results import Quiet, Results, Watcher
+from wisangub.tester.session import Session, chapters_of
+from wisangub.tester.sign.clock import SimulatedClock
+from wisangub.tester.sign.described import described
 from wisangub.tester.sign.judge import Judge
 from wisangub.tester.sign.oracle import Oracle
 from wisangub.tester.sign.pair import Pair
 from wisangub.tester.sign.port import Port
 from wisangub.tester.sign.simulated import SimulatedLink, SomeSign
 from wisangub.tester.sign.ticks import Ticks
-
-from .clock import SimulatedClock
-from .context import Context
-from .described import described
-from .results import Quiet, Results, Watcher
-from .session import Session, chapters_of
 
 
 def session(

@@ -3,7 +3,8 @@
 from dataclasses import dataclass, field
 from typing import Protocol
 
-from .chapters import Chapter
+from wisangub.tester.chapters import Chapter
+
 from .differences import Difference
 
 

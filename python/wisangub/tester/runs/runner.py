@@ -4,13 +4,12 @@ from dataclasses import dataclass, field
 from typing import Sequence
 
 from wisangub.snmp import wire
+from wisangub.tester.findings.differences import Signature, object_of, signature
+from wisangub.tester.requests.messages import spelled
+from wisangub.tester.requests.objects import is_validation
+from wisangub.tester.requests.steps import Ask, Step, Wait
 from wisangub.tester.sign.pair import Exchange, Inconclusive, Pair
 from wisangub.tester.state.reset import Reset
-
-from .differences import Signature, object_of, signature
-from .messages import spelled
-from .objects import is_validation
-from .steps import Ask, Step, Wait
 
 TRIES = 3
 

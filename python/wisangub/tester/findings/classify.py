@@ -3,12 +3,12 @@
 from typing import Sequence
 
 from wisangub.snmp import wire
+from wisangub.tester.requests.messages import spelled, status_of
+from wisangub.tester.requests.objects import Column, Name, Value, column_of, row_of, scalar_of
+from wisangub.tester.requests.steps import Ask, Step
 
 from .compare import Kind, Mismatch
-from .messages import spelled, status_of
-from .objects import Column, Name, Value, column_of, row_of, scalar_of
 from .rules import RULES, Rule
-from .steps import Ask, Step
 
 BY_FAULT = {
     "BadTag": "messages",

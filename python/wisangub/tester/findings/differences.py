@@ -2,13 +2,13 @@
 
 from dataclasses import dataclass, field
 
+from wisangub.tester.requests.messages import spelled, status_of
+from wisangub.tester.requests.objects import Name, after_dms, spoken
+from wisangub.tester.requests.steps import Step
 from wisangub.tester.sign.pair import Exchange
 
 from .compare import Kind, Mismatch, fields
-from .messages import spelled, status_of
-from .objects import Name, after_dms, spoken
 from .rules import Rule
-from .steps import Step
 
 
 @dataclass(frozen=True)

@@ -20,13 +20,13 @@ from typing import Any
 
 from wisangub.process.description import BENCH
 from wisangub.process.places import TOP
+from wisangub.tester.findings.compare import fields
+from wisangub.tester.findings.results import Results
 from wisangub.tester.report.words import sequence
 from wisangub.tester.sign.judge import SignJudge
 from wisangub.tester.sign.oracle import Oracle, made
 
 from . import bench
-from .compare import fields
-from .results import Results
 
 OPTIONS = ("under_test", "signtool", "sign", "faulty", "requests", "seed", "commit")
 

@@ -5,9 +5,8 @@ from enum import Enum
 
 from wisangub.snmp import wire
 from wisangub.snmp.names import KINDS, TYPES
-
-from .messages import spelled
-from .objects import STATUSES, Name, spoken
+from wisangub.tester.requests.messages import spelled
+from wisangub.tester.requests.objects import STATUSES, Name, spoken
 
 
 class Kind(Enum):

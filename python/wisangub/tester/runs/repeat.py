@@ -1,12 +1,11 @@
 """A sequence that a report printed, run once more from the known state."""
 
 from wisangub.snmp import wire
+from wisangub.tester.findings.compare import fields
+from wisangub.tester.requests.messages import spelled
+from wisangub.tester.requests.steps import Ask, Step, Wait, fixed
+from wisangub.tester.session import Session
 from wisangub.tester.sign.pair import Inconclusive
-
-from .compare import fields
-from .messages import spelled
-from .session import Session
-from .steps import Ask, Step, Wait, fixed
 
 
 def steps_of(sequence: str, communities: tuple[bytes, bytes]) -> list[Step]:

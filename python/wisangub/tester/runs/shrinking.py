@@ -3,12 +3,12 @@
 from dataclasses import dataclass
 from typing import Sequence
 
+from wisangub.tester.findings.compare import Kind
+from wisangub.tester.findings.differences import Signature
+from wisangub.tester.requests.steps import Ask, Raw, Step, Wait, datagrams
 from wisangub.tester.sign.pair import Inconclusive
 
-from .compare import Kind
-from .differences import Signature
-from .runs import Run, Runner
-from .steps import Ask, Raw, Step, Wait, datagrams
+from .runner import Run, Runner
 
 MOST_RUNS = 150
 

@@ -1,0 +1,1 @@
+"""What is found: how replies differ, the rule that a difference breaks, and the results of a test."""

@@ -1,0 +1,1 @@
+"""Long runs of random requests against signs under a simulated clock."""

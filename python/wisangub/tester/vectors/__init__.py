@@ -1,0 +1,1 @@
+"""The vectors of a right sign, asked of any sign over UDP."""
