@@ -6,12 +6,11 @@ from enum import Enum
 from wisangub.snmp import wire
 from wisangub.snmp.names import KINDS, scalar
 from wisangub.tester.requests.messages import spelled
-from wisangub.tester.requests.objects import Column, Name, column_of, instance, row_of, scalar_of, spoken
+from wisangub.tester.requests.objects import COMMANDS, Column, Name, column_of, instance, row_of, spoken, word_of
 
 RowName = tuple[int, int]
 ERROR = scalar("dmsActivateMsgError")
 FIELDS = (3, 4, 6, 7, 8)
-COMMANDS = ((6, 3), (6, 4))
 SOON = 0.95  # seconds: what comes sooner than this after the same read polls faster than once a second
 
 
@@ -126,9 +125,9 @@ class Watch:
             row = row_of(name)
             if row is not None and column_of(name) == Column.STATUS and isinstance(held, int):
                 self.asked(moment, octets, row, held, is_taken)
-            elif scalar_of(name) == (6, 3) and isinstance(held, bytes) and len(held) == 12:
+            elif word_of(name) == "dmsActivateMessage" and isinstance(held, bytes) and len(held) == 12:
                 self.activated(moment, octets, held, is_taken)
-        settings = {name for name in names if scalar_of(name) not in (None, *COMMANDS)}
+        settings = {name for name in names if word_of(name) not in ("", *COMMANDS)}
         self.refused = self.refused - settings if is_taken else self.refused | settings
         for row in {row for name in names if (row := row_of(name)) is not None}:
             written = {name for name in names if row_of(name) == row and column_of(name) in FIELDS}

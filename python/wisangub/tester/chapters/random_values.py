@@ -7,6 +7,7 @@ from wisangub.snmp.names import SCALARS, Memory, scalar
 from wisangub.tester.context import ADDRESS, Context
 from wisangub.tester.requests.hostile_datagrams import Maker
 from wisangub.tester.requests.objects import (
+    DEFAULTS,
     OWN_CODES,
     SHOWN_CELLS,
     STATE_SCALARS,
@@ -18,9 +19,19 @@ from wisangub.tester.requests.objects import (
     instance,
     integer,
     octets,
+    word_of,
 )
 
 BOUNDS = [*range(13), 100, 127, 128, 254, 255, 256, 65534, 65535, 65536, -1, 2**31 - 1, 2**32 - 1]
+# of the defaults that do not go from 0 to 255; few fonts, so that some are there
+LIMITS = {
+    "defaultBackgroundColor": (0, 9),
+    "defaultForegroundColor": (0, 9),
+    "defaultFont": (0, 4),
+    "defaultJustificationLine": (2, 4),
+    "defaultJustificationPage": (2, 4),
+    "dmsShortPowerLossTime": (0, 65535),
+}
 TAGS = [wire.INTEGER, wire.OCTETS, wire.NULL, wire.ADDRESS, wire.COUNTER, wire.OPAQUE, wire.NAME]
 
 
@@ -84,16 +95,13 @@ class Values:
 
     def setting(self) -> Binding:
         """A scalar that may be written, with a value that may fit."""
-        place = self.chance.choice(
-            [*[(4, member) for member in range(1, 10)], *[(6, member) for member in OWN_CODES], (6, 10)]
-        )
+        name = self.chance.choice([*DEFAULTS, *OWN_CODES, scalar("dmsShortPowerLossTime")])
         if self.chance.random() < 0.08:
-            return instance(*place), self.wild()
-        if place[0] == 6 and place[1] in OWN_CODES:
-            return instance(*place), octets(self.message_code())
-        most = {1: 9, 2: 9, 5: 4, 6: 4, 7: 4}.get(place[1], 255) if place[0] == 4 else 65535
-        least = 2 if place in ((4, 6), (4, 7)) else 0
-        return instance(*place), integer(self.chance.choice([least, most, self.chance.randint(least, most), most + 1]))
+            return name, self.wild()
+        if name in OWN_CODES:
+            return name, octets(self.message_code())
+        least, most = LIMITS.get(word_of(name), (0, 255))
+        return name, integer(self.chance.choice([least, most, self.chance.randint(least, most), most + 1]))
 
     def field(self, row: Row) -> Binding:
         draw = self.chance.random()

@@ -4,13 +4,12 @@ from typing import Iterator
 
 from wisangub.snmp.names import RowStatus
 from wisangub.tester.context import Context
-from wisangub.tester.requests.objects import Column, Row, instance
+from wisangub.tester.requests.objects import COUNTS, Column, Row
 from wisangub.tester.requests.steps import Step, Wait, put
 
 from .block import Block, Chapter, fill, look, look_at, message, modify, settle, unuse, validate
 
 BAD_TEXT = b"[zz]"
-COUNTS = [instance(5, member) for member in range(1, 8)]
 
 
 def reaching(context: Context, row: Row, status: int) -> list[Step]:

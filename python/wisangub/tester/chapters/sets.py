@@ -4,7 +4,20 @@ from typing import Iterator
 
 from wisangub.snmp.names import Memory, RowStatus, scalar
 from wisangub.tester.context import Context, activate, activation, remaining
-from wisangub.tester.requests.objects import OWN_CODES, Binding, Column, Name, Row, cell, instance, integer, octets
+from wisangub.tester.requests.objects import (
+    COMMANDS,
+    COUNTS,
+    OWN_CODES,
+    REPORTS,
+    Binding,
+    Column,
+    Name,
+    Row,
+    cell,
+    instance,
+    integer,
+    octets,
+)
 from wisangub.tester.requests.steps import Ask, Step, put
 
 from .block import Block, Chapter, alone, look, look_at, message, modify
@@ -15,8 +28,8 @@ READ_ONLY: list[Name] = [
     scalar("vmsSignHeightPixels"),
     scalar("vmsSignWidthPixels"),
     scalar("dmsColorScheme"),
-    *[instance(5, member) for member in (1, 2, 3, 4, 5, 6, 7, 9)],
-    *[instance(6, member) for member in (5, 6, 7, 17, 18, 19, 24)],
+    *COUNTS,
+    *[scalar(word) for word in REPORTS if word not in COMMANDS],
 ]
 NOTHING: list[Name] = [
     instance(4, 10),
@@ -123,7 +136,7 @@ def everything(context: Context) -> list[Step]:
     rows = context.rows[:4]
     bound: list[Binding] = [(name, integer(least)) for name, least, _ in RANGES]
     bound += [(scalar("defaultFont"), integer(context.defaults[4]))]
-    bound += [(instance(6, member), octets(context.message_code(Row(Memory.BLANK, member), 0))) for member in OWN_CODES]
+    bound += [(name, octets(context.message_code(Row(Memory.BLANK, name[-2]), 0))) for name in OWN_CODES]
     for at, row in enumerate(rows, 1):
         bound += [row.text(b"A" * at), row.owner(b"B" * at), row.beacon(at % 2), row.pixel(at % 2), row.priority(at)]
     return [*[modify(row) for row in rows], put(*bound, remaining(9)), *look(*rows)]

@@ -5,18 +5,7 @@ from typing import Iterator
 from wisangub.snmp import wire
 from wisangub.snmp.names import scalar
 from wisangub.tester.context import Context
-from wisangub.tester.requests.objects import (
-    NULL,
-    OWN_CODES,
-    Binding,
-    Column,
-    Name,
-    Row,
-    Value,
-    instance,
-    integer,
-    octets,
-)
+from wisangub.tester.requests.objects import NULL, OWN_CODES, Binding, Column, Name, Row, Value, integer, octets
 from wisangub.tester.requests.steps import put
 
 from .block import Block, alone, look, look_at, modify
@@ -86,18 +75,14 @@ def scalars(context: Context) -> Iterator[Block]:
     for name in [*[name for name, _, _ in RANGES], scalar("defaultFont"), scalar("dmsMessageTimeRemaining")]:
         yield Block("types", "bad value", alone([(name, value) for value in OTHER_TYPES]))
     yield Block("after that", "bad value", look())
-    for member in OWN_CODES:
-        good: list[Binding] = [
-            (instance(6, member), octets(code)) for code in (b"\7\0\2\0\0", bytes(5), b"\xff" * 5, b"\3\0\1\1\2")
-        ]
+    for name in OWN_CODES:
+        good: list[Binding] = [(name, octets(code)) for code in (b"\7\0\2\0\0", bytes(5), b"\xff" * 5, b"\3\0\1\1\2")]
         bad: list[Binding] = [
-            (instance(6, member), value)
+            (name, value)
             for value in (octets(bytes(4)), octets(bytes(6)), octets(b""), integer(7), (wire.OPAQUE, bytes(5)))
         ]
-        yield Block(
-            "own codes", "own codes", [step for bound in good for step in (put(bound), look_at(instance(6, member)))]
-        )
-        yield Block("lengths of own codes", "bad value", [*alone(bad), look_at(instance(6, member))])
+        yield Block("own codes", "own codes", [step for bound in good for step in (put(bound), look_at(name))])
+        yield Block("lengths of own codes", "bad value", [*alone(bad), look_at(name)])
     lengths = [octets(bytes(size)) for size in (0, 11, 13)] + [integer(1), (wire.OPAQUE, bytes(12))]
     yield Block(
         "lengths of activation codes",

@@ -3,7 +3,7 @@
 from dataclasses import dataclass
 
 from wisangub.tester.context import Context
-from wisangub.tester.requests.objects import Binding, instance, integer
+from wisangub.tester.requests.objects import DEFAULTS, Binding, integer
 from wisangub.tester.requests.steps import Ask, put
 
 
@@ -20,7 +20,7 @@ class Telling:
 
 
 def default(member: int, value: int) -> Binding:
-    return instance(4, member), integer(value)
+    return DEFAULTS[member - 1], integer(value)
 
 
 def with_default(context: Context, member: int, value: int) -> tuple[int, ...]:

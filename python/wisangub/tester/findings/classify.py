@@ -3,8 +3,21 @@
 from typing import Sequence
 
 from wisangub.snmp import wire
+from wisangub.snmp.names import Memory, RowStatus
 from wisangub.tester.requests.messages import spelled, status_of
-from wisangub.tester.requests.objects import Column, Name, Value, column_of, row_of, scalar_of
+from wisangub.tester.requests.objects import (
+    COMMANDS,
+    DEFAULTS,
+    OWN_CODES,
+    Cause,
+    Column,
+    Name,
+    SourceMode,
+    Value,
+    column_of,
+    row_of,
+    word_of,
+)
 from wisangub.tester.requests.steps import Ask, Step
 
 from .compare import Kind, Mismatch
@@ -22,25 +35,31 @@ BY_FAULT = {
     "TooLong": "datagrams",
 }
 BY_SCALAR = {
-    (5, 2): "counts",
-    (5, 5): "counts",
-    (5, 4): "free memory",
-    (5, 7): "free memory",
-    (5, 9): "verdicts",
-    (6, 3): "accepted",
-    (6, 4): "minutes",
-    (6, 5): "shown",
-    (6, 6): "shown",
-    (6, 7): "shown",
-    (6, 17): "refused",
-    (6, 18): "layout",
-    (6, 19): "layout place",
-    (6, 24): "last refused",
-    (6, 10): "ranges",
-    (6, 13): "ranges",
+    "dmsNumChangeableMsg": "counts",
+    "dmsNumVolatileMsg": "counts",
+    "dmsFreeChangeableMemory": "free memory",
+    "dmsFreeVolatileMemory": "free memory",
+    "dmsValidateMessageError": "verdicts",
+    "dmsActivateMessage": "accepted",
+    "dmsMessageTimeRemaining": "minutes",
+    "dmsMsgTableSource": "shown",
+    "dmsMsgRequesterID": "shown",
+    "dmsMsgSourceMode": "shown",
+    "dmsActivateMsgError": "refused",
+    "dmsMultiSyntaxError": "layout",
+    "dmsMultiSyntaxErrorPosition": "layout place",
+    "dmsActivateErrorMsgCode": "last refused",
+    "dmsShortPowerLossTime": "ranges",
+    "dmsTimeCommLoss": "ranges",
 }
-BY_MODE = {8: "shown", 12: "silence", 14: "ends"}
-BY_CAUSE = {2: "accepted", 3: "priority", 8: "fits now"}
+BY_MODE: dict[int, str] = {
+    SourceMode.CENTRAL: "shown",
+    SourceMode.COMM_LOSS: "silence",
+    SourceMode.END_DURATION: "ends",
+}
+BY_CAUSE: dict[int, str] = {Cause.NONE: "accepted", Cause.PRIORITY: "priority", Cause.SYNTAX: "fits now"}
+PLACES = ("dmsMultiSyntaxError", "dmsMultiSyntaxErrorPosition")
+NO_FAULT = (0, 2)  # of the code and of its place
 
 
 def rule_of(octets: bytes, ours: bytes | None, theirs: bytes | None, differs: Mismatch) -> Rule:
@@ -87,9 +106,9 @@ def is_of_the_sets(named: Rule, found: Rule, steps: Sequence[Step]) -> bool:
     sets = [step for step in steps[:-1] if isinstance(step, Ask) and step.kind == wire.SET]
     if named.chapter == "communities":
         return any(not step.is_writer or step.community is not None for step in sets)
-    names = [scalar_of(name) for step in sets for name, _ in step.bindings]
+    words = [word_of(name) for step in sets for name, _ in step.bindings]
     is_report = found.chapter in ("activation", "priorities") or found.key == "fits now"
-    return named.chapter == "set" and is_report and bool(sets) and not {(6, 3), (6, 4)} & set(names)
+    return named.chapter == "set" and is_report and bool(sets) and set(words).isdisjoint(COMMANDS)
 
 
 def key_of(octets: bytes, ours: bytes | None, theirs: bytes | None, differs: Mismatch) -> str:
@@ -140,7 +159,7 @@ def by_refusal(request: wire.Message, want: wire.Message, have: wire.Message) ->
     if refused.status == wire.NO_SUCH_NAME:
         return "not to be written"
     if refused.status == wire.BAD_VALUE:
-        return "default font" if scalar_of(name) == (4, 5) and in_range(value) else "ranges"
+        return "default font" if word_of(name) == "defaultFont" and in_range(value) else "ranges"
     return general_error(request, name, refused.index)
 
 
@@ -153,7 +172,7 @@ def general_error(request: wire.Message, name: Name, index: int) -> str:
         return "twice"
     if column_of(name) == Column.STATUS:
         return "statuses"
-    if scalar_of(name) == (6, 3):
+    if word_of(name) == "dmsActivateMessage":
         return "deciding"
     return "fields" if row_of(name) is not None else "twice"
 
@@ -167,35 +186,35 @@ def by_value(want: wire.Message, have: wire.Message, names: tuple[Name, ...]) ->
     row = row_of(name)
     if row is not None:
         return by_cell(name, row, ours, theirs)
-    place = scalar_of(name)
-    if place == (6, 7) and isinstance(ours[1], int):
+    word = word_of(name)
+    if word == "dmsMsgSourceMode" and isinstance(ours[1], int):
         return BY_MODE.get(ours[1], "shown")
-    if place == (6, 17) and isinstance(ours[1], int) and isinstance(theirs[1], int):
+    if word == "dmsActivateMsgError" and isinstance(ours[1], int) and isinstance(theirs[1], int):
         return by_causes(ours[1], theirs[1])
-    if place in ((6, 18), (6, 19)) and ours[1] in (0, 2):
+    if word in PLACES and ours[1] in NO_FAULT:
         return "no fault"
-    if place is not None and place[0] == 4 and place[1] <= 9:
+    if name in DEFAULTS:
         return "set"
-    if place is not None and place[0] == 6 and place not in BY_SCALAR:
-        return "own codes"
-    return BY_SCALAR.get(place or (0, 0), "configuration")
+    return "own codes" if name in OWN_CODES else BY_SCALAR.get(word, "configuration")
 
 
 def by_causes(ours: int, theirs: int) -> str:
     """Where dmsActivateMsgError differs: by the cause that is to be found first."""
-    return BY_CAUSE.get(theirs if ours == 2 else ours, "deciding")
+    return BY_CAUSE.get(theirs if ours == Cause.NONE else ours, "deciding")
 
 
 def by_cell(name: Name, row: tuple[int, int], ours: Value, theirs: Value) -> str:
     column = column_of(name)
-    if row[0] == 7:
-        return "blank checksum" if column == 5 else "blank rows"
-    if column == 5:
-        return "row checksum" if 0 in (ours[1], theirs[1]) else "checksum"
-    if column in (1, 2):
+    both = {ours[1], theirs[1]}
+    if row[0] == Memory.BLANK:
+        return "blank checksum" if column == Column.CRC else "blank rows"
+    if column == Column.CRC:
+        return "row checksum" if 0 in both else "checksum"
+    if column in (Column.MEMORY_TYPE, Column.NUMBER):
         return "the table's rows"
-    if row[0] == 5:
+    if row[0] == Memory.CURRENT:
         return "shown"
-    if column == 9:
-        return "verdicts" if {ours[1], theirs[1]} == {4, 5} else "settled" if 3 in (ours[1], theirs[1]) else "statuses"
+    if column == Column.STATUS:
+        is_settled = both == {RowStatus.VALID, RowStatus.ERROR}
+        return "verdicts" if is_settled else "settled" if RowStatus.VALIDATING in both else "statuses"
     return "emptied" if ours[1] in (b"", 0, 1) else "set"

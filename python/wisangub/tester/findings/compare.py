@@ -4,9 +4,9 @@ from dataclasses import dataclass
 from enum import Enum
 
 from wisangub.snmp import wire
-from wisangub.snmp.names import KINDS, TYPES
+from wisangub.snmp.names import KINDS, TYPES, status_word
 from wisangub.tester.requests.messages import spelled
-from wisangub.tester.requests.objects import STATUSES, Name, spoken
+from wisangub.tester.requests.objects import Name, spoken
 
 
 class Kind(Enum):
@@ -95,5 +95,5 @@ def fields(octets: bytes | None) -> list[str]:
     community = message.community.decode("ascii", "backslashreplace")
     head = f"{KINDS[message.kind]} of {community}, request-id {message.number}"
     if message.kind == wire.RESPONSE or message.status or message.index:
-        head += f", {STATUSES.get(message.status, message.status)}, index {message.index}"
+        head += f", {status_word(message.status)}, index {message.index}"
     return [head] + [f"{spoken(name)} = {value_words(value)}" for name, value in message.bindings]

@@ -12,14 +12,51 @@ Binding = tuple[Name, Value]
 
 NULL: Value = (wire.NULL, b"")
 NO_ADDRESS = bytes(4)
-OWN_CODES = (8, 9, 12, 14, 15)
-STATUSES = {0: "noError", 1: "tooBig", 2: "noSuchName", 3: "badValue", 4: "readOnly", 5: "genErr"}
+# the defaults in the order of a description
+DEFAULTS = tuple(
+    scalar(word)
+    for word in (
+        "defaultBackgroundColor",
+        "defaultForegroundColor",
+        "defaultFlashOn",
+        "defaultFlashOff",
+        "defaultFont",
+        "defaultJustificationLine",
+        "defaultJustificationPage",
+        "defaultPageOnTime",
+        "defaultPageOffTime",
+    )
+)
+# codes of what the sign activates by itself
+OWN_CODES = tuple(
+    scalar(word)
+    for word in (
+        "dmsShortPowerRecoveryMessage",
+        "dmsLongPowerRecoveryMessage",
+        "dmsCommunicationsLossMessage",
+        "dmsPowerLossMessage",
+        "dmsEndDurationMessage",
+    )
+)
+COMMANDS = ("dmsActivateMessage", "dmsMessageTimeRemaining")  # what a SET writes and a sign acts on
 
 
 class Column(enum.IntEnum):
     """Columns of dmsMessageTable."""
 
     MEMORY_TYPE, NUMBER, TEXT, OWNER, CRC, BEACON, PIXEL_SERVICE, PRIORITY, STATUS = range(1, 10)
+
+
+class SourceMode(enum.IntEnum):
+    """Values of dmsMsgSourceMode that this profile has."""
+
+    CENTRAL, POWER_RECOVERY, COMM_LOSS, POWER_LOSS, END_DURATION = 8, 10, 12, 13, 14
+
+
+class Cause(enum.IntEnum):
+    """Values of dmsActivateMsgError."""
+
+    OTHER, NONE, PRIORITY, STATUS, MEMORY_TYPE, NUMBER, CRC, SYNTAX = range(1, 9)
 
 
 def instance(group: int, member: int) -> Name:
@@ -54,13 +91,10 @@ def is_validation(name: Name, value: Value) -> bool:
     return column_of(name) == Column.STATUS and value == (wire.INTEGER, RowStatus.VALIDATE_REQ)
 
 
-def scalar_of(name: Name) -> tuple[int, int] | None:
-    """Group and member of an instance .0 that is in the table above."""
+def word_of(name: Name) -> str:
+    """The scalar whose instance .0 this is; no word for what is none."""
     rest = after_dms(name)
-    if not rest or len(rest) != 3 or rest[2] != 0:
-        return None
-    place = (rest[0], rest[1])
-    return place if place in SCALARS else None
+    return SCALARS.get((rest[0], rest[1]), "") if rest and len(rest) == 3 and rest[2] == 0 else ""
 
 
 def spoken(name: Name) -> str:
@@ -114,10 +148,29 @@ class Row:
         return self.cell(Column.STATUS), integer(asked)
 
 
+# how many rows there are and may be, and what is free for them
+COUNTS = tuple(
+    scalar(word)
+    for word in (
+        "dmsNumPermanentMsg",
+        "dmsNumChangeableMsg",
+        "dmsMaxChangeableMsg",
+        "dmsFreeChangeableMemory",
+        "dmsNumVolatileMsg",
+        "dmsMaxVolatileMsg",
+        "dmsFreeVolatileMemory",
+    )
+)
+FIXED = (
+    "vmsSignHeightPixels",
+    "vmsSignWidthPixels",
+    "dmsColorScheme",
+    "dmsNumPermanentMsg",
+    "dmsMaxChangeableMsg",
+    "dmsMaxVolatileMsg",
+)
 # what a SET may change, and what reports of it: every scalar that is not fixed
-STATE_SCALARS = [
-    instance(*place) for place in SCALARS if place not in ((2, 3), (2, 4), (4, 11), (5, 1), (5, 3), (5, 6))
-]
+STATE_SCALARS = [scalar(word) for word in SCALARS.values() if word not in FIXED]
 SHOWN_CELLS = [cell(column, Memory.CURRENT, 1) for column in Column]
 REPORTS = (
     "dmsValidateMessageError",

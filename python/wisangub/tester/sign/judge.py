@@ -5,7 +5,7 @@ from typing import Protocol, Sequence
 
 from wisangub.snmp import wire
 from wisangub.snmp.names import Memory, RowStatus, scalar
-from wisangub.tester.requests.objects import Binding, Column, Row, instance, integer, octets
+from wisangub.tester.requests.objects import DEFAULTS, Binding, Column, Row, integer, octets
 from wisangub.tester.requests.steps import get, put
 
 from .described import described
@@ -64,7 +64,7 @@ class SignJudge:
         if len(text) > MOST_TEXT:
             return TOO_BIG, MOST_TEXT
         if defaults != self._defaults:
-            self._put(*[(instance(4, member), integer(value)) for member, value in enumerate(defaults, 1)])
+            self._put(*[(name, integer(value)) for name, value in zip(DEFAULTS, defaults)])
             self._defaults = defaults
         self._put(ROW.status(RowStatus.MODIFY_REQ))
         self._put(ROW.text(text))

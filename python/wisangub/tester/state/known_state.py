@@ -7,10 +7,21 @@ from wisangub.snmp import wire
 from wisangub.snmp.names import RowStatus, scalar
 from wisangub.tester.context import Context
 from wisangub.tester.requests.messages import spelled
-from wisangub.tester.requests.objects import NO_ADDRESS, OWN_CODES, Column, Name, Row, Value, instance, integer, octets
+from wisangub.tester.requests.objects import (
+    DEFAULTS,
+    NO_ADDRESS,
+    OWN_CODES,
+    Cause,
+    Column,
+    Name,
+    Row,
+    SourceMode,
+    Value,
+    integer,
+    octets,
+)
 from wisangub.tester.requests.steps import Ask, Step, Wait, get, put
 
-CENTRAL = 8  # dmsMsgSourceMode of what the central system activated
 VERDICTS = (scalar("dmsValidateMessageError"), scalar("dmsMultiSyntaxError"), scalar("dmsMultiSyntaxErrorPosition"))
 
 
@@ -58,8 +69,8 @@ class KnownState:
 
     def settings(self) -> dict[Name, Value]:
         """What is set directly."""
-        wanted = {instance(4, member): integer(value) for member, value in enumerate(self.context.defaults, 1)}
-        wanted |= {instance(6, member): octets(self.context.blank) for member in OWN_CODES}
+        wanted = {name: integer(value) for name, value in zip(DEFAULTS, self.context.defaults)}
+        wanted |= {name: octets(self.context.blank) for name in OWN_CODES}
         return wanted | {scalar("dmsShortPowerLossTime"): integer(0), scalar("dmsTimeCommLoss"): integer(0)}
 
     def verdicts(self) -> dict[Name, Value]:
@@ -79,8 +90,8 @@ class KnownState:
             scalar("dmsMessageTimeRemaining"): integer(65535),
             scalar("dmsMsgTableSource"): octets(self.context.blank),
             scalar("dmsMsgRequesterID"): (wire.ADDRESS, NO_ADDRESS),
-            scalar("dmsMsgSourceMode"): integer(CENTRAL),
-            scalar("dmsActivateMsgError"): integer(2),
+            scalar("dmsMsgSourceMode"): integer(SourceMode.CENTRAL),
+            scalar("dmsActivateMsgError"): integer(Cause.NONE),
         }
 
     def refused(self) -> dict[Name, Value]:
@@ -94,7 +105,7 @@ class KnownState:
     def all(self, rows: Iterable[Row]) -> dict[Name, Value]:
         """Everything, for these rows."""
         rows = list(rows)
-        wanted: dict[Name, Value] = {row.cell(Column.STATUS): integer(1) for row in rows}
+        wanted: dict[Name, Value] = {row.cell(Column.STATUS): integer(RowStatus.NOT_USED) for row in rows}
         for row in rows:
             wanted |= self.emptied(row)
         return wanted | self.settings() | self.verdicts() | self.refused() | self.shown()

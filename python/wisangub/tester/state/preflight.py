@@ -3,7 +3,7 @@
 from dataclasses import dataclass
 
 from wisangub.snmp import wire
-from wisangub.snmp.names import scalar
+from wisangub.snmp.names import RowStatus, scalar
 from wisangub.tester.context import Context
 from wisangub.tester.findings import classify
 from wisangub.tester.findings.compare import Kind, Mismatch, mismatch, value_words
@@ -11,7 +11,7 @@ from wisangub.tester.findings.differences import Difference
 from wisangub.tester.findings.results import Results, Watcher
 from wisangub.tester.findings.rules import RULES, Rule
 from wisangub.tester.requests.messages import spelled
-from wisangub.tester.requests.objects import Column, Name, Value, instance, integer, octets, row_of, spoken
+from wisangub.tester.requests.objects import DEFAULTS, Column, Name, Value, integer, octets, row_of, spoken
 from wisangub.tester.requests.steps import Ask, Wait, get, looks
 from wisangub.tester.sign.pair import Exchange, Pair
 
@@ -175,8 +175,8 @@ def _described(context: Context) -> dict[Name, Value]:
 
 def _first_state(context: Context) -> dict[Name, Value]:
     """What the description says of the defaults, and rows that nobody uses: requests may have changed them."""
-    defaults = {instance(4, member): integer(value) for member, value in enumerate(context.defaults, 1)}
-    return defaults | {row.cell(Column.STATUS): integer(1) for row in context.rows}
+    defaults = {name: integer(value) for name, value in zip(DEFAULTS, context.defaults)}
+    return defaults | {row.cell(Column.STATUS): integer(RowStatus.NOT_USED) for row in context.rows}
 
 
 def _differing(reset: Reset, wanted: dict[Name, Value]) -> list[tuple[Name, Value, Value | None]]:

@@ -3,29 +3,30 @@
 from typing import TYPE_CHECKING
 
 from wisangub.snmp import wire
-from wisangub.snmp.names import scalar
+from wisangub.snmp.names import Memory, scalar
 from wisangub.tester.requests.messages import spelled
-from wisangub.tester.requests.objects import EXECUTIVE, SHOWN_CELLS, Name, Row, Value, row_of, scalar_of
+from wisangub.tester.requests.objects import COMMANDS, EXECUTIVE, SHOWN_CELLS, Column, Name, Row, Value, row_of, word_of
 from wisangub.tester.requests.steps import looks
 
 if TYPE_CHECKING:
     from wisangub.tester.sign.pair import Pair
 
 State = dict[Name, Value]
+FIXED_COLUMNS = (Column.MEMORY_TYPE, Column.NUMBER, Column.CRC)  # which no SET names
 
 
 def effects(message: wire.Message) -> list[Name]:
     """What a SET may change: the objects that it names, the fields of their rows, the reports."""
-    names = [name for name, _ in message.bindings if scalar_of(name) is not None]
+    names = [name for name, _ in message.bindings if word_of(name)]
     for row in {row for name, _ in message.bindings if (row := row_of(name)) is not None}:
-        if row[0] in (3, 4):
-            names += [Row(*row).cell(column) for column in (3, 4, 6, 7, 8, 9)]
+        if row[0] in (Memory.CHANGEABLE, Memory.VOLATILE):
+            names += [Row(*row).cell(column) for column in Column if column not in FIXED_COLUMNS]
     return list(dict.fromkeys(names + EXECUTIVE + SHOWN_CELLS))
 
 
 def is_command(message: wire.Message) -> bool:
     """Whether it activates something, or sets how long it is shown."""
-    return any(scalar_of(name) in ((6, 3), (6, 4)) for name, _ in message.bindings)
+    return any(word_of(name) in COMMANDS for name, _ in message.bindings)
 
 
 def ours_reads(pair: "Pair", names: list[Name]) -> State | None:
