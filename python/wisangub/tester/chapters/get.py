@@ -7,7 +7,7 @@ from wisangub.snmp import wire
 from wisangub.snmp.names import DMS, scalar
 from wisangub.tester.context import Context
 from wisangub.tester.requests.objects import NULL, Column, Name, Row, cell, column_of, instance, integer, octets, row_of
-from wisangub.tester.requests.steps import Ask, get, looks
+from wisangub.tester.requests.steps import Ask, Step, get, looks
 
 from .block import Block, Chapter, look, message
 
@@ -118,7 +118,7 @@ def blocks(context: Context) -> Iterator[Block]:
         yield Block("a row of a beacon", "checksum", filled(context, row), True)
 
 
-def filled(context: Context, row: Row) -> list:
+def filled(context: Context, row: Row) -> list[Step]:
     """A row that is valid with all that the sign has."""
     described = context.described
     text = context.character() + b"[np]" + context.character(1)

@@ -180,7 +180,7 @@ class Maker:
         form = self.random.randrange(6)
         if form == 0:
             count = self.random.randrange(1, 5)
-            return bytes([128 + count]) + (size % 256**count).to_bytes(count, "big")
+            return bytes([128 + count]) + int(size % 256**count).to_bytes(count, "big")
         if form == 1:
             return self.one(
                 [b"\x80", b"\x85\x00\x00\x00\x00\x00", b"\xff", b"\x84\xff\xff\xff\xff", b"\x81", b"\x82\x00"]
