@@ -68,11 +68,14 @@ def by_the_wall(last: Moment, now: Moment) -> int:
     return min(now.wall - last.wall, MOST_SECONDS) if is_known else MOST_SECONDS
 
 
-def down(last: Moment, now: Moment, overruled: str | None = None) -> list[bytes]:
-    """The lines that tell a sign what the time without a process was: a loss of power, or the seconds that passed."""
+def down(last: Moment, now: Moment, overruled: str | None = None, has_power: bool = True) -> list[bytes]:
+    """The lines that tell a sign what the time without a process was: a loss of power, or the seconds that passed. A
+    sign whose power was off before has it again."""
     is_same_boot = last.boot == now.boot and (last.boot != "-" or last.up <= now.up)
     if overruled == "power" or overruled is None and not is_same_boot:
         return [b"power-lost", b"power-back %d" % by_the_wall(last, now)]
     passed = now.up - last.up if is_same_boot else by_the_wall(last, now)
+    if not has_power:
+        return [b"power-back %d" % max(0, passed)]
     made_up = min(max(0, passed), MOST_MADE_UP)
     return [b"ticks %d" % made_up] if made_up else []

@@ -18,11 +18,13 @@ class Keeper:
         self.seconds = self.since_clock = self.lost = 0
         self.is_heard = False
 
-    def start(self, now: Moment, overruled: str | None, is_patient: bool = False) -> list[bytes]:
+    def start(
+        self, now: Moment, overruled: str | None, is_patient: bool = False, has_power: bool = True
+    ) -> list[bytes]:
         """Records a start, with what the time without a process was: the lines that are to be handed over. They are
         written at once, and a start without its clock after it counts for nothing. A patient one goes on without, and
         they are written first of all where the disk takes records again."""
-        lines = [] if self.journal.last is None else down(self.journal.last, now, overruled)
+        lines = [] if self.journal.last is None else down(self.journal.last, now, overruled, has_power)
         try:
             self.journal.keep([now.start(), *lines, now.clock()])
         except NotKept:

@@ -2,7 +2,7 @@
 
     wisangub-sign [--port 1161] [--host 127.0.0.1 | --listen HOST:PORT] [--signtool PATH] [--sign FILE]
         [--journal FILE [--fresh] [--accept-damage] [--need-journal] [--down power|process] [--most-recorded N]]
-        [--log FILE|- [--json]] [--no-ticks] [--lose N] [--quiet]
+        [--log FILE|- [--json]] [--no-ticks] [--lose N] [--quiet] [--page [PORT]]
 
 Each datagram goes to the sign as a line and its reply back to where it came from; each second is a tick. With a journal
 the sign goes on where it was (docs/JOURNAL.md); what the time without a process was, a loss of power or seconds, is
@@ -10,8 +10,9 @@ told by the kernel's boot id, or by --down. A journal that is damaged is refused
 from what is whole of it. Where the disk cannot be written it goes on from what is there, answers no SET, and says each
 minute and by its exit status 1 what the next start will not know; with --need-journal it does not start. Of the writing
 community --most-recorded N datagrams a second are recorded, 50 where nothing is said. With --lose N every N-th datagram
-to the sign is lost. What the sign accepts is printed. It ends at an interrupt or a SIGTERM, and at a second one or
-before it is announced at once.
+to the sign is lost. What the sign accepts is printed. With --page a browser of this machine shows the lamps and the
+last datagrams at http://127.0.0.1:8161/, and has buttons that take the power, let seconds pass and lose a datagram. It
+ends at an interrupt or a SIGTERM, and at a second one or before it is announced at once.
 """
 
 import wisangub.endpoint.interrupts  # noqa: F401, before all else
@@ -20,15 +21,19 @@ import argparse
 import sys
 
 from wisangub.process import description
+from wisangub.process.coprocess import CoProcess
 from wisangub.refusal import Refusal, status_of, tell
 
 from .clock import Moment, running
 from .keeper import Keeper
 from .limit import MOST_RECORDED, Limit
+from .page.start import copy_of, watched
 from .records import Head
 from .setting import MOST_NUMBER, begun, checked, journal_of, log_of, options
 from .sign_door import Heard, SignDoor
 from .sockets import Waiting, bound, host_and_port, named
+
+PAGE = 8161  # the port of a page
 
 
 def asked_for() -> argparse.Namespace:
@@ -45,6 +50,9 @@ def asked_for() -> argparse.Namespace:
     words.add_argument("--no-ticks", action="store_true")
     words.add_argument("--lose", type=int, default=0, metavar="N")
     words.add_argument("--quiet", action="store_true")
+    words.add_argument(
+        "--page", type=int, nargs="?", const=PAGE, metavar="PORT", help=f"lamps in a browser, at 127.0.0.1:{PAGE}"
+    )
     asked = words.parse_args()
     checked(asked)
     if asked.listen is not None:
@@ -58,25 +66,34 @@ def asked_for() -> argparse.Namespace:
     return asked
 
 
+def has_power(sign: CoProcess) -> bool:
+    """Whether the sign's power is on: dmsMsgSourceMode is powerLoss (13) as long as it is off, and never else."""
+    return b" mode 13 " not in sign.ask(b"state")[0]
+
+
 def main() -> int:
     asked = asked_for()
     log, text = log_of(asked), description.read(asked.sign)
     with bound(asked.host, asked.port) as door:
         journal = journal_of(asked, Head("sign", description.digest(text))) if asked.journal else None
         sign = begun(asked, "sign", text, journal)
-        keeper = Keeper(journal) if journal else None
-        up = running()
-        lines = keeper.start(Moment.at(up), asked.down, is_patient=not asked.need_journal) if keeper else []
+        copy, keeper = copy_of(asked, text, journal), Keeper(journal) if journal else None
+        up, lines = running(), list[bytes]()
+        if keeper:
+            lines = keeper.start(Moment.at(up), asked.down, not asked.need_journal, has_power(sign))
         if lines:
             sign.hand(lines)
         at, waiting = door.getsockname(), Waiting()
         if log:
             log.event("start", at, {"down": b", ".join(lines).decode()} if lines else {})
-        if not asked.quiet:
-            tell(f"a sign at {named(at if ':' in at[0] else (asked.host, at[1]))}")
         who, limit = description.communities_of(text), Limit[Heard](asked.most_recorded)
-        served = SignDoor(sign, door, keeper, log, up, asked.lose, asked.quiet, who, limit)
-        is_kept = served.serve(waiting, not asked.no_ticks)
+        with watched(asked, text, sign, copy, lines) as (watcher, page):
+            if not asked.quiet:
+                tell(f"a sign at {named(at if ':' in at[0] else (asked.host, at[1]))}")
+            if page and not asked.quiet:
+                tell(f"a page at {page}")
+            served = SignDoor(sign, door, keeper, log, up, asked.lose, asked.quiet, who, limit, watcher)
+            is_kept = served.serve(waiting, not asked.no_ticks)
     sign.end()
     if log:
         log.event("end")

@@ -13,6 +13,7 @@ from .limit import Limit
 from .log import Log
 from .sockets import Address, Waiting, received
 from .sorts import Sort, sort_of
+from .watching import Watcher
 
 AT_ONCE = 16  # datagrams that are recorded with one sync, and handed over together
 AT_ONCE_TICKS = 1000  # seconds that are handed over together
@@ -28,7 +29,8 @@ def line_of(octets: bytes) -> bytes:
 
 class SignDoor:
     """`lose`: every so many datagrams one is lost, 0 for none. Without a keeper nothing is kept. `up` is the moment up
-    to which the sign was told the time. With a keeper the communities are known, and a limit."""
+    to which the sign was told the time. With a keeper the communities are known, and a limit. A watcher is told what
+    passes."""
 
     def __init__(
         self,
@@ -41,10 +43,12 @@ class SignDoor:
         is_quiet: bool = False,
         communities: Communities = (b"", b""),
         limit: Limit[Heard] | None = None,
+        watcher: Watcher | None = None,
     ) -> None:
         self.sign, self.door, self.keeper, self.log = sign, door, keeper, log
         self.communities, self.limit = communities, limit or Limit()
         self.up, self.lose, self.is_quiet, self.count = up, lose, is_quiet, 0
+        self.watcher = watcher or Watcher()
 
     def serve(self, waiting: Waiting, has_ticks: bool) -> bool:
         """Until it is stopped. Seconds that have passed go before datagrams that wait. Whether all is recorded that
@@ -54,10 +58,14 @@ class SignDoor:
             if left is not None and left <= 0:
                 self.tick()
                 continue
-            times = [one for one in (left, self.limit.wait(running())) if one is not None]
-            is_there = waiting.until([self.door.fileno()], min(times, default=None))
-            if (is_there or self.limit.wait(running()) == 0.0) and not (has_ticks and running() >= self.up + 1):
+            times = (left, self.limit.wait(running()), self.watcher.wait(running()))
+            files = [self.door.fileno(), *self.watcher.files()]
+            is_there = waiting.until(files, min((one for one in times if one is not None), default=None))
+            if has_ticks and running() >= self.up + 1:
+                continue
+            if is_there or self.limit.wait(running()) == 0.0:
                 self.answer(self.waiting_datagrams())
+            self.watcher.turn(self)
         if has_ticks:
             self.tick()
         return self.keeper is None or self.keeper.end(self.up if has_ticks else running())
@@ -65,19 +73,22 @@ class SignDoor:
     def tick(self) -> None:
         """Hands over the seconds that have passed."""
         while (seconds := min(int(running() - self.up), AT_ONCE_TICKS)) > 0:
+            self.watcher.before_seconds()
             self.sign.hand([b"tick"] * seconds)
             self.up += seconds
             if self.keeper:
                 self.keeper.tick(seconds, self.up)
+            self.watcher.after_seconds()
 
     def waiting_datagrams(self) -> list[Heard]:
         """What waits, at most so many at once; one that is longer than this profile's counts as lost."""
         found: list[Heard] = []
         while len(found) < AT_ONCE and (one := received(self.door)) is not None:
             self.count += 1
-            if self.lose and self.count % self.lose == 0 or len(one[0]) > MOST_DATAGRAM:
+            if self.lose and self.count % self.lose == 0 or len(one[0]) > MOST_DATAGRAM or self.watcher.loses():
                 if self.log:
                     self.log.event("lost", one[1], {"octets": len(one[0])})
+                self.watcher.left_out(one, "lost")
                 continue
             found.append(one)
         return found
@@ -108,27 +119,31 @@ class SignDoor:
             sort, dropped = sort_of(one[0], *self.communities), self.limit.dropped
             if sort is not Sort.CHANGING or self.limit.lets(one, now):
                 some.append((one, sort))
-            elif self.log and self.limit.dropped > dropped:
-                self.log.event("too many", one[1], {"octets": len(one[0]), "dropped": self.limit.dropped})
+            elif self.limit.dropped > dropped:
+                if self.log:
+                    self.log.event("too many", one[1], {"octets": len(one[0]), "dropped": self.limit.dropped})
+                self.watcher.left_out(one, "too many in a second")
         return some
 
     def without(self, some: list[Sorted]) -> list[Sorted]:
         """What need not be recorded, since the rest cannot be."""
-        for (octets, sender), sort in some:
-            if self.log and sort is Sort.CHANGING:
-                self.log.event("not recorded", sender, {"octets": len(octets)})
+        for one, sort in some:
+            if sort is Sort.CHANGING:
+                if self.log:
+                    self.log.event("not recorded", one[1], {"octets": len(one[0])})
+                self.watcher.left_out(one, "the disk does not take it")
         return [one for one in some if one[1] is not Sort.CHANGING]
 
     def is_answered(self, one: Sorted, answer: bytes) -> bool:
         """Sends a reply, where there is one. A change that is not recorded would not be there after a start: its reply
         is not sent, and the door ends."""
-        (_, sender), sort = one
+        heard, sort = one
         if sort is Sort.UNANSWERED and answer != b"dropped" or sort is Sort.HEARD and answer.startswith(b"accepted"):
             raise Refusal("the program answered what no sign answers: it is not recorded", 1)
-        return self.reply(answer, sender)
+        return self.reply(answer, heard[1], self.watcher.answered(heard, answer))
 
-    def reply(self, answer: bytes, sender: Address) -> bool:
-        """Sends a reply, where there is one, and says what was accepted."""
+    def reply(self, answer: bytes, sender: Address, is_lost: bool) -> bool:
+        """Sends a reply, where there is one and it is not to be lost, and says what was accepted."""
         word, _, rest = answer.partition(b" ")
         if word not in (b"reply", b"accepted"):
             if self.log:
@@ -138,6 +153,10 @@ class SignDoor:
             code, _, rest = rest.partition(b" ")
             self.accepted(code.decode(), sender)
         octets = unhexlify(rest)
+        if is_lost:
+            if self.log:
+                self.log.event("reply lost", sender, {"octets": len(octets)})
+            return True
         try:
             self.door.sendto(octets, sender)
         except OSError as fault:

@@ -1,0 +1,48 @@
+"""The page of a sign's door, for as long as the door is there."""
+
+import argparse
+import contextlib
+from collections.abc import Iterator
+
+from wisangub.endpoint.journal import Journal
+from wisangub.endpoint.setting import begun
+from wisangub.endpoint.watching import Watcher
+from wisangub.process import description
+from wisangub.process.coprocess import CoProcess
+
+from .board import Board
+from .lamps import Lamps
+from .readings import Asker, Reading
+from .server import HOST, Server
+
+
+def copy_of(asked: argparse.Namespace, text: bytes | None, journal: Journal | None) -> CoProcess | None:
+    """Another process where a journal left the sign, to be asked what may not be asked of the sign: a Get would end
+    its silence. None where there is no page, and where the sign is new, and so has no silence."""
+    return begun(asked, "sign", text, journal) if asked.page is not None and journal is not None else None
+
+
+@contextlib.contextmanager
+def watched(
+    asked: argparse.Namespace, text: bytes | None, sign: CoProcess, copy: CoProcess | None, lines: list[bytes]
+) -> Iterator[tuple[Watcher, str]]:
+    """Who watches the door, and where a browser finds the page: nobody and nowhere, where none is asked for. `lines`
+    told the sign what the time without a process was."""
+    if asked.page is None:
+        yield Watcher(), ""
+        return
+    who = description.communities_of(text)
+    reading = read_of(copy, who[0], lines) if copy else None
+    is_heard = copy is None or any(line.startswith(b"power-back") for line in lines)
+    board = Board(sign, who, reading, is_heard)
+    with Server(asked.page, board, Lamps(asked.signtool, text), asked.sign or "the bench sign") as server:
+        yield board, f"http://{HOST}:{server.port}/"
+
+
+def read_of(copy: CoProcess, reader: bytes, lines: list[bytes]) -> Reading | None:
+    """What the other process says, which then ends."""
+    if lines:
+        copy.hand(lines)
+    found = Asker(copy, reader).read()
+    copy.end()
+    return found

@@ -1,0 +1,43 @@
+"""Who watches a sign's door: nobody, where no page is asked for."""
+
+from __future__ import annotations
+
+from typing import TYPE_CHECKING
+
+if TYPE_CHECKING:
+    from .sign_door import Heard, SignDoor
+
+
+class Watcher:
+    """Is told by the door what passes there, in the door's thread and in its order, and sees and loses nothing."""
+
+    def files(self) -> list[int]:
+        """What wakes the door, as a datagram does."""
+        return []
+
+    def wait(self, now: float) -> float | None:
+        """The seconds until the door has to come by; None where that need not be."""
+        return None
+
+    def loses(self) -> bool:
+        """Whether this datagram to the sign is to be lost."""
+        return False
+
+    def left_out(self, heard: Heard, why: str) -> None:
+        """A datagram was not handed over."""
+
+    def answered(self, heard: Heard, answer: bytes) -> bool:
+        """A datagram was handed over, and answered so: whether its reply is to be lost."""
+        return False
+
+    def before_seconds(self) -> None:
+        """Seconds are to be handed over, or the power is to go or to come back."""
+
+    def after_seconds(self) -> None:
+        """Seconds were handed over."""
+
+    def after_power(self) -> None:
+        """The power went or came back."""
+
+    def turn(self, door: SignDoor) -> None:
+        """The door is between two steps."""
