@@ -1,8 +1,9 @@
 #!/usr/bin/env python3
 """Proves a crate and builds its static library: `tools/static_library.py CRATE` prints where it is.
 
-    tools/static_library.py [--target aarch64-unknown-linux-gnu] [--standing] [--processors N] CRATE
+    tools/static_library.py [--target aarch64-unknown-linux-gnu] [--cpu x86-64] [--standing] [--processors N] CRATE
 
+The code is for processors of the level x86-64-v2, and for any with --cpu x86-64; for ARM64 it is for any.
 The crates below are taken as tools/build.py or `rt ci` proved them, from the sources that stand here, so the crate
 alone is proved, in some minutes. Those of which no proof stands are proved first, as tools/build.py does it and where
 it finds them again. A library that was made from the same is taken as it is, in a second.
@@ -62,7 +63,7 @@ def over_what_stands(plan: Plan, asked: argparse.Namespace) -> int:
     """Builds it where it does not stand, with what lacks below it if that may be proved, and returns the status."""
     wanted = {*plan.below(asked.crate)}
     with proofs(plan) as mine:
-        library = Static(mine, plan.crates[asked.crate], asked.target)
+        library = Static(mine, plan.crates[asked.crate], asked.target, asked.cpu)
         if library.stands():
             print(library.made)
             return 0
@@ -80,7 +81,8 @@ def over_what_stands(plan: Plan, asked: argparse.Namespace) -> int:
 
 def without_kit(plan: Plan, asked: argparse.Namespace) -> int:
     """Takes the library that is there."""
-    made = Static(Proofs(plan, Kit(pathlib.Path()), pathlib.Path()), plan.crates[asked.crate], asked.target).made
+    nothing = Proofs(plan, Kit(pathlib.Path()), pathlib.Path())
+    made = Static(nothing, plan.crates[asked.crate], asked.target, asked.cpu).made
     print(made if made.is_file() else f"skipped lib{asked.crate}.a: here is no rt")
     return 0 if made.is_file() else LACKS
 
@@ -88,6 +90,7 @@ def without_kit(plan: Plan, asked: argparse.Namespace) -> int:
 def main() -> int:
     words = argparse.ArgumentParser(description=__doc__, formatter_class=argparse.RawDescriptionHelpFormatter)
     words.add_argument("--target", help="another than this machine")
+    words.add_argument("--cpu", help="another processor than the kit's usual one of the target")
     words.add_argument("--standing", action="store_true", help="no other crate is proved")
     words.add_argument(
         "--processors", type=int, default=len(os.sched_getaffinity(0)), help="how many are taken; else all"

@@ -30,15 +30,17 @@ def held(crate: Crate) -> Iterator[None]:
 
 @dataclass(frozen=True)
 class Static:
-    """The library of a crate, for this machine or for another target."""
+    """The library of a crate, for this machine or for another target, and for the kit's usual processor of it or for
+    another one."""
 
     proofs: Proofs
     crate: Crate
     target: str | None = None
+    cpu: str | None = None
 
     @property
     def made(self) -> pathlib.Path:
-        return self.crate.folder / "out" / (self.target or "") / f"lib{self.crate.name}.a"
+        return self.crate.folder / "out" / (self.target or "") / (self.cpu or "") / f"lib{self.crate.name}.a"
 
     @property
     def stamp(self) -> pathlib.Path:
@@ -61,6 +63,7 @@ class Static:
         words = kit.checked(self.proofs.plan, self.crate, libraries, jobs)
         words += ["--crate-type", "staticlib", *kit.compiled(), "--incremental", KEPT, "-o", str(place)]
         words += ["--target", self.target] if self.target else []
+        words += ["--cpu", self.cpu] if self.cpu else []
         with held(self.crate):
             self.made.parent.mkdir(parents=True, exist_ok=True)
             ended = subprocess.run(words, cwd=self.crate.folder, capture_output=True, text=True, check=False)

@@ -55,8 +55,8 @@ def proved(plan: Plan, *names: str) -> Proofs:
     return made
 
 
-def asked(standing: bool = True, target: str | None = None) -> argparse.Namespace:
-    return argparse.Namespace(crate="ffi", standing=standing, target=target, processors=2)
+def asked(standing: bool = True, target: str | None = None, cpu: str | None = None) -> argparse.Namespace:
+    return argparse.Namespace(crate="ffi", standing=standing, target=target, cpu=cpu, processors=2)
 
 
 def status(**words: object) -> int:
@@ -92,6 +92,15 @@ def test_another_target_has_its_own_place(plan: Plan) -> None:
     here, arm = Static(mine, plan.crates["ffi"]), Static(mine, plan.crates["ffi"], ARM)
     assert status(target=ARM) == 0 and arm.stands() and not here.stands()
     assert ARM in (plan.crates["ffi"].folder / "said").read_text(encoding="utf-8").splitlines()
+
+
+def test_another_processor_has_its_own_place(plan: Plan) -> None:
+    mine = proved(plan, "low")
+    here, plain = Static(mine, plan.crates["ffi"]), Static(mine, plan.crates["ffi"], cpu="x86-64")
+    assert status(cpu="x86-64") == 0 and plain.stands() and not here.stands()
+    said = (plan.crates["ffi"].folder / "said").read_text(encoding="utf-8").splitlines()
+    assert said[said.index("--cpu") + 1] == "x86-64"
+    assert status() == 0 and here.stands() and plain.stands()
 
 
 def test_what_lacks_below_is_named_or_proved(plan: Plan, capsys: pytest.CaptureFixture[str]) -> None:
