@@ -1,2 +1,3 @@
 pub mod CommandLaws
 mod LedgerLines
+pub mod CodeDigits

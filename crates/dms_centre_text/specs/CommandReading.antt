@@ -111,11 +111,18 @@ command_of order line = do
 
 -- ---- lines that may want memory
 
--- the command's line carries octets: a message's, or a code's
+-- the command has octets that are kept: a message's; a code is numbers
+abbrev pub has_octets : Option CommandModel → Bool
+has_octets None = false
+has_octets (Some (Publish publication)) = true
+has_octets (Some (Blank number minutes priority address)) = false
+has_octets (Some (Activate code)) = false
+
+-- the command's line carries octets that are kept: a message's; a code is numbers
 abbrev pub carries_octets : CommandWord → Bool
 carries_octets key.Publish = true
 carries_octets key.Blank = false
-carries_octets key.Activate = true
+carries_octets key.Activate = false
 
 -- the keyword with which a line begins
 unfoldable pub keyword_of : List ℕ → Option CommandWord

@@ -1,15 +1,16 @@
 //! What words of a command alone spell: a row, a message's attributes, an address, a code, and the terms on which a
 //! message is activated.
 
-ghost use Rattle.std.specs.Prelude.{◌≡◌, IfOk};
-ghost use Rattle.dms_centre_text.specs.CommandReading.{address_of, attributes_at, last_code_at, last_terms_at, row_at};
+ghost use Rattle.std.specs.Prelude.{◌≡◌};
+ghost use Rattle.hex.specs.Hex.{decode_of};
+ghost use Rattle.dms_centre_text.specs.CommandReading.{address_of, attributes_at, code_from, last_code_at};
+ghost use Rattle.dms_centre_text.specs.CommandReading.{last_terms_at, row_at};
 
 use dms_centre::{Attributes, Terms};
 use dms_codes::{Activation, Order, RowId};
 use dms_text::Words;
 use dms_text_forms::fields::{octet, two_octets};
-use hex::FromHexError;
-use std::alloc::{AllocError, Global};
+use hex::FromHex;
 
 /// A row of the message table, and the words after it.
 #[tactic(auto, unfolding(crate::specs::CommandReading::row_at))]
@@ -75,20 +76,21 @@ pub(crate) fn last_terms(words: Words<'_>) -> Option<Terms>
 
 /// A code of twenty-four hexadecimal digits, and nothing after it.
 #[tactic(auto, unfolding(crate::specs::CommandReading::last_code_at))]
-pub(crate) fn last_code(
-    alloc: Global,
-    order: Order,
-    words: Words<'_>,
-) -> Result<Option<Activation>, AllocError>
-    ensures { IfOk result (λ found. found ≡ last_code_at order words.entry) }
+pub(crate) fn last_code(order: Order, words: Words<'_>) -> Option<Activation>
+    ensures { result ≡ last_code_at order words.entry }
 {
-    let Some((word, rest)) = words.next_word() else {
-        return Ok(None);
-    };
-    match hex::decode(alloc, word) {
-        Ok(octets) if rest.is_empty() => Ok(Activation::from_bytes(order, octets.as_slice())),
-        Ok(_) => Ok(None),
-        Err(FromHexError::OutOfMemory) => Err(AllocError),
-        Err(_) => Ok(None),
+    let (word, rest) = words.next_word()?;
+    let code = code(order, word)?;
+    if rest.is_empty() { Some(code) } else { None }
+}
+
+/// The code that twenty-four hexadecimal digits spell.
+#[tactic(auto, using(crate::proofs::CodeDigits::code_read, crate::proofs::CodeDigits::no_code_read))]
+fn code(order: Order, word: &[u8]) -> Option<Activation>
+    ensures { result ≡ code_from order (decode_of word.now) }
+{
+    match <[u8; 12]>::from_hex(word) {
+        Ok(octets) => Some(Activation::of_octets(order, &octets)),
+        Err(_) => None,
     }
 }

@@ -84,7 +84,7 @@ fn cause_at(alloc: Global, octets: &[u8], number: usize) -> Result<Option<Script
     ensures { IfOk result (λ found. IfSome found (IsCauseOf octets.now number)) }
 {
     match named_sign(alloc, octets) {
-        Ok(_) => cause_of_event(alloc, octets, number),
+        Ok(_) => Ok(event_cause_at(octets, number).map(ScriptCause::Event)),
         Err(ReplayFault::Memory) => Err(AllocError),
         Err(_) => match first_cause(alloc, octets)? {
             Some(cause) => Ok(Some(ScriptCause::Sign(cause))),
@@ -93,32 +93,11 @@ fn cause_at(alloc: Global, octets: &[u8], number: usize) -> Result<Option<Script
     }
 }
 
-/// The cause of the line of this number, as an event.
-fn cause_of_event(
-    alloc: Global,
-    octets: &[u8],
-    number: usize,
-) -> Result<Option<ScriptCause>, AllocError>
-    ensures { IfOk result (λ found. IfSome found (IsCauseOf octets.now number)) }
-{
-    match event_cause_at(alloc, octets, number)? {
-        Some(cause) => Ok(Some(ScriptCause::Event(cause))),
-        None => Ok(None),
-    }
-}
-
 /// Why the line of this number is no event.
-fn event_cause_at(
-    alloc: Global,
-    octets: &[u8],
-    number: usize,
-) -> Result<Option<EventCause>, AllocError>
-    ensures { IfOk result (λ found. found ≡ event_cause_at octets.now number) }
+fn event_cause_at(octets: &[u8], number: usize) -> Option<EventCause>
+    ensures { result ≡ event_cause_at octets.now number }
 {
-    match line_numbered(Lines::of(octets), number) {
-        Some(line) => event_cause(alloc, line),
-        None => Ok(None),
-    }
+    event_cause(line_numbered(Lines::of(octets), number)?)
 }
 
 /// The line of this number.
@@ -135,15 +114,15 @@ fn line_numbered(lines: Lines<'_>, number: usize) -> Option<&[u8]>
 }
 
 /// Why a line is no event.
-fn event_cause(alloc: Global, line: &[u8]) -> Result<Option<EventCause>, AllocError>
-    ensures { IfOk result (λ found. found ≡ event_cause line.now) }
+fn event_cause(line: &[u8]) -> Option<EventCause>
+    ensures { result ≡ event_cause line.now }
 {
     let Some((word, _)) = Words::of(line).next_word() else {
-        return Ok(Some(EventCause::Keyword));
+        return Some(EventCause::Keyword);
     };
     match Keyword::of(word) {
-        Some(keyword) => Ok(word_fault(alloc, event_form(keyword), line)?.map(EventCause::Word)),
-        None => Ok(Some(EventCause::Keyword)),
+        Some(keyword) => word_fault(event_form(keyword), line).map(EventCause::Word),
+        None => Some(EventCause::Keyword),
     }
 }
 

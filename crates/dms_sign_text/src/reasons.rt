@@ -63,7 +63,7 @@ pub fn first_cause(alloc: Global, octets: &[u8]) -> Result<Option<Cause>, AllocE
 fn cause_of(alloc: Global, octets: &[u8]) -> Result<Option<Cause>, AllocError>
     ensures { IfOk result (λ found. found ≡ first_cause (octets_left (record { number = 1; text = octets.now }))) }
 {
-    if let Some(cause) = head_cause(alloc, &HEAD, Lines::of(octets))? {
+    if let Some(cause) = head_cause(&HEAD, Lines::of(octets)) {
         return Ok(Some(cause));
     }
     let Ok((head, lines)) = Head::read(Lines::of(octets)) else {
@@ -82,29 +82,29 @@ fn body_cause(alloc: Global, head: &Head<'_>, lines: Lines<'_>) -> Result<Option
 }
 
 /// The first of these lines that has not its form.
-fn head_cause(alloc: Global, forms: &[Form], lines: Lines<'_>) -> Result<Option<Cause>, AllocError>
-    ensures { IfOk result (λ found. found ≡ head_cause forms.now (octets_left lines.entry)) }
+fn head_cause(forms: &[Form], lines: Lines<'_>) -> Option<Cause>
+    ensures { result ≡ head_cause forms.now (octets_left lines.entry) }
 {
     match forms {
-        [] => Ok(None),
+        [] => None,
         [form, others @ ..] => {
             let mut lines = lines;
             let Some(line) = lines.next_line() else {
-                return Ok(Some(Cause::NoEnd));
+                return Some(Cause::NoEnd);
             };
-            match form_cause(alloc, *form, line.octets)? {
-                Some(cause) => Ok(Some(cause)),
-                None => head_cause(alloc, others, lines),
+            match form_cause(*form, line.octets) {
+                Some(cause) => Some(cause),
+                None => head_cause(others, lines),
             }
         }
     }
 }
 
 /// The first word of a line that is not of its form.
-fn form_cause(alloc: Global, form: Form, line: &[u8]) -> Result<Option<Cause>, AllocError>
-    ensures { IfOk result (λ found. found ≡ form_cause form line.now) }
+fn form_cause(form: Form, line: &[u8]) -> Option<Cause>
+    ensures { result ≡ form_cause form line.now }
 {
-    Ok(word_fault(alloc, form.words(), line)?.map(Cause::Word))
+    word_fault(form.words(), line).map(Cause::Word)
 }
 
 /// Why the line that comes next ends no sign of these parts.
@@ -148,11 +148,11 @@ fn line_cause(alloc: Global, fonts: Vec<Font>, line: &[u8]) -> Result<Option<Cau
     ensures { IfOk result (λ found. found ≡ line_cause fonts.items line.now) }
 {
     match BodyWord::of(line) {
-        Some(BodyWord::Permanent) if fonts.is_empty() => form_cause(alloc, Form::Permanent, line),
+        Some(BodyWord::Permanent) if fonts.is_empty() => Ok(form_cause(Form::Permanent, line)),
         Some(BodyWord::Permanent) => Ok(Some(Cause::RowAfterFont)),
-        Some(BodyWord::Font) => form_cause(alloc, Form::Font, line),
+        Some(BodyWord::Font) => Ok(form_cause(Form::Font, line)),
         Some(BodyWord::Glyph) => glyph_cause(alloc, fonts, line),
-        Some(BodyWord::End) => form_cause(alloc, Form::End, line),
+        Some(BodyWord::End) => Ok(form_cause(Form::End, line)),
         None => Ok(Some(Cause::Keyword)),
     }
 }
@@ -169,7 +169,7 @@ fn glyph_cause(alloc: Global, fonts: Vec<Font>, line: &[u8]) -> Result<Option<Ca
         Err(FontFaultKind::Memory) => Err(AllocError),
         Err(kind) => {
             if is_no_glyph(kind) {
-                form_cause(alloc, Form::Glyph, line)
+                Ok(form_cause(Form::Glyph, line))
             } else {
                 Ok(Some(Cause::Glyph(kind)))
             }

@@ -1,2 +1,3 @@
 pub mod WordReading
 pub mod FieldLaws
+pub mod WordTests

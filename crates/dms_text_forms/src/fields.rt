@@ -1,12 +1,13 @@
 //! What words of a line spell: numbers of one, two and four octets, and octets.
 
-ghost use Rattle.std.specs.Prelude.{◌≡◌, IfOk, OnErr, IsSome, option_map};
-ghost use Rattle.dms_text.specs.Reading.{word_at};
+ghost use Rattle.std.specs.Prelude.{◌≡◌, IfOk, IfSome, OnErr, IsSome, option_map};
+ghost use Rattle.dms_text.specs.Reading.{octets_of, word_at};
 ghost use Rattle.dms_text_forms.specs.FieldsReading.{octet_at, two_octets_at, last_number_at};
 ghost use Rattle.dms_text_forms.specs.FieldsReading.{octets_at, last_octets_at};
 ghost use Rattle.dms_text.specs.Views.{octets_found};
 ghost use Rattle.dms_text_forms.specs.FieldsView.{octets_and_rest};
 
+use crate::digits::are_octets;
 use dms_text::{Words, octets};
 use std::alloc::{AllocError, Global};
 
@@ -33,23 +34,17 @@ pub fn last_number(words: Words<'_>) -> Option<u32>
     if rest.is_empty() { Some(number) } else { None }
 }
 
-/// Octets as pairs of hexadecimal digits, and the words after them. Only where octets are spelled can it be out of
-/// memory.
+/// The word of octets as pairs of hexadecimal digits, and the words after it. It takes no memory: `octets` has them.
 #[tactic(auto, unfolding(crate::specs::FieldsReading::octets_at))]
-pub fn next_octets(
-    alloc: Global,
-    words: Words<'_>,
-) -> Result<Option<(Vec<u8>, Words<'_>)>, AllocError>
-    ensures octets { IfOk result (λ found. option_map octets_and_rest found ≡ octets_at words.entry) }
-    ensures memory { OnErr result (IsSome (word_at words.entry)) }
-    ensures spelled { OnErr result (IsSome (octets_at words.entry)) }
+pub fn octets_word(words: Words<'_>) -> Option<(&[u8], Words<'_>)>
+    ensures octets { option_map octets_and_rest result ≡ octets_at words.entry }
+    ensures spelled { IfSome result (λ found. IsSome (octets_of found.0.now)) }
 {
-    let Some((word, rest)) = words.next_word() else {
-        return Ok(None);
-    };
-    match octets(alloc, word)? {
-        Some(octets) => Ok(Some((octets, rest))),
-        None => Ok(None),
+    let (word, rest) = words.next_word()?;
+    if are_octets(word) {
+        Some((word, rest))
+    } else {
+        None
     }
 }
 

@@ -1,51 +1,41 @@
 //! The first word of a line that is not what is wanted there.
 
-ghost use Rattle.std.specs.Prelude.{◌≡◌, ◌+◌, ◌<◌, ◌^◌, [], length, IfOk};
+ghost use Rattle.std.specs.Prelude.{◌≡◌, ◌+◌, ◌<◌, ◌^◌, [], length};
 ghost use Rattle.dms_text.specs.Words.{words_of};
-ghost use Rattle.dms_text_forms.specs.Form.{is_wanted, is_number, is_address, address_at, is_code, word_fault};
+ghost use Rattle.dms_text_forms.specs.Form.{is_wanted, is_number, is_address, address_at, word_fault};
 ghost use Rattle.dms_text_forms.specs.Form.{fault_from};
 
+use crate::digits::{are_octets, is_code};
 use crate::fault::{WordFault, WordFaultKind};
 use crate::wanted::Wanted;
-use dms_text::{Words, are_same, number, octets, version};
-use hex::FromHexError;
-use std::alloc::{AllocError, Global};
+use dms_text::{Words, are_same, number, version};
 
 /// The first word of a line that is not what is wanted there, where these are wanted and no more.
-pub fn word_fault(
-    alloc: Global,
-    form: &[Wanted],
-    line: &[u8],
-) -> Result<Option<WordFault>, AllocError>
-    ensures { IfOk result (λ found. found ≡ word_fault form.now (words_of line.now)) }
+pub fn word_fault(form: &[Wanted], line: &[u8]) -> Option<WordFault>
+    ensures { result ≡ word_fault form.now (words_of line.now) }
 {
-    fault_from(alloc, 1, form, Words::of(line))
+    fault_from(1, form, Words::of(line))
 }
 
 /// The first of these words, that of this place first, that is not what is wanted.
 #[tactic(auto, unfolding(crate::specs::Form::fault_from))]
-fn fault_from(
-    alloc: Global,
-    place: usize,
-    form: &[Wanted],
-    words: Words<'_>,
-) -> Result<Option<WordFault>, AllocError>
+fn fault_from(place: usize, form: &[Wanted], words: Words<'_>) -> Option<WordFault>
     requires { place + length form.now < 2 ^ 64 }
-    ensures { IfOk result (λ found. found ≡ fault_from place form.now words.entry) }
+    ensures { result ≡ fault_from place form.now words.entry }
 {
     match form {
-        [] => Ok(fault_at_end(place, words)),
+        [] => fault_at_end(place, words),
         [wanted, more @ ..] => {
             if words.is_empty() {
-                return Ok(fault_at(place, WordFaultKind::Missing(*wanted)));
+                return fault_at(place, WordFaultKind::Missing(*wanted));
             }
             let Some((word, rest)) = words.next_word() else {
-                return Ok(fault_at(place, WordFaultKind::Empty));
+                return fault_at(place, WordFaultKind::Empty);
             };
-            if is_wanted(alloc, *wanted, word)? {
-                fault_from(alloc, place + 1, more, rest)
+            if is_wanted(*wanted, word) {
+                fault_from(place + 1, more, rest)
             } else {
-                Ok(fault_at(place, WordFaultKind::Not(*wanted)))
+                fault_at(place, WordFaultKind::Not(*wanted))
             }
         }
     }
@@ -72,21 +62,21 @@ fn fault_at_end(place: usize, words: Words<'_>) -> Option<WordFault>
 }
 
 /// Whether a word is what is wanted.
-fn is_wanted(alloc: Global, wanted: Wanted, word: &[u8]) -> Result<bool, AllocError>
-    ensures { IfOk result (λ found. found ≡ is_wanted wanted word.now) }
+fn is_wanted(wanted: Wanted, word: &[u8]) -> bool
+    ensures { result ≡ is_wanted wanted word.now }
 {
     match wanted {
-        Wanted::Keyword(keyword) => Ok(are_same(word, keyword.text().as_bytes())),
-        Wanted::Either(one, other) => Ok(
-            are_same(word, one.text().as_bytes()) || are_same(word, other.text().as_bytes()),
-        ),
-        Wanted::Name(_) => Ok(true),
-        Wanted::Number(low, high) => Ok(is_number(word, 5, u64::from(low), u64::from(high))),
-        Wanted::FourOctets => Ok(is_number(word, 10, 0, 4_294_967_295)),
-        Wanted::Octets(_) => Ok(octets(alloc, word)?.is_some()),
-        Wanted::Version => Ok(version(word).is_some()),
-        Wanted::Address => Ok(is_address(word)),
-        Wanted::Code => is_code(alloc, word),
+        Wanted::Keyword(keyword) => are_same(word, keyword.text().as_bytes()),
+        Wanted::Either(one, other) => {
+            are_same(word, one.text().as_bytes()) || are_same(word, other.text().as_bytes())
+        }
+        Wanted::Name(_) => true,
+        Wanted::Number(low, high) => is_number(word, 5, u64::from(low), u64::from(high)),
+        Wanted::FourOctets => is_number(word, 10, 0, 4_294_967_295),
+        Wanted::Octets(_) => are_octets(word),
+        Wanted::Version => version(word).is_some(),
+        Wanted::Address => is_address(word),
+        Wanted::Code => is_code(word),
     }
 }
 
@@ -121,15 +111,4 @@ fn after_address(parts: Words<'_>) -> Option<Words<'_>>
     let (_, parts) = parts.octet(3, 0, 255)?;
     let (_, parts) = parts.octet(3, 0, 255)?;
     Some(parts)
-}
-
-/// Whether a word is the twelve octets of a code in hexadecimal digits.
-fn is_code(alloc: Global, word: &[u8]) -> Result<bool, AllocError>
-    ensures { IfOk result (λ found. found ≡ is_code word.now) }
-{
-    match hex::decode(alloc, word) {
-        Ok(octets) => Ok(octets.len() == 12),
-        Err(FromHexError::OutOfMemory) => Err(AllocError),
-        Err(_) => Ok(false),
-    }
 }

@@ -3,11 +3,12 @@
 //!
 //! ```
 //! let form = [Wanted::Keyword(Keyword::Size), Wanted::Number(0, 65535), Wanted::Number(0, 65535)];
-//! let found = word_fault(rt.alloc(), &form, b"size 96 high")?.ok_or("no fault")?;
+//! let found = word_fault(&form, b"size 96 high").ok_or("no fault")?;
 //! assert_eq!(rt; found, WordFault { place: 3, kind: WordFaultKind::Not(Wanted::Number(0, 65535)) });
 //! ```
 #![tactic(auto)]
 
+mod digits;
 mod fault;
 pub mod fields;
 mod form;
