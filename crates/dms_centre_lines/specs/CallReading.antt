@@ -1,5 +1,5 @@
 -- The line of a call read from its beginning (this profile).
-use Rattle.std.specs.Prelude.{ℕ, if◌then◌else◌, List, codes, Option, Some, None, option_map}
+use Rattle.std.specs.Prelude.{ℕ, Bool, true, false, if◌then◌else◌, List, codes, Option, Some, None, option_map}
 use Rattle.dms_text.specs.Words.{words_of}
 use Rattle.dms_text.specs.Reading.{same_octets, word_at, keyword_at, is_end, ◌>>=◌}
 use Rattle.dms_codes.specs.declared.codes.Order.{Order}
@@ -32,6 +32,16 @@ unfoldable pub plain_call_at : List (List ℕ) → Option CentreCall
 plain_call_at words = do
   found ← word_at words
   call_after found.0 found.1
+
+-- the call has octets that are kept: a datagram's
+abbrev pub has_octets : Option CentreCall → Bool
+has_octets None = false
+has_octets (Some (command asked)) = false
+has_octets (Some (datagram octets)) = true
+has_octets (Some tick) = false
+has_octets (Some restart) = false
+has_octets (Some status) = false
+has_octets (Some status_last) = false
 
 abbrev pub or_command : Option CentreCall → Option CommandModel → Option CentreCall
 or_command (Some call) spelled = Some call

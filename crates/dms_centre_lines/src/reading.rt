@@ -1,8 +1,8 @@
 //! The lines that are no commands.
 
-ghost use Rattle.std.specs.Prelude.{◌≡◌, IfOk, option_map};
+ghost use Rattle.std.specs.Prelude.{◌≡◌, true, IfOk, OnErr, option_map};
 ghost use Rattle.dms_text.specs.Words.{words_of};
-ghost use Rattle.dms_centre_lines.specs.CallReading.{status_after, plain_call_at};
+ghost use Rattle.dms_centre_lines.specs.CallReading.{status_after, plain_call_at, has_octets};
 ghost use Rattle.dms_centre_lines.specs.CodeView.{call_model};
 
 use dms_face_lines::alone;
@@ -25,10 +25,12 @@ pub(crate) enum Call {
     StatusLast,
 }
 
-/// The call that a line spells, or none where it spells none; a command is none.
-#[tactic(auto, unfolding(crate::specs::CallReading::plain_call_at))]
+/// The call that a line spells, or none where it spells none; a command is none. Memory is asked for by a datagram
+/// alone, and not where its line is at fault.
+#[tactic(auto, unfolding(crate::specs::CallReading::plain_call_at), using(crate::proofs::CallMemory::of_datagram))]
 pub(crate) fn plain_call(alloc: Global, line: &[u8]) -> Result<Option<Call>, AllocError>
-    ensures { IfOk result (λ found. option_map call_model found ≡ plain_call_at (words_of line.now)) }
+    ensures read { IfOk result (λ found. option_map call_model found ≡ plain_call_at (words_of line.now)) }
+    ensures spelled { OnErr result (has_octets (plain_call_at (words_of line.now)) ≡ true) }
 {
     let Some((word, words)) = Words::of(line).next_word() else {
         return Ok(None);

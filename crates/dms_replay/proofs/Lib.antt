@@ -5,3 +5,4 @@ mod Lent
 mod ScriptRead
 mod ScriptRanges
 mod SpelledOctets
+pub mod EventMemory

@@ -1,6 +1,6 @@
 -- The lines of a script's events read from their beginning, which the calls say of themselves; `event_found` and
 -- `event_only` in proofs/ join it to the lines that spell events (this profile).
-use Rattle.std.specs.Prelude.{ℕ, if◌then◌else◌, List, codes, Option, Some, None, option_map}
+use Rattle.std.specs.Prelude.{ℕ, Bool, true, false, if◌then◌else◌, List, codes, Option, Some, None, option_map}
 use Rattle.dms_text.specs.Words.{words_of}
 use Rattle.dms_text.specs.Reading.{same_octets, word_at, ◌>>=◌}
 use Rattle.dms_codes.specs.declared.codes.Order.{Order}
@@ -8,6 +8,7 @@ use Rattle.dms_world.specs.Event.{EventModel, command, sign_tick, centre_tick, t
 use Rattle.dms_world.specs.Event.{power_back, centre_restart, forge_sign, forge_centre}
 use Rattle.dms_text_forms.specs.FieldsReading.{if_last, last_number_at, last_octets_at}
 use Rattle.dms_centre_text.specs.CommandReading.{command_word, command_after}
+use Rattle.dms_centre_text.specs.CommandReading as commands
 use Rattle.dms_centre_text.specs.declared.command_word.CommandWord.{CommandWord}
 use Rattle.dms_replay.specs.declared.keyword.Keyword.{Keyword}
 use Rattle.dms_replay.specs.declared.keyword.Keyword.TheVariants as key
@@ -56,3 +57,17 @@ event_of order line = do
   found ← word_at (words_of line)
   keyword ← keyword_of found.0
   event_after order keyword found.1
+
+-- the event has octets that are kept: a message's, or a datagram's
+abbrev pub has_octets : Option EventModel → Bool
+has_octets None = false
+has_octets (Some (command asked)) = commands.has_octets (Some asked)
+has_octets (Some sign_tick) = false
+has_octets (Some centre_tick) = false
+has_octets (Some (to_sign place)) = false
+has_octets (Some (to_centre place)) = false
+has_octets (Some power_lost) = false
+has_octets (Some (power_back seconds)) = false
+has_octets (Some centre_restart) = false
+has_octets (Some (forge_sign datagram)) = true
+has_octets (Some (forge_centre datagram)) = true

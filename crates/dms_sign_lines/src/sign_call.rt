@@ -1,6 +1,6 @@
 //! What a line asks of a live sign.
 
-ghost use Rattle.std.specs.Prelude.{◌≡◌, Some, IfOk, OnErr, option_map};
+ghost use Rattle.std.specs.Prelude.{◌≡◌, Some, IfOk, IsSome, OnErr, option_map};
 ghost use Rattle.dms_sign_lines.specs.SignReading.{call_of, keyword_in};
 ghost use Rattle.dms_sign_lines.specs.declared.keyword.Keyword.TheVariants.{Datagram};
 ghost use Rattle.dms_sign_lines.specs.CallView.{call_model};
@@ -32,11 +32,12 @@ pub(crate) enum SignCall {
     State,
 }
 
-/// The call that a line spells, or none. Memory is asked for by a datagram alone.
+/// The call that a line spells, or none. Memory is asked for by a datagram alone, and not where its line is at fault.
 #[tactic(auto, unfolding(crate::specs::SignReading::call_of, crate::specs::SignReading::keyword_in))]
 pub(crate) fn call(alloc: Global, line: &[u8]) -> Result<Option<SignCall>, AllocError>
     ensures read { IfOk result (λ found. option_map call_model found ≡ call_of line.now) }
     ensures memory { OnErr result (keyword_in line.now ≡ Some Datagram) }
+    ensures spelled { OnErr result (IsSome (call_of line.now)) }
 {
     let Some((word, words)) = Words::of(line).next_word() else {
         return Ok(None);
