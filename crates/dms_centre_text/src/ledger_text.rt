@@ -1,6 +1,6 @@
 //! The activations of a central system's ledger, as lines of text.
 
-ghost use Rattle.std.specs.Prelude.{◌≡◌, ◌<◌, ◌+◌, ◌++◌, ℕ, OnOk, OnErr, flat_map, vec_len, vec_capacity};
+ghost use Rattle.std.specs.Prelude.{◌≡◌, ◌<◌, ◌+◌, ◌++◌, ℕ, length, OnOk, OnErr, flat_map, vec_len, vec_capacity};
 ghost use Rattle.dms_centre.specs.CodeView.{entry_model};
 ghost use Rattle.dms_centre.specs.declared.ledger.Entry.{Entry};
 ghost use Rattle.dms_centre_text.specs.LedgerLine.{ledger_line};
@@ -12,10 +12,12 @@ use indexmap::IndexMap;
 use std::alloc::AllocError;
 use std::io::Write;
 
-/// Appends a line for each activation of the ledger, in the order of their requests.
+/// Appends a line for each activation of the ledger, in the order of their requests. Where there is none no memory is
+/// asked for.
 pub fn put_ledger(report: &mut Vec<u8>, centre: &Centre) -> Result<(), AllocError>
-    ensures { OnOk result (report.new.items
+    ensures text { OnOk result (report.new.items
         ≡ report.old.items ++ flat_map (ledger_line centre.now.state.settings.order) centre.now.state.ledger) }
+    ensures memory { OnErr result (0 < length centre.now.state.ledger) }
 {
     put_entries(report, centre.order(), centre.ledger())
 }
@@ -49,8 +51,9 @@ fn put_entries(
     order: Order,
     ledger: &IndexMap<u32, Entry>,
 ) -> Result<(), AllocError>
-    ensures { OnOk result (report.new.items ≡ report.old.items
+    ensures text { OnOk result (report.new.items ≡ report.old.items
         ++ flat_map (λ (entry : ℕ × Entry). ledger_line order (entry_model entry)) ledger.now.entries) }
+    ensures memory { OnErr result (0 < length ledger.now.entries) }
 {
     for (number, entry) in ledger.iter() {
         put_entry(report, order, *number, entry)?;

@@ -15,7 +15,7 @@ ghost use Rattle.wisangub_c.specs.Answers.{done, no_memory, too_small, at_fault,
 ghost use Rattle.wisangub_c.specs.Answers.{buffer_with};
 ghost use Rattle.wisangub_c.specs.Codes.{order_of};
 ghost use Rattle.dms_centre.specs.Room.{enters_by};
-ghost use Rattle.dms_centre_text.specs.CommandReading.{IsOfOctets};
+ghost use Rattle.dms_centre_text.specs.CommandReading.{command_of, has_octets, IsOfOctets};
 ghost use Rattle.wisangub_c.specs.Centre.{IsPlaced, command_in, refusal_answer, given_command_answer};
 ghost use Rattle.wisangub_c.specs.Centre.{given_command_size, given_command_buffer, command_answer, command_size};
 ghost use Rattle.wisangub_c.specs.Centre.{command_buffer, after_command, enters_by_call, code_parts};
@@ -207,6 +207,8 @@ fn command(
         (command_buffer centre.old.state (command_in centre.old.state line.now) request.old) }
     ensures memory { result ≡ no_memory → IsOfOctets line.now
         ⊎ (IsTrue (enters_by_call centre.old.state (command_in centre.old.state line.now)) × (centre.old.spare ≡ 0)) }
+    ensures spelled { result ≡ no_memory → (has_octets (command_of centre.old.state.settings.order line.now) ≡ true)
+        ⊎ (IsTrue (enters_by_call centre.old.state (command_in centre.old.state line.now)) × (centre.old.spare ≡ 0)) }
 {
     match read_command(alloc, centre.order(), line) {
         Ok(Some(asked)) => give_command(centre, asked.lent(), request, size),
@@ -241,6 +243,10 @@ pub extern "C" fn wisangub_centre_command_at(
         → request.new ≡ unless_memory result request.old
         (command_buffer centre.old.value.state (command_in centre.old.value.state line.now) request.old) }
     ensures memory { result ≡ no_memory → IsOfOctets line.now
+        ⊎ (IsTrue (enters_by_call centre.old.value.state (command_in centre.old.value.state line.now))
+        × (centre.old.value.spare ≡ 0)) }
+    ensures spelled { result ≡ no_memory
+        → (has_octets (command_of centre.old.value.state.settings.order line.now) ≡ true)
         ⊎ (IsTrue (enters_by_call centre.old.value.state (command_in centre.old.value.state line.now))
         × (centre.old.value.spare ≡ 0)) }
 {
