@@ -1,13 +1,14 @@
 -- The items of a text make its pages, one by one.
-use Rattle.std.proofs.Common.{◌≡◌, ℕ, Bool, true, cond, List, [], ◌∷◌, ◌++◌, map, fold, Option, Some, None, Result, Ok, Err, refl, sym, ap, ◌∙◌, append_assoc, arith}
+use Rattle.std.proofs.Common.{◌≡◌, ℕ, ◌≤◌, Bool, true, false, cond, List, [], ◌∷◌, ◌++◌, length, map, fold, Option, Some, None, Result, Ok, Err, refl, sym, ap, ◌∙◌, append_assoc, arith}
 use Rattle.std.specs.List.{list_all}
 use Rattle.std.specs.Option.{option_or}
 use Rattle.std.proofs.lemmas.Bool.{and_parts}
 use Rattle.std.proofs.lemmas.Grind.{fold-append}
 use Rattle.dms_codes.proofs.Options.{mapped_none}
+use Rattle.dms_codes.specs.Limits.{longest_text}
 use Rattle.dms_multi.specs.declared.spots.Spot.{Spot}
 use Rattle.dms_multi.specs.declared.fault.SyntaxFault.{SyntaxFault}
-use Rattle.dms_multi.specs.Outcomes.{items_in, items_of, fault_in}
+use Rattle.dms_multi.specs.Outcomes.{items_in, items_of, fault_in, syntax_fault}
 use Rattle.dms_face.specs.Face.{FaceModel}
 use Rattle.dms_face.specs.Layout.{PageModel, Layout, Turn, blank_layout, with_turn, with_page}
 use Rattle.dms_face.specs.Room.{page_fits}
@@ -48,6 +49,14 @@ neither a b p = grind arith
 
 otherwise : {A : Type 0} (b : Bool) (x : A) (o : Option A) → cond b (Some x) o ≡ None → o ≡ None
 otherwise b x o p = grind arith
+
+within : {A : Type 0} (b : Bool) (x : A) (o : Option A) → cond b (Some x) o ≡ None → b ≡ false
+within b x o p = grind arith
+
+-- A text without a fault is short enough, and spells its items.
+pub is_read : (face : FaceModel) (text : List ℕ) → fault_of face text ≡ None → (length text ≤ longest_text) × (syntax_fault text ≡ None)
+unfolding fault_of
+is_read face text none = grind (arith, neither, otherwise, within, mapped_none)
 
 pub pages_fit : (face : FaceModel) (text : List ℕ) → fault_of face text ≡ None → list_all (λ (page : PageModel). page_fits face page.lines) (pages_of face text) ≡ true
 unfolding pages_of fault_of

@@ -5,3 +5,6 @@ pub mod LayingLaws
 pub mod OneWalk
 pub mod StyleLaws
 pub mod BitLaws
+pub mod SameCells
+pub mod PageStyles
+pub mod FewStyles

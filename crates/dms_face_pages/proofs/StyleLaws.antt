@@ -1,5 +1,5 @@
 -- Cells are the styles that their numbers name.
-use Rattle.std.proofs.Common.{◌≡◌, ◌≢◌, ℕ, zero, suc, ◌+◌, ◌<◌, ◌==◌, ◌&&◌, Bool, true, false, List, [], ◌∷◌, ◌++◌, length, map, get_or, set, replicate, length-append, refl, ap, ◌∙◌, arith}
+use Rattle.std.proofs.Common.{◌≡◌, ℕ, zero, suc, ◌+◌, ◌<◌, ◌==◌, ◌&&◌, Bool, true, false, List, [], ◌∷◌, ◌++◌, length, map, get_or, set, replicate, length-append, refl, ap, ◌∙◌, arith}
 use Rattle.std.specs.Prelude.{slice_index_or}
 use Rattle.std.proofs.lemmas.Bool.{cases_Bool, and_parts, and_from, eqb-true, eq-eqb}
 use Rattle.std.proofs.lemmas.List.{get_or-map, length-map, length-set, get_or-set_same, get_or-set_other, get_or_append_left}
@@ -8,9 +8,9 @@ use Rattle.dms_face_pages.specs.Drawn.{unlit}
 use Rattle.dms_face_pages.specs.Drawing.{covered}
 use Rattle.dms_face_pages.specs.Styled.{StyledCells, style, AreStyled, Lights}
 
--- cells of these styles with these numbers
-abbrev pub with_numbers : List Cell → List ℕ → StyledCells
-with_numbers styles numbers = record { styles = styles; cells = map (style styles) numbers }
+-- cells of these styles, for so many of which there is memory, with these numbers
+abbrev pub with_numbers : List Cell → ℕ → List ℕ → StyledCells
+with_numbers styles memory numbers = record { styles = styles; memory = memory; cells = map (style styles) numbers }
 
 covered_dark : (lit cell : Cell) → cell.lit ≡ false → covered true lit cell ≡ lit
 covered_dark lit cell dark = rw dark refl
@@ -27,16 +27,16 @@ away : (on b : Bool) → b ≡ false → (on && b) ≡ false
 away on b e = grind arith
 
 -- a cell that is not lit yet
-pub lit_now : (styles : List Cell) (numbers : List ℕ) (place number : ℕ) (on : Bool) → AreStyled styles numbers → place < length numbers → on ≡ true
+pub lit_now : (styles : List Cell) (memory : ℕ) (numbers : List ℕ) (place number : ℕ) (on : Bool) → AreStyled styles numbers → place < length numbers → on ≡ true
     → get_or numbers place 0 ≡ 0
-    → Lights (λ k. on && k == place) (style styles number) (with_numbers styles numbers) (with_numbers styles (set numbers place number))
-lit_now styles numbers place number on are below now dark = grind (arith, length-map, length-set, get_or, shown_at, cases_Bool, eqb-true, get_or-set_same, covered_dark, and_from, eq-eqb, get_or-set_other, away)
+    → Lights (λ k. on && k == place) (style styles number) (with_numbers styles memory numbers) (with_numbers styles memory (set numbers place number))
+lit_now styles memory numbers place number on are below now dark = grind (arith, length-map, length-set, get_or, shown_at, cases_Bool, eqb-true, get_or-set_same, covered_dark, and_from, eq-eqb, get_or-set_other, away)
 
 -- a cell that stays: it is not to be lit, or it is lit
-pub lit_before : (styles : List Cell) (numbers : List ℕ) (place number : ℕ) (on : Bool) → AreStyled styles numbers
+pub lit_before : (styles : List Cell) (memory : ℕ) (numbers : List ℕ) (place number : ℕ) (on : Bool) → AreStyled styles numbers
     → (on ≡ true → 0 < get_or numbers place 0)
-    → Lights (λ k. on && k == place) (style styles number) (with_numbers styles numbers) (with_numbers styles numbers)
-lit_before styles numbers place number on are stays = grind (arith, length-map, cases_Bool, and_parts, eqb-true, get_or, covered_lit, shown_at)
+    → Lights (λ k. on && k == place) (style styles number) (with_numbers styles memory numbers) (with_numbers styles memory numbers)
+lit_before styles memory numbers place number on are stays = grind (arith, length-map, cases_Bool, and_parts, eqb-true, get_or, covered_lit, shown_at)
 
 -- a style more
 pub style_kept : (styles : List Cell) (lit : Cell) (k : ℕ) → k < length styles → style (styles ++ lit ∷ []) k ≡ style styles k

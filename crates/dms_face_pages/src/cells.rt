@@ -1,9 +1,11 @@
 //! The cells of a page, each as one octet.
 
 ghost use Rattle.std.specs.Prelude.{◌≡◌, ℕ, ◌<◌, ◌≤◌, ◌==◌, ◌&&◌, true, false, List, [], ◌∷◌};
-ghost use Rattle.std.specs.Prelude.{length, replicate, IfOk, OnOk, IfSome, slice_index_or};
+ghost use Rattle.std.specs.Prelude.{length, replicate, IfOk, OnOk, OnErr, IfSome, IfNone, slice_index_or, position};
 ghost use Rattle.dms_face_pages.specs.Drawn.{unlit};
 ghost use Rattle.dms_face_pages.specs.Styled.{StyledCells, style, IsLitStyle, Lights};
+ghost use Rattle.dms_face_pages.specs.SameCells.{same_cell};
+ghost use Rattle.dms_face_pages.specs.Styles.{is_style, with_style, most_styles};
 
 use dms_face::Cell;
 use std::alloc::{AllocError, Global};
@@ -19,12 +21,16 @@ pub(crate) struct Cells {
 }
 
 impl Model for Cells {
-    ghost use Rattle.std.specs.Prelude.{map};
+    ghost use Rattle.std.specs.Prelude.{map, vec_capacity};
     ghost use Rattle.dms_face_pages.specs.Styled.{StyledCells, style, AreStyled};
 
     ghost Value = { StyledCells };
 
-    ghost view = { λ c. record { styles = c.styles.items; cells = map (style c.styles.items) c.numbers.items } };
+    ghost view = { λ c. record {
+      styles = c.styles.items;
+      memory = vec_capacity c.styles;
+      cells = map (style c.styles.items) c.numbers.items;
+    } };
 
     ghost invariant = { λ c. AreStyled c.styles.items c.numbers.items };
 }
@@ -34,6 +40,7 @@ impl Cells {
     pub fn dark(alloc: Global, background: u8, count: usize) -> Result<Cells, AllocError>
         ensures cells { IfOk result (λ made. made.cells ≡ replicate count (unlit background)) }
         ensures len { IfOk result (λ made. length made.cells ≡ count) }
+        ensures styles { IfOk result (λ made. made.styles ≡ unlit background ∷ []) }
     {
         let styles = first_style(alloc, background)?;
         let numbers = vec![in alloc; 0; count]?;
@@ -60,20 +67,31 @@ impl Cells {
         }
     }
 
-    /// The number of the style of cells that show this. A style that is new is one more in the list, which has room for
-    /// 256: a text of 512 octets has fewer than 130, since each takes a tag of four octets and a character.
-    pub fn number_of(&mut self, lit: Cell) -> Result<u8, AllocError>
-        requires { lit.lit ≡ true }
+    /// Adds the style of lit cells that show this, unless it is one of the styles. There is no memory for it only where
+    /// the list of styles is full and has to grow.
+    #[tactic(auto, using(crate::proofs::StyleLaws::same_cells))]
+    pub fn add_style(&mut self, lit: Cell) -> Result<(), AllocError>
+        requires lit { lit.lit ≡ true }
+        requires few { length (with_style self.old.styles lit) ≤ most_styles }
         ensures same { OnOk result (self.new.cells ≡ self.old.cells) }
-        ensures number { IfOk result (λ number. IsLitStyle self.new.styles number) }
-        ensures shows { IfOk result (λ number. style self.new.styles number ≡ lit) }
+        ensures styles { OnOk result (self.new.styles ≡ with_style self.old.styles lit) }
+        ensures kept { OnOk result (self.old.memory ≤ self.new.memory) }
+        ensures memory { OnErr result (self.old.memory < length (with_style self.old.styles lit)) }
     {
-        if let Some(number) = number_in(self.styles.as_slice(), lit) {
-            return Ok(number);
+        if number_in(self.styles.as_slice(), lit).is_none() {
+            self.styles.push(lit)?;
         }
-        let number = u8::try_from(self.styles.len()).map_err(|_| AllocError)?;
-        self.styles.push(lit)?;
-        Ok(number)
+        Ok(())
+    }
+
+    /// The number of the style of lit cells that show this, which must be one of the styles.
+    pub fn number_of(&self, lit: Cell) -> u8
+        requires lit { lit.lit ≡ true }
+        requires added { is_style self.now.styles lit ≡ true }
+        ensures number { IsLitStyle self.now.styles result }
+        ensures shows { style self.now.styles result ≡ lit }
+    {
+        number_in(self.styles.as_slice(), lit).unwrap()
     }
 }
 
@@ -90,13 +108,35 @@ fn first_style(alloc: Global, background: u8) -> Result<Vec<Cell>, AllocError>
     Ok(styles)
 }
 
-/// The number of the style of lit cells that show this, where it is in the list.
+/// Whether two cells show the same.
+fn is_same(one: Cell, other: Cell) -> bool
+    ensures { result ≡ same_cell one other }
+{
+    one == other
+}
+
+/// The place of the style of cells that show this, where it is in the list.
+fn place_of(styles: &[Cell], lit: Cell) -> Option<usize>
+    ensures { result ≡ position (same_cell lit) styles.now }
+{
+    styles.iter().position(|style| is_same(lit, *style))
+}
+
+/// The number of the style of lit cells that show this, where it is in the list: mostly that of the last one.
+#[tactic(auto, using(crate::proofs::SameCells::finding))]
 fn number_in(styles: &[Cell], lit: Cell) -> Option<u8>
+    requires some { 0 < length styles.now }
+    requires few { length styles.now ≤ most_styles }
     requires lit { lit.lit ≡ true }
     requires unlit_first { (style styles.now 0).lit ≡ false }
     ensures number { IfSome result (λ number. IsLitStyle styles.now number) }
     ensures shows { IfSome result (λ number. style styles.now number ≡ lit) }
+    ensures none { IfNone result (is_style styles.now lit ≡ false) }
 {
-    let place = styles.iter().position(|style| *style == lit)?;
-    u8::try_from(place).ok()
+    let last = styles.len() - 1;
+    if is_same(lit, styles[last]) {
+        return Some(u8::try_from(last).unwrap());
+    }
+    let place = place_of(styles, lit)?;
+    Some(u8::try_from(place).unwrap())
 }

@@ -1,7 +1,7 @@
 //! Drawing the characters of a page on the cells of a matrix.
 
 ghost use Rattle.std.specs.Prelude.{◌≡◌, ℕ, ◌+◌, ◌-◌, ◌*◌, ◌/◌, ◌%◌, ◌^◌, ◌<◌, ◌≤◌, ◌==◌, ◌&&◌, List, ◌++◌};
-ghost use Rattle.std.specs.Prelude.{length, map, filter, true, not, nat_le, nat_lt, slice_index_or, OnOk};
+ghost use Rattle.std.specs.Prelude.{length, map, filter, true, not, nat_le, nat_lt, slice_index_or, fold, OnOk, OnErr};
 ghost use Rattle.std.specs.List.{list_all, flat_map};
 ghost use Rattle.dms_face_font.specs.Glyph.{lit_at, is_bit};
 ghost use Rattle.dms_face_font.specs.Font.{FontModel};
@@ -14,6 +14,7 @@ ghost use Rattle.dms_face_pages.specs.Drawing.{has_place, covered, is_in_picture
 ghost use Rattle.dms_face_pages.specs.Drawing.{is_lit_on_row, lit_cell, placed_above, lines_characters, Shows};
 ghost use Rattle.dms_face_pages.specs.StylingView.{style_of};
 ghost use Rattle.dms_face_pages.specs.Styled.{style, IsLitStyle, Lights};
+ghost use Rattle.dms_face_pages.specs.Styles.{with_character, with_line, has_style, has_styles, most_styles};
 
 use crate::cells::Cells;
 use crate::text_layout::{StyledGlyph, Styling, TextLine};
@@ -32,6 +33,37 @@ impl Styling<'_> {
             flash: self.flash,
         }
     }
+}
+
+/// Adds the styles of a line's characters to those of the cells.
+#[tactic(auto, using(crate::proofs::PageStyles::next_adds, crate::proofs::PageStyles::character_within))]
+fn add_line(cells: &mut Cells, characters: &[StyledGlyph<'_>]) -> Result<(), AllocError>
+    requires few { length (fold with_character cells.old.styles characters.now) ≤ most_styles }
+    ensures same { OnOk result (cells.new.cells ≡ cells.old.cells) }
+    ensures styles { OnOk result (cells.new.styles ≡ fold with_character cells.old.styles characters.now) }
+    ensures kept { OnOk result (cells.old.memory ≤ cells.new.memory) }
+    ensures memory { OnErr result
+        (cells.old.memory < length (fold with_character cells.old.styles characters.now)) }
+{
+    for character in characters {
+        cells.add_style(character.style.cell())?;
+    }
+    Ok(())
+}
+
+/// Adds the styles of all characters of these lines to those of the cells. There is no memory for them only where the
+/// list of styles has to grow.
+#[tactic(auto, using(crate::proofs::PageStyles::next_adds, crate::proofs::PageStyles::line_within))]
+pub(crate) fn add_lines(cells: &mut Cells, lines: &[TextLine<'_>]) -> Result<(), AllocError>
+    requires few { length (fold with_line cells.old.styles lines.now) ≤ most_styles }
+    ensures same { OnOk result (cells.new.cells ≡ cells.old.cells) }
+    ensures styles { OnOk result (cells.new.styles ≡ fold with_line cells.old.styles lines.now) }
+    ensures memory { OnErr result (cells.old.memory < length (fold with_line cells.old.styles lines.now)) }
+{
+    for line in lines {
+        add_line(cells, line.characters.as_slice())?;
+    }
+    Ok(())
 }
 
 /// The row without its bit of this column.
@@ -103,23 +135,18 @@ fn draw_row(
 }
 
 /// Draws a character with its left top corner in column x of line y.
-fn draw_character(
-    cells: &mut Cells,
-    face: &Face,
-    x: u32,
-    y: u32,
-    character: &StyledGlyph<'_>,
-) -> Result<(), AllocError>
-    requires { length cells.old.cells ≡ face.now.width * face.now.height }
-    ensures len { OnOk result (length cells.new.cells ≡ length cells.old.cells) }
-    ensures cells { OnOk result ((other : Cell) (place : ℕ) → place < length cells.old.cells
+fn draw_character(cells: &mut Cells, face: &Face, x: u32, y: u32, character: &StyledGlyph<'_>)
+    requires matrix { length cells.old.cells ≡ face.now.width * face.now.height }
+    requires style { has_style cells.old.styles character.now ≡ true }
+    ensures styles { cells.new.styles ≡ cells.old.styles }
+    ensures len { length cells.new.cells ≡ length cells.old.cells }
+    ensures cells { (other : Cell) (place : ℕ) → place < length cells.old.cells
         → slice_index_or cells.new.cells place other ≡ covered (is_lit_by (place % face.now.width)
         (place / face.now.width) (record { x = x; y = y; character = character.now })) (lit_cell character.now.style)
-        (slice_index_or cells.old.cells place other)) }
+        (slice_index_or cells.old.cells place other) }
 {
-    let number = cells.number_of(character.style.cell())?;
+    let number = cells.number_of(character.style.cell());
     draw_picture(cells, face, x, y, character.glyph, number);
-    Ok(())
 }
 
 /// Draws a picture with its left top corner in column x of line y.
@@ -239,14 +266,16 @@ fn draw_side(
     side: Place,
     first: u32,
     bottom: u32,
-) -> Result<(), AllocError>
+)
     requires matrix { length cells.old.cells ≡ face.now.width * face.now.height }
+    requires styles { list_all (has_style cells.old.styles) characters.now ≡ true }
     requires room { extent_at side (map character_block characters.now) ≤ 256 }
     requires first { first ≤ 256 }
-    ensures len { OnOk result (length cells.new.cells ≡ length cells.old.cells) }
-    ensures cells { OnOk result ((page : PageModel) (before : List PlacedCharacter)
+    ensures styles { cells.new.styles ≡ cells.old.styles }
+    ensures len { length cells.new.cells ≡ length cells.old.cells }
+    ensures cells { (page : PageModel) (before : List PlacedCharacter)
         → Shows face.now page before cells.old.cells → Shows face.now page (before ++ map (placed_above bottom)
-        (placed_from character_block first (filter (has_place character_block side) characters.now))) cells.new.cells) }
+        (placed_from character_block first (filter (has_place character_block side) characters.now))) cells.new.cells }
 {
     let mut run = Run::EMPTY;
     for character in characters {
@@ -257,55 +286,44 @@ fn draw_side(
         run = run.with(block);
         let x = first + run.size - u32::from(block.size);
         let y = bottom.saturating_sub(u32::from(character.style.font.height()));
-        draw_character(cells, face, x, y, character)?;
+        draw_character(cells, face, x, y, character);
     }
-    Ok(())
 }
 
 /// Draws a line with its top in this row.
-fn draw_line(
-    cells: &mut Cells,
-    face: &Face,
-    line: &TextLine<'_>,
-    top: u32,
-) -> Result<(), AllocError>
+fn draw_line(cells: &mut Cells, face: &Face, line: &TextLine<'_>, top: u32)
     requires matrix { length cells.old.cells ≡ face.now.width * face.now.height }
+    requires styles { has_styles cells.old.styles line.now ≡ true }
     requires room { characters_fit face.now line.now.characters ≡ true }
     requires top { top ≤ 1024 }
-    ensures len { OnOk result (length cells.new.cells ≡ length cells.old.cells) }
-    ensures cells { OnOk result
-        ((page : PageModel) (before : List PlacedCharacter) → Shows face.now page before cells.old.cells
-        → Shows face.now page (before ++ placed_in_line face.now (top, line.now)) cells.new.cells) }
+    ensures styles { cells.new.styles ≡ cells.old.styles }
+    ensures len { length cells.new.cells ≡ length cells.old.cells }
+    ensures cells { (page : PageModel) (before : List PlacedCharacter) → Shows face.now page before cells.old.cells
+        → Shows face.now page (before ++ placed_in_line face.now (top, line.now)) cells.new.cells }
 {
     let width = u32::from(face.width());
     let bottom = top + u32::from(line.height());
     let characters = line.characters.as_slice();
     let left = begin(Place::Start, width, extent(characters, Place::Start));
-    draw_side(cells, face, characters, Place::Start, left, bottom)?;
+    draw_side(cells, face, characters, Place::Start, left, bottom);
     let centre = begin(Place::Halfway, width, extent(characters, Place::Halfway));
-    draw_side(cells, face, characters, Place::Halfway, centre, bottom)?;
+    draw_side(cells, face, characters, Place::Halfway, centre, bottom);
     let right = begin(Place::End, width, extent(characters, Place::End));
-    draw_side(cells, face, characters, Place::End, right, bottom)?;
-    Ok(())
+    draw_side(cells, face, characters, Place::End, right, bottom);
 }
 
 /// Draws the lines at a place of their page, from this row on.
-fn draw_part(
-    cells: &mut Cells,
-    face: &Face,
-    lines: &[TextLine<'_>],
-    part: Place,
-    first: u32,
-) -> Result<(), AllocError>
+fn draw_part(cells: &mut Cells, face: &Face, lines: &[TextLine<'_>], part: Place, first: u32)
     requires matrix { length cells.old.cells ≡ face.now.width * face.now.height }
+    requires styles { list_all (has_styles cells.old.styles) lines.now ≡ true }
     requires lines { list_all (λ (line : Line). characters_fit face.now line.characters) lines.now ≡ true }
     requires room { extent_at part (map line_block lines.now) ≤ 256 }
     requires first { first ≤ 256 }
-    ensures len { OnOk result (length cells.new.cells ≡ length cells.old.cells) }
-    ensures cells { OnOk result
-        ((page : PageModel) (before : List PlacedCharacter) → Shows face.now page before cells.old.cells
+    ensures styles { cells.new.styles ≡ cells.old.styles }
+    ensures len { length cells.new.cells ≡ length cells.old.cells }
+    ensures cells { (page : PageModel) (before : List PlacedCharacter) → Shows face.now page before cells.old.cells
         → Shows face.now page (before ++ flat_map (placed_in_line face.now)
-        (placed_from line_block first (filter (has_place line_block part) lines.now))) cells.new.cells) }
+        (placed_from line_block first (filter (has_place line_block part) lines.now))) cells.new.cells }
 {
     let mut run = Run::EMPTY;
     for line in lines {
@@ -314,30 +332,24 @@ fn draw_part(
             continue;
         }
         run = run.with(block);
-        draw_line(cells, face, line, first + run.size - u32::from(block.size))?;
+        draw_line(cells, face, line, first + run.size - u32::from(block.size));
     }
-    Ok(())
 }
 
-/// Draws the lines of a page that fits.
-pub(crate) fn draw_lines(
-    cells: &mut Cells,
-    face: &Face,
-    lines: &[TextLine<'_>],
-) -> Result<(), AllocError>
+/// Draws the lines of a page that fits, in styles that the cells have already.
+pub(crate) fn draw_lines(cells: &mut Cells, face: &Face, lines: &[TextLine<'_>])
     requires matrix { length cells.old.cells ≡ face.now.width * face.now.height }
+    requires styles { list_all (has_styles cells.old.styles) lines.now ≡ true }
     requires room { page_fits face.now lines.now ≡ true }
-    ensures len { OnOk result (length cells.new.cells ≡ length cells.old.cells) }
-    ensures cells { OnOk result
-        ((page : PageModel) (before : List PlacedCharacter) → Shows face.now page before cells.old.cells
-        → Shows face.now page (before ++ lines_characters face.now lines.now) cells.new.cells) }
+    ensures len { length cells.new.cells ≡ length cells.old.cells }
+    ensures cells { (page : PageModel) (before : List PlacedCharacter) → Shows face.now page before cells.old.cells
+        → Shows face.now page (before ++ lines_characters face.now lines.now) cells.new.cells }
 {
     let height = u32::from(face.height());
     let top = begin(Place::Start, height, extent(lines, Place::Start));
-    draw_part(cells, face, lines, Place::Start, top)?;
+    draw_part(cells, face, lines, Place::Start, top);
     let middle = begin(Place::Halfway, height, extent(lines, Place::Halfway));
-    draw_part(cells, face, lines, Place::Halfway, middle)?;
+    draw_part(cells, face, lines, Place::Halfway, middle);
     let bottom = begin(Place::End, height, extent(lines, Place::End));
-    draw_part(cells, face, lines, Place::End, bottom)?;
-    Ok(())
+    draw_part(cells, face, lines, Place::End, bottom);
 }

@@ -6,9 +6,10 @@ ghost use Rattle.dms_face.specs.Layout.{PageModel};
 ghost use Rattle.dms_face.specs.Room.{page_fits};
 ghost use Rattle.dms_face.specs.Cells.{cell_of};
 ghost use Rattle.dms_face_pages.specs.Drawn.{DrawnPage, cell_at, drawn};
+ghost use Rattle.dms_face_pages.specs.Styles.{has_room_for_styles};
 
 use crate::cells::Cells;
-use crate::drawing::draw_lines;
+use crate::drawing::{add_lines, draw_lines};
 use crate::text_layout::TextPage;
 use dms_face::{Cell, Face};
 use std::alloc::{AllocError, Global};
@@ -47,12 +48,14 @@ impl Model for Page {
 impl Page {
     /// A page of lines that fit, drawn.
     pub(crate) fn drawn(alloc: Global, face: &Face, page: &TextPage<'_>) -> Result<Page, AllocError>
-        requires { page_fits face.now page.now.lines ≡ true }
+        requires fits { page_fits face.now page.now.lines ≡ true }
+        requires styles { has_room_for_styles page.now ≡ true }
         ensures { IfOk result (λ (made : DrawnPage). made ≡ drawn face.now page.now) }
     {
         let count = usize::from(face.width()) * usize::from(face.height());
         let mut cells = Cells::dark(alloc, page.background, count)?;
-        draw_lines(&mut cells, face, page.lines.as_slice())?;
+        add_lines(&mut cells, page.lines.as_slice())?;
+        draw_lines(&mut cells, face, page.lines.as_slice());
         Ok(Page {
             width: face.width(),
             height: face.height(),

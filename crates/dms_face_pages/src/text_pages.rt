@@ -1,6 +1,6 @@
 //! The pages of a text.
 
-ghost use Rattle.std.specs.Prelude.{◌≡◌, ◌≤◌, length, map, true, None, Err, IsTrue, IfOk};
+ghost use Rattle.std.specs.Prelude.{◌≡◌, ◌<◌, ◌≤◌, length, map, true, None, Err, IsTrue, IfOk, OnErr};
 ghost use Rattle.std.specs.List.{list_all};
 ghost use Rattle.dms_face_pages.specs.declared.text_pages.PagesFault.TheVariants.{Multi, Memory};
 ghost use Rattle.dms_codes.specs.Limits.{longest_text};
@@ -11,6 +11,7 @@ ghost use Rattle.dms_face.specs.Room.{page_fits};
 ghost use Rattle.dms_face.specs.Fit.{fault_of};
 ghost use Rattle.dms_face_pages.specs.Drawn.{drawn, drawn_text};
 ghost use Rattle.dms_face_pages.specs.DrawnView.{GivesPages};
+ghost use Rattle.dms_face_pages.specs.Styles.{has_room_for_styles};
 ghost use Rattle.dms_face_pages.specs.Laid.{GivesLaid};
 
 use crate::page::Page;
@@ -27,8 +28,7 @@ use std::fmt;
 pub enum PagesFault {
     /// The text's fault.
     Multi(MultiFault),
-    /// No memory for the pages, or no room for a page's styles: there is room for 255 that are lit, and no text has so
-    /// many.
+    /// No memory for the pages.
     Memory,
 }
 
@@ -126,10 +126,12 @@ fn laid_text<'a>(
     }
 }
 
-/// Pages of lines that fit, drawn.
+/// Pages of lines that fit, drawn. There is no memory for them only where there are some.
 fn drawn_pages(alloc: Global, face: &Face, laid: &[TextPage<'_>]) -> Result<Vec<Page>, AllocError>
-    requires { list_all (λ (page : PageModel). page_fits face.now page.lines) laid.now ≡ true }
-    ensures { IfOk result (λ pages. pages.items ≡ map (drawn face.now) laid.now) }
+    requires fit { list_all (λ (page : PageModel). page_fits face.now page.lines) laid.now ≡ true }
+    requires styles { list_all has_room_for_styles laid.now ≡ true }
+    ensures pages { IfOk result (λ pages. pages.items ≡ map (drawn face.now) laid.now) }
+    ensures memory { OnErr result (0 < length laid.now) }
 {
     let mut pages = Vec::new(alloc);
     for page in laid {

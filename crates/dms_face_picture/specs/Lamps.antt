@@ -1,13 +1,11 @@
 -- The lamps of a page as paths (Scalable Vector Graphics 1.1, paths; colours as MULTI numbers them, NTCIP 1203; their
 -- shades are this profile's). A lamp is a dot: the round ends of a line without length.
-use Rattle.std.specs.Prelude.{ℕ, ◌-◌, ◌==◌, ◌&&◌, Bool, true, false, not, if◌then◌else◌}
-use Rattle.std.specs.Prelude.{List, [], ◌∷◌, ◌++◌, codes, decimal, fold, Option, Some, None}
+use Rattle.std.specs.Prelude.{ℕ, ◌-◌, ◌==◌, ◌&&◌, Bool, not, if◌then◌else◌}
+use Rattle.std.specs.Prelude.{List, [], ◌∷◌, ◌++◌, codes, decimal, fold}
 use Rattle.std.specs.List.{flat_map, range_with_len, list_any}
-use Rattle.dms_multi.specs.declared.item.Lead.{Lead}
-use Rattle.dms_multi.specs.declared.item.Lead.TheVariants.{Lit, Dark}
-use Rattle.dms_face.specs.declared.cell.Flash.{Flash}
 use Rattle.dms_face.specs.declared.cell.Cell.{Cell}
 use Rattle.dms_face_pages.specs.Drawn.{DrawnPage, cell_at}
+use Rattle.dms_face_pages.specs.SameCells.{same_flash}
 
 -- the shade of a colour
 abbrev pub shade : ℕ → List ℕ
@@ -24,17 +22,6 @@ shade colour =
     else codes "#ffbf00"
 
 -- ---- which lamps
-
-abbrev pub same_lead : Lead → Lead → Bool
-same_lead Lit Lit = true
-same_lead Dark Dark = true
-same_lead _ _ = false
-
-abbrev pub same_flash : Option Flash → Option Flash → Bool
-same_flash None None = true
-same_flash (Some one) (Some other) =
-    same_lead one.first other.first && (one.lit == other.lit) && (one.dark == other.dark)
-same_flash _ _ = false
 
 -- the cell is lit in this colour with this flash
 abbrev pub shows : Cell → Cell → Bool

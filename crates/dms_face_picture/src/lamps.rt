@@ -2,7 +2,8 @@
 
 ghost use Rattle.std.specs.Prelude.{◌≡◌, ◌<◌, ◌++◌, fold, IfOk, OnOk};
 ghost use Rattle.std.specs.List.{flat_map, list_any, range_with_len};
-ghost use Rattle.dms_face_picture.specs.Lamps.{same_lead, same_flash, shows, lamp, lamps_of_row, lamps};
+ghost use Rattle.dms_face_pages.specs.SameCells.{same_lead, same_flash};
+ghost use Rattle.dms_face_picture.specs.Lamps.{shows, lamp, lamps_of_row, lamps};
 ghost use Rattle.dms_face_picture.specs.Lamps.{whole_row, whole_rows, with_cell, with_row, styles_of};
 
 use dms_face::{Cell, Flash};

@@ -20,4 +20,4 @@ returns-clause-cells c = λ page before shows.
     subst (λ l. Shows face page l c.draw_side-3.new.cells.cells)
     (line_is face c.args.top c.args.line.now characters c.begin-left.result c.begin-centre.result c.begin-right.result (c.args.top + c.from.result) before
     (c.as_slice-characters.ensures.value ∙ ap (λ (line : Line). line.characters) c.line.view_is) left centre right (ap (λ n. c.args.top + n) (c.from.ensures ∙ c.height.ensures)))
-    (c.in_ok-draw_side-3.ensures.cells page _ (c.in_ok-draw_side-2.ensures.cells page _ (c.in_ok-draw_side.ensures.cells page before shows)))
+    (c.draw_side-3.ensures.cells page _ (c.draw_side-2.ensures.cells page _ (c.draw_side.ensures.cells page before shows)))

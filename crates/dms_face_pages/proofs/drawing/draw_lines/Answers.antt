@@ -17,4 +17,4 @@ returns-clause-cells c = λ page before shows.
     let bottom : c.begin-bottom.result ≡ begin End face.height (extent_at End (map line_block lines)) =
     c.begin-bottom.ensures ∙ ap (λ n. begin End n c.extent-3.result) whole ∙ ap (begin End face.height) c.extent-3.ensures in
     subst (λ l. Shows face page l c.draw_part-3.new.cells.cells) (lines_are face lines c.begin-top.result c.begin-middle.result c.begin-bottom.result before top middle bottom)
-    (c.in_ok-draw_part-3.ensures.cells page _ (c.in_ok-draw_part-2.ensures.cells page _ (c.in_ok-draw_part.ensures.cells page before shows)))
+    (c.draw_part-3.ensures.cells page _ (c.draw_part-2.ensures.cells page _ (c.draw_part.ensures.cells page before shows)))

@@ -38,6 +38,7 @@ loop-line-preserved c =
       λ page before shows.
           subst (λ l. Shows face page l c.draw_line.new.cells.cells)
           (placed_more_of line_block c.args.part i xs x (placed_in_line face) c.args.first at before below is here at_is)
-          (c.in_ok-draw_line.ensures.cells page (before ++ flat_map (placed_in_line face) (placed_from line_block c.args.first (among line_block c.args.part i xs))) (c.loop-line.invariant.1 page before shows)),
-      c.in_ok-draw_line.ensures.len ∙ c.loop-line.invariant.2,
+          (c.draw_line.ensures.cells page (before ++ flat_map (placed_in_line face) (placed_from line_block c.args.first (among line_block c.args.part i xs))) (c.loop-line.invariant.1 page before shows)),
+      c.draw_line.ensures.len ∙ c.loop-line.invariant.2,
+      c.draw_line.ensures.styles ∙ c.loop-line.invariant.3,
     )

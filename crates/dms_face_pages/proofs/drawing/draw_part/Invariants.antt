@@ -14,3 +14,4 @@ invariant-loop-line l =
     × ((page : PageModel) (before : List PlacedCharacter) → Shows l.face page before l.fn.cells.cells
     → Shows l.face page (before ++ flat_map (placed_in_line l.face) (placed_from line_block l.first (among line_block l.part l.line-index l.lines))) l.cells.cells)
     × (length l.cells.cells ≡ length l.fn.cells.cells)
+    × (l.cells.styles ≡ l.fn.cells.styles)

@@ -6,7 +6,7 @@ use Rattle.dms_face.specs.Room.{is_at, extent, placed_from, character_block}
 use Rattle.dms_face.specs.Totals.{Sums}
 use Rattle.dms_face.specs.Cells.{PlacedCharacter, is_lit_by}
 use Rattle.dms_face_pages.specs.Drawing.{has_place, placed_above, covered, lit_cell, Shows}
-use Rattle.dms_face_pages.proofs.PlacingLaws.{among, front_extent, last_fits, sums_more_of, placed_more}
+use Rattle.dms_face_pages.proofs.PlacingLaws.{among, front_extent, last_fits, sums_more_of, placed_more, all_at}
 use Rattle.dms_face_pages.proofs.DrawingLaws.{shows_more}
 use Rattle.dms_face_pages.proofs.drawing.draw_side.Goals as goal
 
@@ -36,7 +36,7 @@ loop-character-preserved c =
     c.saturating_sub-y.ensures
     ∙ ap (λ n. c.args.bottom - n) (c.from-in-loop-character.ensures ∙ c.height.ensures.value ∙ ap (λ (it : Character). it.style.font.height) c.character.view_is) in
     let face = c.args.face.now in
-    let long : length c.draw_character.new.cells.cells ≡ length c.loop-character.cells.cells = c.in_ok-draw_character.ensures.len in (
+    let long : length c.draw_character.new.cells.cells ≡ length c.loop-character.cells.cells = c.draw_character.ensures.len in (
       sums_more_of character_block c.args.side i xs x c.with-run.result below is here own,
       λ page before shows.
           subst (λ l. Shows face page l c.draw_character.new.cells.cells)
@@ -44,11 +44,15 @@ loop-character-preserved c =
           (shows_more face page (before ++ map (placed_above c.args.bottom) (placed_from character_block c.args.first (among character_block c.args.side i xs)))
           (placed_above c.args.bottom (at, x)) c.loop-character.cells.cells c.draw_character.new.cells.cells long (c.loop-character.invariant.1 page before shows)
           (λ other place inside.
-          c.in_ok-draw_character.ensures.cells other place inside
+          c.draw_character.ensures.cells other place inside
           ∙ ap (λ y. covered (is_lit_by (place % face.width) (place / face.width) (let placed : PlacedCharacter = record { x = at; y = y; character = x } in placed)) (lit_cell x.style)
           (slice_index_or c.loop-character.cells.cells place other)) low)),
       long ∙ c.loop-character.invariant.2,
+      c.draw_character.ensures.styles ∙ c.loop-character.invariant.3,
     )
 
-pub draw_character-requires : goal.draw_character-requires
-draw_character-requires c = c.loop-character.invariant.2 ∙ c.requires.matrix
+pub draw_character-requires-clause-matrix : goal.draw_character-requires-clause-matrix
+draw_character-requires-clause-matrix c = c.loop-character.invariant.2 ∙ c.requires.matrix
+
+pub draw_character-requires-clause-style : goal.draw_character-requires-clause-style
+draw_character-requires-clause-style c = grind (arith, all_at)

@@ -13,3 +13,4 @@ invariant-loop-character l =
     × ((page : PageModel) (before : List PlacedCharacter) → Shows l.face page before l.fn.cells.cells
     → Shows l.face page (before ++ map (placed_above l.bottom) (placed_from character_block l.first (among character_block l.side l.character-index l.characters))) l.cells.cells)
     × (length l.cells.cells ≡ length l.fn.cells.cells)
+    × (l.cells.styles ≡ l.fn.cells.styles)
