@@ -86,7 +86,7 @@ BOUNDS = (
         8,
         "a call for each line with which a description begins",
         "crates/dms_sign_text/src/reasons.rt",
-        r"const HEAD: \[Form; (\d+)\] =",
+        r"const HEAD: \[DescriptionLine; (\d+)\] =",
         guards=(("crates/dms_sign_text/src/reasons.rt", "head_cause(alloc, &HEAD, Lines::of(octets))"),),
     ),
     Bound(

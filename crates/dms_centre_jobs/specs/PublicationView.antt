@@ -4,8 +4,8 @@ use Rattle.dms_codes.specs.declared.row_id.RowId.{RowId}
 use Rattle.dms_centre_jobs.specs.declared.publication.Terms.{Terms}
 use Rattle.dms_centre_jobs.specs.declared.publication.Attributes.{Attributes}
 use Rattle.dms_centre_jobs.specs.declared.publication.Publication.{Publication}
-use Rattle.dms_centre_jobs.specs.declared.command.Parts.{Parts}
-use Rattle.dms_centre_jobs.specs.declared.command.Parts.TheVariants as parts
+use Rattle.dms_centre_jobs.specs.declared.command.CommandParts.{CommandParts}
+use Rattle.dms_centre_jobs.specs.declared.command.CommandParts.TheVariants as parts
 use Rattle.dms_centre_jobs.specs.Job.{PublicationModel}
 use Rattle.dms_centre_jobs.specs.Commands.{CommandModel, Publish, Blank, Activate}
 
@@ -29,7 +29,7 @@ publication_model p = published p.row p.text.now p.owner.now p.attributes p.term
 
 -- ---- inside the crate
 
-abbrev pub parts_model : Parts → CommandModel
+abbrev pub parts_model : CommandParts → CommandModel
 parts_model (parts.Publish publication) = Publish (publication_model publication)
 parts_model (parts.Blank number terms) = Blank number terms.minutes terms.priority terms.address
 parts_model (parts.Activate code) = Activate code

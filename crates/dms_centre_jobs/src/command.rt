@@ -56,7 +56,7 @@ pub enum Command<'a> {
 
 /// A command by its parts.
 #[derive(Clone, Copy, Debug)]
-pub(crate) enum Parts<'a> {
+pub(crate) enum CommandParts<'a> {
     /// To write a message into a row, and to activate it.
     Publish(Publication<'a>),
     /// To activate the blank message of a number.
@@ -67,7 +67,7 @@ pub(crate) enum Parts<'a> {
 
 impl<'a> Command<'a> {
     /// Its parts.
-    pub(crate) fn parts(&self) -> Parts<'a>
+    pub(crate) fn parts(&self) -> CommandParts<'a>
         ensures { parts_model result ≡ command_model self.now }
     {
         match *self {
@@ -82,7 +82,7 @@ impl<'a> Command<'a> {
                 minutes,
                 priority,
                 address,
-            } => Parts::Publish(Publication {
+            } => CommandParts::Publish(Publication {
                 row: RowId { memory, number },
                 text,
                 owner,
@@ -108,9 +108,9 @@ impl<'a> Command<'a> {
                     priority,
                     address,
                 };
-                Parts::Blank(number, terms)
+                CommandParts::Blank(number, terms)
             }
-            Command::Activate(code) => Parts::Activate(code),
+            Command::Activate(code) => CommandParts::Activate(code),
         }
     }
 
@@ -119,9 +119,9 @@ impl<'a> Command<'a> {
         ensures { IsCommand (command_model self.now) }
     {
         match self.parts() {
-            Parts::Publish(publication) => publication.has_ranges(),
-            Parts::Blank(number, terms) => code_has_ranges(terms.blank_code(number)),
-            Parts::Activate(code) => code_has_ranges(code),
+            CommandParts::Publish(publication) => publication.has_ranges(),
+            CommandParts::Blank(number, terms) => code_has_ranges(terms.blank_code(number)),
+            CommandParts::Activate(code) => code_has_ranges(code),
         }
     }
 
@@ -130,9 +130,9 @@ impl<'a> Command<'a> {
         ensures { result ≡ is_good (command_model self.now) }
     {
         match self.parts() {
-            Parts::Publish(publication) => publication.is_good(),
-            Parts::Blank(number, _) => number > 0 && number <= LAST_BLANK,
-            Parts::Activate(_) => true,
+            CommandParts::Publish(publication) => publication.is_good(),
+            CommandParts::Blank(number, _) => number > 0 && number <= LAST_BLANK,
+            CommandParts::Activate(_) => true,
         }
     }
 

@@ -10,7 +10,7 @@ ghost use Rattle.dms_centre_jobs.specs.CodeView.{command_model, job_model};
 ghost use Rattle.dms_centre_jobs.specs.JobView.{HasItsChecksum};
 ghost use Rattle.dms_centre_jobs.specs.PublicationView.{publication_model};
 
-use crate::command::{Command, Parts};
+use crate::command::{Command, CommandParts};
 use crate::publication::{Attributes, Publication, Terms};
 use crate::step::Step;
 use arrayvec::ArrayVec;
@@ -140,9 +140,9 @@ impl Work {
         ensures { self.new ≡ (job_of (command_model command.now)).work }
     {
         match command.parts() {
-            Parts::Publish(publication) => self.publish(&publication),
-            Parts::Blank(number, terms) => self.show(terms.blank_code(number)),
-            Parts::Activate(code) => self.show(code),
+            CommandParts::Publish(publication) => self.publish(&publication),
+            CommandParts::Blank(number, terms) => self.show(terms.blank_code(number)),
+            CommandParts::Activate(code) => self.show(code),
         }
     }
 

@@ -1,9 +1,9 @@
 -- What the code's calls are (this profile).
-use Rattle.dms_centre_lines.specs.declared.reading.Call.{Call}
-use Rattle.dms_centre_lines.specs.declared.reading.Call.TheVariants as code
+use Rattle.dms_centre_lines.specs.declared.reading.PlainCall.{PlainCall}
+use Rattle.dms_centre_lines.specs.declared.reading.PlainCall.TheVariants as code
 use Rattle.dms_centre_lines.specs.Calls.{CentreCall, datagram, tick, restart, status, status_last}
 
-abbrev pub call_model : Call → CentreCall
+abbrev pub call_model : PlainCall → CentreCall
 call_model (code.Datagram octets) = datagram octets.items
 call_model code.Tick = tick
 call_model code.Restart = restart

@@ -11,7 +11,7 @@ ghost use Rattle.dms_centre_lines.specs.Answers.{sent_line};
 ghost use Rattle.dms_centre_lines.specs.CallReading.{or_command};
 ghost use Rattle.dms_centre_lines.specs.CodeView.{call_model};
 
-use crate::reading::{Call, plain_call};
+use crate::reading::{PlainCall, plain_call};
 use crate::status::{status, status_last};
 use crate::text::{put_sent, refused, room};
 use dms_centre::{Centre, Command};
@@ -48,17 +48,17 @@ pub fn answer(alloc: Global, centre: &mut Centre, line: &[u8]) -> Result<Vec<u8>
 }
 
 /// A call that is no command.
-fn answer_call(alloc: Global, centre: &mut Centre, call: Call) -> Result<Vec<u8>, AllocError>
+fn answer_call(alloc: Global, centre: &mut Centre, call: PlainCall) -> Result<Vec<u8>, AllocError>
     ensures text { IfOk result (λ text. text.items ≡ call_answer centre.old.state (Some (call_model call))) }
     ensures state { OnOk result (centre.new.state ≡ after_call centre.old.state (Some (call_model call))) }
     ensures unchanged { OnErr result (centre.new.state ≡ centre.old.state) }
 {
     match call {
-        Call::Datagram(octets) => receive(alloc, centre, octets.as_slice()),
-        Call::Tick => tick(alloc, centre),
-        Call::Restart => restart(alloc, centre),
-        Call::Status => status(alloc, centre),
-        Call::StatusLast => status_last(alloc, centre),
+        PlainCall::Datagram(octets) => receive(alloc, centre, octets.as_slice()),
+        PlainCall::Tick => tick(alloc, centre),
+        PlainCall::Restart => restart(alloc, centre),
+        PlainCall::Status => status(alloc, centre),
+        PlainCall::StatusLast => status_last(alloc, centre),
     }
 }
 

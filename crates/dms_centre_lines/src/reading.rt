@@ -12,7 +12,7 @@ use std::alloc::{AllocError, Global};
 
 /// What a line asks of a central system, but for an operator's commands.
 #[derive(Drop)]
-pub(crate) enum Call {
+pub(crate) enum PlainCall {
     /// A datagram reached it.
     Datagram(Vec<u8>),
     /// Its clock ticks.
@@ -28,7 +28,7 @@ pub(crate) enum Call {
 /// The call that a line spells, or none where it spells none; a command is none. Memory is asked for by a datagram
 /// alone, and not where its line is at fault.
 #[tactic(auto, unfolding(crate::specs::CallReading::plain_call_at), using(crate::proofs::CallMemory::of_datagram))]
-pub(crate) fn plain_call(alloc: Global, line: &[u8]) -> Result<Option<Call>, AllocError>
+pub(crate) fn plain_call(alloc: Global, line: &[u8]) -> Result<Option<PlainCall>, AllocError>
     ensures read { IfOk result (λ found. option_map call_model found ≡ plain_call_at (words_of line.now)) }
     ensures spelled { OnErr result (has_octets (plain_call_at (words_of line.now)) ≡ true) }
 {
@@ -36,11 +36,11 @@ pub(crate) fn plain_call(alloc: Global, line: &[u8]) -> Result<Option<Call>, All
         return Ok(None);
     };
     if are_same(word, b"datagram") {
-        Ok(last_octets(alloc, words)?.map(Call::Datagram))
+        Ok(last_octets(alloc, words)?.map(PlainCall::Datagram))
     } else if are_same(word, b"tick") {
-        Ok(alone(words, Call::Tick))
+        Ok(alone(words, PlainCall::Tick))
     } else if are_same(word, b"restart") {
-        Ok(alone(words, Call::Restart))
+        Ok(alone(words, PlainCall::Restart))
     } else if are_same(word, b"status") {
         Ok(status(words))
     } else {
@@ -50,11 +50,11 @@ pub(crate) fn plain_call(alloc: Global, line: &[u8]) -> Result<Option<Call>, All
 
 /// What stands after `status`: nothing, or `last` alone.
 #[tactic(auto, unfolding(crate::specs::CallReading::last_alone_at))]
-fn status(words: Words<'_>) -> Option<Call>
+fn status(words: Words<'_>) -> Option<PlainCall>
     ensures { option_map call_model result ≡ status_after words.entry }
 {
     if words.is_empty() {
-        return Some(Call::Status);
+        return Some(PlainCall::Status);
     }
-    alone(words.keyword(b"last")?, Call::StatusLast)
+    alone(words.keyword(b"last")?, PlainCall::StatusLast)
 }

@@ -19,12 +19,12 @@ use Rattle.dms_replay.specs.EventLine.{SpellsEventWords, SpellsEvent}
 use Rattle.dms_replay.specs.EventReading.{keyword_of, own_keyword, later_keyword, if_command, event_after, event_of}
 use Rattle.dms_replay.specs.EventView.{script_event_model}
 use Rattle.dms_replay.specs.declared.script_event.ScriptEvent.{ScriptEvent}
-use Rattle.dms_replay.specs.declared.keyword.Keyword.{Keyword}
-use Rattle.dms_replay.specs.declared.keyword.Keyword.TheVariants as key
+use Rattle.dms_replay.specs.declared.keyword.EventKeyword.{EventKeyword}
+use Rattle.dms_replay.specs.declared.keyword.EventKeyword.TheVariants as key
 
 -- ---- events
 
-abbrev keyword_text : Keyword → List ℕ
+abbrev keyword_text : EventKeyword → List ℕ
 keyword_text (key.Command asked) = command_text asked
 keyword_text key.SignTick = codes "sign-tick"
 keyword_text key.CentreTick = codes "centre-tick"
@@ -36,15 +36,15 @@ keyword_text key.CentreRestart = codes "centre-restart"
 keyword_text key.ForgeSign = codes "forge-sign"
 keyword_text key.ForgeCentre = codes "forge-centre"
 
-keyword_some : (keyword : Keyword) → 0 < length (keyword_text keyword)
+keyword_some : (keyword : EventKeyword) → 0 < length (keyword_text keyword)
 keyword_some (key.Command asked) = command_some asked
 keyword_some _ = omega arith
 
-keyword_only : (keyword : Keyword) → keyword_of (keyword_text keyword) ≡ Some keyword
+keyword_only : (keyword : EventKeyword) → keyword_of (keyword_text keyword) ≡ Some keyword
 unfolding keyword_of command_word
 keyword_only keyword = grind arith
 
-later_found : (word : List ℕ) (keyword : Keyword) → later_keyword word ≡ Some keyword → word ≡ keyword_text keyword
+later_found : (word : List ℕ) (keyword : EventKeyword) → later_keyword word ≡ Some keyword → word ≡ keyword_text keyword
 later_found word keyword e =
     by_text keyword_text word key.PowerLost keyword _ e λ e.
     by_text keyword_text word key.PowerBack keyword _ e λ e.
@@ -53,7 +53,7 @@ later_found word keyword e =
     by_text keyword_text word key.ForgeCentre keyword _ e λ e.
     absurd (none-some keyword e)
 
-own_found : (word : List ℕ) (keyword : Keyword) → own_keyword word ≡ Some keyword → word ≡ keyword_text keyword
+own_found : (word : List ℕ) (keyword : EventKeyword) → own_keyword word ≡ Some keyword → word ≡ keyword_text keyword
 own_found word keyword e =
     by_text keyword_text word key.SignTick keyword _ e λ e.
     by_text keyword_text word key.CentreTick keyword _ e λ e.
@@ -61,11 +61,11 @@ own_found word keyword e =
     by_text keyword_text word key.ToCentre keyword _ e λ e.
     later_found word keyword e
 
-keyword_found : (word : List ℕ) (keyword : Keyword) → keyword_of word ≡ Some keyword → word ≡ keyword_text keyword
+keyword_found : (word : List ℕ) (keyword : EventKeyword) → keyword_of word ≡ Some keyword → word ≡ keyword_text keyword
 unfolding keyword_of
 keyword_found word keyword e = by_command word keyword (command_word word) refl e
   where
-    by_command : (word : List ℕ) (keyword : Keyword) (asked : Option CommandWord) → command_word word ≡ asked → if_command asked word ≡ Some keyword → word ≡ keyword_text keyword
+    by_command : (word : List ℕ) (keyword : EventKeyword) (asked : Option CommandWord) → command_word word ≡ asked → if_command asked word ≡ Some keyword → word ≡ keyword_text keyword
     by_command word keyword (Some asked) is e = command_word_found word asked is ∙ ap keyword_text (same_Some _ _ e)
     by_command word keyword None is e = own_found word keyword e
 
@@ -75,7 +75,7 @@ bare_found order keyword bare event words e spelled =
     let end = last_found bare words event e in
     subst (λ event. SpellsEventWords order event (keyword ∷ words)) end.1 (subst (λ rest. SpellsEventWords order bare (keyword ∷ rest)) (sym end.0) spelled)
 
-after_found : (order : Order) (keyword : Keyword) (words : List (List ℕ)) (event : EventModel) → event_after order keyword words ≡ Some event
+after_found : (order : Order) (keyword : EventKeyword) (words : List (List ℕ)) (event : EventModel) → event_after order keyword words ≡ Some event
     → SpellsEventWords order event (keyword_text keyword ∷ words)
 after_found order (key.Command asked) words event e =
     let made = mapped_some _ _ _ e in subst (λ event. SpellsEventWords order event (command_text asked ∷ words)) made.2 (command_after_found order asked words made.0 made.1)
@@ -103,7 +103,7 @@ event_found order line event e =
     (word_found (words_of line) read.0 read.1).0 ∙ ap (λ word. word ∷ read.0.1) (keyword_found read.0.0 keyword.0 keyword.1) in
     subst (SpellsEventWords order event) (sym words) (after_found order keyword.0 read.0.1 event keyword.2)
 
-line_read : (order : Order) (keyword : Keyword) (line : List ℕ) (words : List (List ℕ)) → words_of line ≡ keyword_text keyword ∷ words
+line_read : (order : Order) (keyword : EventKeyword) (line : List ℕ) (words : List (List ℕ)) → words_of line ≡ keyword_text keyword ∷ words
     → event_of order line ≡ event_after order keyword words
 unfolding event_of
 line_read order keyword line words e =

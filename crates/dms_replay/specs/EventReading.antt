@@ -10,10 +10,10 @@ use Rattle.dms_text_forms.specs.FieldsReading.{if_last, last_number_at, last_oct
 use Rattle.dms_centre_text.specs.CommandReading.{command_word, command_after}
 use Rattle.dms_centre_text.specs.CommandReading as commands
 use Rattle.dms_centre_text.specs.declared.command_word.CommandWord.{CommandWord}
-use Rattle.dms_replay.specs.declared.keyword.Keyword.{Keyword}
-use Rattle.dms_replay.specs.declared.keyword.Keyword.TheVariants as key
+use Rattle.dms_replay.specs.declared.keyword.EventKeyword.{EventKeyword}
+use Rattle.dms_replay.specs.declared.keyword.EventKeyword.TheVariants as key
 
-abbrev pub later_keyword : List ℕ → Option Keyword
+abbrev pub later_keyword : List ℕ → Option EventKeyword
 later_keyword word =
     if same_octets word (codes "power-lost") then Some key.PowerLost
     else if same_octets word (codes "power-back") then Some key.PowerBack
@@ -22,7 +22,7 @@ later_keyword word =
     else if same_octets word (codes "forge-centre") then Some key.ForgeCentre
     else None
 
-abbrev pub own_keyword : List ℕ → Option Keyword
+abbrev pub own_keyword : List ℕ → Option EventKeyword
 own_keyword word =
     if same_octets word (codes "sign-tick") then Some key.SignTick
     else if same_octets word (codes "centre-tick") then Some key.CentreTick
@@ -30,16 +30,16 @@ own_keyword word =
     else if same_octets word (codes "to-centre") then Some key.ToCentre
     else later_keyword word
 
-abbrev pub if_command : Option CommandWord → List ℕ → Option Keyword
+abbrev pub if_command : Option CommandWord → List ℕ → Option EventKeyword
 if_command (Some asked) word = Some (key.Command asked)
 if_command None word = own_keyword word
 
 -- a command's word, or another one of a script
-unfoldable pub keyword_of : List ℕ → Option Keyword
+unfoldable pub keyword_of : List ℕ → Option EventKeyword
 keyword_of word = if_command (command_word word) word
 
 -- what stands after a keyword
-abbrev pub event_after : Order → Keyword → List (List ℕ) → Option EventModel
+abbrev pub event_after : Order → EventKeyword → List (List ℕ) → Option EventModel
 event_after order (key.Command asked) words = option_map command (command_after order asked words)
 event_after order key.SignTick words = if_last sign_tick words
 event_after order key.CentreTick words = if_last centre_tick words

@@ -7,14 +7,14 @@ use Rattle.dms_text.specs.Reading.{word_at, ◌>>=◌}
 use Rattle.dms_text_forms.specs.Form.{word_fault}
 use Rattle.dms_text_forms.specs.Texts.{fault_text}
 use Rattle.dms_text_forms.specs.declared.vocabulary.Keyword.TheVariants as keywords
-use Rattle.dms_text_forms.specs.declared.vocabulary.Name.TheVariants as names
+use Rattle.dms_text_forms.specs.declared.vocabulary.WordName.TheVariants as names
 use Rattle.dms_text_forms.specs.declared.wanted.Wanted.{Wanted}
 use Rattle.dms_text_forms.specs.declared.wanted.Wanted.TheVariants as wanted
 use Rattle.dms_sign_text_causes.specs.Texts.{cause_text}
 use Rattle.dms_sign_text.specs.Causes.{first_cause}
 use Rattle.dms_centre_text.specs.declared.command_word.CommandWord.TheVariants as asked
-use Rattle.dms_replay.specs.declared.keyword.Keyword.{Keyword}
-use Rattle.dms_replay.specs.declared.keyword.Keyword.TheVariants as key
+use Rattle.dms_replay.specs.declared.keyword.EventKeyword.{EventKeyword}
+use Rattle.dms_replay.specs.declared.keyword.EventKeyword.TheVariants as key
 use Rattle.dms_replay.specs.declared.reasons.EventCause.{EventCause}
 use Rattle.dms_replay.specs.declared.reasons.EventCause.TheVariants as event
 use Rattle.dms_replay.specs.declared.reasons.ScriptCause.{ScriptCause}
@@ -24,7 +24,7 @@ use Rattle.dms_replay.specs.EventReading.{keyword_of}
 -- ---- events
 
 -- what the words of an event's line are to be
-abbrev pub event_form : Keyword → List Wanted
+abbrev pub event_form : EventKeyword → List Wanted
 event_form (key.Command asked.Publish) = wanted.Keyword keywords.Publish ∷ wanted.Number 0 255 ∷ wanted.Number 0 65535
     ∷ wanted.Octets names.Text ∷ wanted.Octets names.Owner ∷ wanted.Number 0 255 ∷ wanted.Number 0 255
     ∷ wanted.Number 0 255 ∷ wanted.Number 0 65535 ∷ wanted.Number 0 255 ∷ wanted.Address ∷ []
@@ -41,7 +41,7 @@ event_form key.CentreRestart = wanted.Keyword keywords.CentreRestart ∷ []
 event_form key.ForgeSign = wanted.Keyword keywords.ForgeSign ∷ wanted.Octets names.Datagram ∷ []
 event_form key.ForgeCentre = wanted.Keyword keywords.ForgeCentre ∷ wanted.Octets names.Datagram ∷ []
 
-abbrev pub keyword_cause : List (List ℕ) → Option Keyword → Option EventCause
+abbrev pub keyword_cause : List (List ℕ) → Option EventKeyword → Option EventCause
 keyword_cause words None = Some event.Keyword
 keyword_cause words (Some keyword) = option_map event.Word (word_fault (event_form keyword) words)
 

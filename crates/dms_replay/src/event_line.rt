@@ -7,7 +7,7 @@ ghost use Rattle.dms_text_forms.specs.FieldsReading.{if_last};
 ghost use Rattle.dms_replay.specs.EventReading.{event_of, has_octets};
 ghost use Rattle.dms_replay.specs.EventView.{script_event_model};
 
-use crate::keyword::Keyword;
+use crate::keyword::EventKeyword;
 use crate::script_event::ScriptEvent;
 use dms_centre_text::command_after;
 use dms_codes::Order;
@@ -40,22 +40,22 @@ pub fn read_event(
     let Some((word, words)) = Words::of(line).next_word() else {
         return Ok(None);
     };
-    let Some(keyword) = Keyword::of(word) else {
+    let Some(keyword) = EventKeyword::of(word) else {
         return Ok(None);
     };
     match keyword {
-        Keyword::Command(asked) => {
+        EventKeyword::Command(asked) => {
             Ok(command_after(alloc, order, asked, words)?.map(ScriptEvent::Command))
         }
-        Keyword::SignTick => Ok(alone(words, ScriptEvent::SignTick)),
-        Keyword::CentreTick => Ok(alone(words, ScriptEvent::CentreTick)),
-        Keyword::ToSign => Ok(last_number(words).map(ScriptEvent::ToSign)),
-        Keyword::ToCentre => Ok(last_number(words).map(ScriptEvent::ToCentre)),
-        Keyword::PowerLost => Ok(alone(words, ScriptEvent::PowerLost)),
-        Keyword::PowerBack => Ok(last_number(words).map(ScriptEvent::PowerBack)),
-        Keyword::CentreRestart => Ok(alone(words, ScriptEvent::CentreRestart)),
-        Keyword::ForgeSign => Ok(last_octets(alloc, words)?.map(ScriptEvent::ForgeSign)),
-        Keyword::ForgeCentre => Ok(last_octets(alloc, words)?.map(ScriptEvent::ForgeCentre)),
+        EventKeyword::SignTick => Ok(alone(words, ScriptEvent::SignTick)),
+        EventKeyword::CentreTick => Ok(alone(words, ScriptEvent::CentreTick)),
+        EventKeyword::ToSign => Ok(last_number(words).map(ScriptEvent::ToSign)),
+        EventKeyword::ToCentre => Ok(last_number(words).map(ScriptEvent::ToCentre)),
+        EventKeyword::PowerLost => Ok(alone(words, ScriptEvent::PowerLost)),
+        EventKeyword::PowerBack => Ok(last_number(words).map(ScriptEvent::PowerBack)),
+        EventKeyword::CentreRestart => Ok(alone(words, ScriptEvent::CentreRestart)),
+        EventKeyword::ForgeSign => Ok(last_octets(alloc, words)?.map(ScriptEvent::ForgeSign)),
+        EventKeyword::ForgeCentre => Ok(last_octets(alloc, words)?.map(ScriptEvent::ForgeCentre)),
     }
 }
 

@@ -5,7 +5,7 @@ use dms_text::are_same;
 
 /// The word with which an event's line begins.
 #[derive(Clone, Copy, Debug, PartialEq, Eq)]
-pub enum Keyword {
+pub enum EventKeyword {
     /// The word of a command.
     Command(CommandWord),
     SignTick,
@@ -19,51 +19,51 @@ pub enum Keyword {
     ForgeCentre,
 }
 
-impl Keyword {
+impl EventKeyword {
     ghost use Rattle.std.specs.Prelude.{◌≡◌};
     ghost use Rattle.dms_replay.specs.EventReading.{keyword_of, own_keyword, later_keyword};
 
     /// The keyword that a word is, if any.
     #[tactic(auto, unfolding(crate::specs::EventReading::keyword_of))]
-    pub fn of(word: &[u8]) -> Option<Keyword>
+    pub fn of(word: &[u8]) -> Option<EventKeyword>
         ensures { result ≡ keyword_of word.now }
     {
         match CommandWord::of(word) {
-            Some(asked) => Some(Keyword::Command(asked)),
-            None => Keyword::own(word),
+            Some(asked) => Some(EventKeyword::Command(asked)),
+            None => EventKeyword::own(word),
         }
     }
 
     /// A keyword that begins no command.
-    fn own(word: &[u8]) -> Option<Keyword>
+    fn own(word: &[u8]) -> Option<EventKeyword>
         ensures { result ≡ own_keyword word.now }
     {
         if are_same(word, b"sign-tick") {
-            Some(Keyword::SignTick)
+            Some(EventKeyword::SignTick)
         } else if are_same(word, b"centre-tick") {
-            Some(Keyword::CentreTick)
+            Some(EventKeyword::CentreTick)
         } else if are_same(word, b"to-sign") {
-            Some(Keyword::ToSign)
+            Some(EventKeyword::ToSign)
         } else if are_same(word, b"to-centre") {
-            Some(Keyword::ToCentre)
+            Some(EventKeyword::ToCentre)
         } else {
-            Keyword::later(word)
+            EventKeyword::later(word)
         }
     }
 
-    fn later(word: &[u8]) -> Option<Keyword>
+    fn later(word: &[u8]) -> Option<EventKeyword>
         ensures { result ≡ later_keyword word.now }
     {
         if are_same(word, b"power-lost") {
-            Some(Keyword::PowerLost)
+            Some(EventKeyword::PowerLost)
         } else if are_same(word, b"power-back") {
-            Some(Keyword::PowerBack)
+            Some(EventKeyword::PowerBack)
         } else if are_same(word, b"centre-restart") {
-            Some(Keyword::CentreRestart)
+            Some(EventKeyword::CentreRestart)
         } else if are_same(word, b"forge-sign") {
-            Some(Keyword::ForgeSign)
+            Some(EventKeyword::ForgeSign)
         } else if are_same(word, b"forge-centre") {
-            Some(Keyword::ForgeCentre)
+            Some(EventKeyword::ForgeCentre)
         } else {
             None
         }

@@ -8,13 +8,13 @@ ghost use Rattle.dms_replay.specs.Replayed.{NoScript};
 ghost use Rattle.dms_replay.specs.Reasons.{event_form, event_cause, line_numbered, line_found, event_cause_at};
 ghost use Rattle.dms_replay.specs.Reasons.{IsCauseOf};
 
-use crate::keyword::Keyword;
+use crate::keyword::EventKeyword;
 use crate::script::{named_sign, read_script};
 use dms_centre_text::CommandWord;
 use dms_sign_text::{ReplayFault, first_cause};
-use dms_sign_text_causes::Cause;
+use dms_sign_text_causes::LineCause;
 use dms_text::{Lines, Words};
-use dms_text_forms::{Name, Wanted, WordFault, word_fault};
+use dms_text_forms::{Wanted, WordFault, WordName, word_fault};
 use std::alloc::{AllocError, Global};
 use std::fmt;
 
@@ -31,7 +31,7 @@ pub enum EventCause {
 #[derive(Clone, Copy, Debug, PartialEq, Eq)]
 pub enum ScriptCause {
     /// It is a line of the sign's description.
-    Sign(Cause),
+    Sign(LineCause),
     /// It is no event.
     Event(EventCause),
 }
@@ -120,23 +120,23 @@ fn event_cause(line: &[u8]) -> Option<EventCause>
     let Some((word, _)) = Words::of(line).next_word() else {
         return Some(EventCause::Keyword);
     };
-    match Keyword::of(word) {
+    match EventKeyword::of(word) {
         Some(keyword) => word_fault(event_form(keyword), line).map(EventCause::Word),
         None => Some(EventCause::Keyword),
     }
 }
 
 /// What the words of an event's line are to be.
-fn event_form(keyword: Keyword) -> &'static [Wanted]
+fn event_form(keyword: EventKeyword) -> &'static [Wanted]
     ensures { result.now ≡ event_form keyword }
 {
     match keyword {
-        Keyword::Command(CommandWord::Publish) => &[
+        EventKeyword::Command(CommandWord::Publish) => &[
             Wanted::Keyword(dms_text_forms::Keyword::Publish),
             Wanted::Number(0, 255),
             Wanted::Number(0, 65535),
-            Wanted::Octets(Name::Text),
-            Wanted::Octets(Name::Owner),
+            Wanted::Octets(WordName::Text),
+            Wanted::Octets(WordName::Owner),
             Wanted::Number(0, 255),
             Wanted::Number(0, 255),
             Wanted::Number(0, 255),
@@ -144,42 +144,42 @@ fn event_form(keyword: Keyword) -> &'static [Wanted]
             Wanted::Number(0, 255),
             Wanted::Address,
         ],
-        Keyword::Command(CommandWord::Blank) => &[
+        EventKeyword::Command(CommandWord::Blank) => &[
             Wanted::Keyword(dms_text_forms::Keyword::Blank),
             Wanted::Number(0, 65535),
             Wanted::Number(0, 65535),
             Wanted::Number(0, 255),
             Wanted::Address,
         ],
-        Keyword::Command(CommandWord::Activate) => {
+        EventKeyword::Command(CommandWord::Activate) => {
             &[
                 Wanted::Keyword(dms_text_forms::Keyword::Activate),
                 Wanted::Code,
             ]
         }
-        Keyword::SignTick => &[Wanted::Keyword(dms_text_forms::Keyword::SignTick)],
-        Keyword::CentreTick => &[Wanted::Keyword(dms_text_forms::Keyword::CentreTick)],
-        Keyword::ToSign => &[
+        EventKeyword::SignTick => &[Wanted::Keyword(dms_text_forms::Keyword::SignTick)],
+        EventKeyword::CentreTick => &[Wanted::Keyword(dms_text_forms::Keyword::CentreTick)],
+        EventKeyword::ToSign => &[
             Wanted::Keyword(dms_text_forms::Keyword::ToSign),
             Wanted::FourOctets,
         ],
-        Keyword::ToCentre => &[
+        EventKeyword::ToCentre => &[
             Wanted::Keyword(dms_text_forms::Keyword::ToCentre),
             Wanted::FourOctets,
         ],
-        Keyword::PowerLost => &[Wanted::Keyword(dms_text_forms::Keyword::PowerLost)],
-        Keyword::PowerBack => &[
+        EventKeyword::PowerLost => &[Wanted::Keyword(dms_text_forms::Keyword::PowerLost)],
+        EventKeyword::PowerBack => &[
             Wanted::Keyword(dms_text_forms::Keyword::PowerBack),
             Wanted::FourOctets,
         ],
-        Keyword::CentreRestart => &[Wanted::Keyword(dms_text_forms::Keyword::CentreRestart)],
-        Keyword::ForgeSign => &[
+        EventKeyword::CentreRestart => &[Wanted::Keyword(dms_text_forms::Keyword::CentreRestart)],
+        EventKeyword::ForgeSign => &[
             Wanted::Keyword(dms_text_forms::Keyword::ForgeSign),
-            Wanted::Octets(Name::Datagram),
+            Wanted::Octets(WordName::Datagram),
         ],
-        Keyword::ForgeCentre => &[
+        EventKeyword::ForgeCentre => &[
             Wanted::Keyword(dms_text_forms::Keyword::ForgeCentre),
-            Wanted::Octets(Name::Datagram),
+            Wanted::Octets(WordName::Datagram),
         ],
     }
 }

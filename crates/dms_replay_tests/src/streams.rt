@@ -46,7 +46,7 @@ impl Source for Slow<'_> {
 
 /// How a writer refuses octets.
 #[derive(Clone, Copy, Debug, PartialEq, Eq)]
-enum Refusal {
+enum WriteRefusal {
     /// The call fails.
     Fails,
     /// It takes none of them.
@@ -59,7 +59,7 @@ struct Narrow {
     octets: Vec<u8>,
     piece: usize,
     calls: usize,
-    refusal: Refusal,
+    refusal: WriteRefusal,
     failed: u64,
 }
 
@@ -82,8 +82,8 @@ impl Sink for Narrow {
         }
         self.failed = self.failed.saturating_add(1);
         match self.refusal {
-            Refusal::Fails => Err(Failed),
-            Refusal::TakesNone => Ok(0),
+            WriteRefusal::Fails => Err(Failed),
+            WriteRefusal::TakesNone => Ok(0),
         }
     }
 
@@ -113,7 +113,7 @@ fn reader_of(text: &str, padding: usize, piece: usize, calls: usize) -> Slow<'_>
     }
 }
 
-fn writer_of(alloc: Global, piece: usize, calls: usize, refusal: Refusal) -> Narrow {
+fn writer_of(alloc: Global, piece: usize, calls: usize, refusal: WriteRefusal) -> Narrow {
     Narrow {
         octets: Vec::new(alloc),
         piece,
@@ -127,7 +127,7 @@ fn writer_of(alloc: Global, piece: usize, calls: usize, refusal: Refusal) -> Nar
 fn replayed(
     mut reader: Slow<'_>,
     alloc: Global,
-    (piece, calls, refusal): (usize, usize, Refusal),
+    (piece, calls, refusal): (usize, usize, WriteRefusal),
     written: &[u8],
 ) -> (Result<(), ReplayFault>, u64, u64, bool) {
     let mut writer = writer_of(alloc, piece, calls, refusal);
@@ -141,7 +141,7 @@ fn replayed(
 }
 
 /// A writer that takes all.
-const WIDE: (usize, usize, Refusal) = (4096, 4096, Refusal::Fails);
+const WIDE: (usize, usize, WriteRefusal) = (4096, 4096, WriteRefusal::Fails);
 
 /// The script is replayed from a reader that fails at each call in turn: nothing is written but where it gave all, the
 /// last call included that gives nothing.
@@ -167,12 +167,12 @@ fn reader_fails_at_each_call(rt: HostRuntime) {
 #[test]
 fn writer_fails_at_each_call(rt: HostRuntime) {
     for (piece, refusal) in [
-        (1, Refusal::Fails),
-        (1, Refusal::TakesNone),
-        (10, Refusal::Fails),
-        (10, Refusal::TakesNone),
-        (4096, Refusal::Fails),
-        (4096, Refusal::TakesNone),
+        (1, WriteRefusal::Fails),
+        (1, WriteRefusal::TakesNone),
+        (10, WriteRefusal::Fails),
+        (10, WriteRefusal::TakesNone),
+        (4096, WriteRefusal::Fails),
+        (4096, WriteRefusal::TakesNone),
     ] {
         let pieces = REPORT.len().div_ceil(piece);
         for calls in 0..=pieces {

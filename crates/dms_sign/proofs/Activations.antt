@@ -8,7 +8,7 @@ use Rattle.dms_codes.specs.Codes.{activation_of}
 use Rattle.dms_table.specs.declared.activation.Cause.{Cause}
 use Rattle.dms_table.specs.Activation.{ShownModel, shown_by, refusal, unless_refused}
 use Rattle.dms_table.proofs.Decisions.{refused_decision}
-use Rattle.dms_sign_access.specs.declared.settings.Settings.{Settings}
+use Rattle.dms_sign_access.specs.declared.settings.SignSettings.{SignSettings}
 use Rattle.dms_sign_access.specs.Access.{Activate}
 use Rattle.dms_sign_access.specs.Reports.{IsCauseInRange}
 use Rattle.dms_sign.specs.State.{SignState}
@@ -19,7 +19,7 @@ use Rattle.dms_sign.specs.SetView.{AreSettings}
 use Rattle.dms_sign.proofs.Assigned.{accepted_new, accepted_shown, refused_cause, activation_answer}
 
 -- the settings are those that the bindings leave
-abbrev pub AreLeft : Settings → List VarBind → SignState → Type 0
+abbrev pub AreLeft : SignSettings → List VarBind → SignState → Type 0
 AreLeft settings bindings s = AreSettings settings (assigned s (writes_of s bindings))
 
 -- what is shown once the values are assigned and the code is accepted
@@ -36,7 +36,7 @@ IsDecided s bindings index octets decision =
 
 -- ---- a code that is accepted
 
-pub accepted_in_range : {A : Type 0} (a : A) (s now : SignState) (bindings : List VarBind) (settings : Settings) (octets : List ℕ) (code : Activation)
+pub accepted_in_range : {A : Type 0} (a : A) (s now : SignState) (bindings : List VarBind) (settings : SignSettings) (octets : List ℕ) (code : Activation)
     → s ≡ now → AreLeft settings bindings now → code ≡ activation_of s.table.order octets
     → Ok a ≡ unless_refused a (refusal s.config.face settings.defaults s.table s.shown code)
     → IsSignInRange s → AreBindingsInLimits bindings → AreOctets 12 octets → IsShownInRange (shown_after now bindings code)
@@ -46,7 +46,7 @@ accepted_in_range a s now bindings settings octets code view are is ok range wit
     (accepted_shown s bindings settings octets code _ range within left is twelve
     (accepted_new a s (writes_of s bindings) settings octets code left is ok))
 
-pub accepted_answer : {A : Type 0} (a : A) (s now : SignState) (bindings : List VarBind) (settings : Settings) (octets : List ℕ) (code : Activation)
+pub accepted_answer : {A : Type 0} (a : A) (s now : SignState) (bindings : List VarBind) (settings : SignSettings) (octets : List ℕ) (code : Activation)
     → s ≡ now → AreLeft settings bindings now → code ≡ activation_of s.table.order octets
     → Ok a ≡ unless_refused a (refusal s.config.face settings.defaults s.table s.shown code)
     → (index : ℕ) → IsDecided now bindings index octets (Ok (shown_after now bindings code))
@@ -58,7 +58,7 @@ accepted_answer a s now bindings settings octets code view are is ok index =
 
 -- ---- a code that is refused
 
-pub refused_in_range : {A : Type 0} (a : A) (s now : SignState) (bindings : List VarBind) (settings : Settings) (octets : List ℕ) (code : Activation)
+pub refused_in_range : {A : Type 0} (a : A) (s now : SignState) (bindings : List VarBind) (settings : SignSettings) (octets : List ℕ) (code : Activation)
     (cause : Cause) → s ≡ now → AreLeft settings bindings now → code ≡ activation_of s.table.order octets
     → Err cause ≡ unless_refused a (refusal s.config.face settings.defaults s.table s.shown code)
     → IsSignInRange s → AreBindingsInLimits bindings → AreOctets 12 octets → IsCauseInRange cause
@@ -67,7 +67,7 @@ refused_in_range a s now bindings settings octets code cause view are is err ran
     refused_cause s bindings settings octets code cause range within left is twelve
     (refused_decision a s.config.face settings.defaults s.table s.shown code cause err)
 
-pub refused_answer : {A : Type 0} (a : A) (s now : SignState) (bindings : List VarBind) (settings : Settings) (octets : List ℕ) (code : Activation)
+pub refused_answer : {A : Type 0} (a : A) (s now : SignState) (bindings : List VarBind) (settings : SignSettings) (octets : List ℕ) (code : Activation)
     (cause : Cause) → s ≡ now → AreLeft settings bindings now → code ≡ activation_of s.table.order octets
     → Err cause ≡ unless_refused a (refusal s.config.face settings.defaults s.table s.shown code)
     → (index : ℕ) → IsDecided now bindings index octets (Err cause)

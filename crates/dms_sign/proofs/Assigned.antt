@@ -20,7 +20,7 @@ use Rattle.dms_table.specs.declared.row.Refused.{Refused}
 use Rattle.dms_table.specs.declared.activation.Cause.{Cause}
 use Rattle.dms_table.specs.Rows.{TableModel, asked}
 use Rattle.dms_table.specs.Activation.{ShownModel, shown_by, refusal, unless_refused, decided}
-use Rattle.dms_sign_access.specs.declared.settings.Settings.{Settings}
+use Rattle.dms_sign_access.specs.declared.settings.SignSettings.{SignSettings}
 use Rattle.dms_sign_access.specs.declared.reports.Reports.{Reports}
 use Rattle.dms_sign.specs.declared.sign.Sign.TheInside.{Inside}
 use Rattle.dms_sign.specs.Communities.{are_communities}
@@ -48,14 +48,14 @@ use Rattle.dms_sign.proofs.Writes.{writes_like, asked_alike, decided_alike}
 
 -- ---- settings
 
-pub set_by_is : (settings : Settings) (s : SignState) (ws : List Write) → AreSettings settings s → AreSettings (set_by settings ws) (assigned s ws)
+pub set_by_is : (settings : SignSettings) (s : SignState) (ws : List Write) → AreSettings settings s → AreSettings (set_by settings ws) (assigned s ws)
 unfolding set_by assigned
 set_by_is settings s ws is = grind arith
 
-pub judged_settings : (old : Inside) (settings : Settings) (ws : List Write) → settings ≡ set_by old.settings ws → AreSettings settings (assigned (state_of old) ws)
+pub judged_settings : (old : Inside) (settings : SignSettings) (ws : List Write) → settings ≡ set_by old.settings ws → AreSettings settings (assigned (state_of old) ws)
 judged_settings old settings ws e = grind (arith, set_by_is)
 
-pub state_assigned : (old : Inside) (ws : List Write) (settings : Settings) (table : TableModel) → table ≡ with_writes old.table ws
+pub state_assigned : (old : Inside) (ws : List Write) (settings : SignSettings) (table : TableModel) → table ≡ with_writes old.table ws
     → AreSettings settings (assigned (state_of old) ws) → state_of (record old { table = table; settings = settings }) ≡ assigned (state_of old) ws
 unfolding assigned
 state_assigned old ws settings table t is = grind arith
@@ -64,7 +64,7 @@ assigned_config : (s : SignState) (ws : List Write) → (assigned s ws).config �
 unfolding assigned
 assigned_config s ws = refl
 
-pub assigned_whole : (old : Inside) (bindings : List VarBind) (settings : Settings) (table : TableModel) → IsWhole old → AreBindingsInLimits bindings
+pub assigned_whole : (old : Inside) (bindings : List VarBind) (settings : SignSettings) (table : TableModel) → IsWhole old → AreBindingsInLimits bindings
     → table ≡ with_writes old.table (writes_of (state_of old) bindings) → AreSettings settings (assigned (state_of old) (writes_of (state_of old) bindings))
     → IsWhole (record old { table = table; settings = settings })
 assigned_whole old bindings settings table is within t are =
@@ -113,7 +113,7 @@ pub accepted_whole : (old : Inside) (shown : ShownModel) (source octets : List �
     → IsWhole (record old { shown = shown; source = source; reports = reports })
 accepted_whole old shown source octets reports is range twelve s r = grind arith
 
-pub decided_new : (s : SignState) (ws : List Write) (settings : Settings) (octets : List ℕ) (code : Activation) → AreSettings settings (assigned s ws)
+pub decided_new : (s : SignState) (ws : List Write) (settings : SignSettings) (octets : List ℕ) (code : Activation) → AreSettings settings (assigned s ws)
     → code ≡ activation_of s.table.order octets
     → decided s.config.face settings.defaults s.table s.shown code
     ≡ decided (assigned s ws).config.face (assigned s ws).defaults (assigned s ws).table (assigned s ws).shown (activation_of s.table.order octets)
@@ -124,7 +124,7 @@ decided_new s ws settings octets code is c =
     ∙ ap (decided s.config.face _ (with_writes s.table ws) s.shown) c
 
 -- a code that is let pass before the values are assigned puts up what is there after it
-pub accepted_new : {A : Type 0} (a : A) (s : SignState) (ws : List Write) (settings : Settings) (octets : List ℕ) (code : Activation)
+pub accepted_new : {A : Type 0} (a : A) (s : SignState) (ws : List Write) (settings : SignSettings) (octets : List ℕ) (code : Activation)
     → AreSettings settings (assigned s ws) → code ≡ activation_of s.table.order octets
     → Ok a ≡ unless_refused a (refusal s.config.face settings.defaults s.table s.shown code)
     → Ok (shown_by (assigned s ws).defaults (assigned s ws).table (assigned s ws).shown code) ≡ decided s.config.face settings.defaults s.table s.shown code
@@ -141,11 +141,11 @@ fit_of : (s : SignState) (ws : List Write) → HasFitDefaults (assigned s ws) �
 unfolding assigned
 fit_of s ws is = is
 
-pub fit_new : (s : SignState) (bindings : List VarBind) (settings : Settings) → HasFitDefaults s → AreSettings settings (assigned s (writes_of s bindings))
+pub fit_new : (s : SignState) (bindings : List VarBind) (settings : SignSettings) → HasFitDefaults s → AreSettings settings (assigned s (writes_of s bindings))
     → IsTrue (fit s.config.face.fonts settings.defaults)
 fit_new s bindings settings is are = grind (arith, fit_of, assigned_fit, writes_fit)
 
-decision_new : (s : SignState) (bindings : List VarBind) (settings : Settings) (octets : List ℕ) (code : Activation) → IsSignInRange s → AreBindingsInLimits bindings
+decision_new : (s : SignState) (bindings : List VarBind) (settings : SignSettings) (octets : List ℕ) (code : Activation) → IsSignInRange s → AreBindingsInLimits bindings
     → AreSettings settings (assigned s (writes_of s bindings)) → code ≡ activation_of s.table.order octets → AreOctets 12 octets
     → IsDecisionInRange (decided s.config.face settings.defaults s.table s.shown code)
 decision_new s bindings settings octets code is within are c twelve =
@@ -156,19 +156,19 @@ decision_new s bindings settings octets code is within are c twelve =
     (decided_in_range new.config.face new.defaults new.table new.shown (activation_of s.table.order octets) range.defaults range.table range.shown
     (activation_is s.table.order octets twelve.below))
 
-pub accepted_shown : (s : SignState) (bindings : List VarBind) (settings : Settings) (octets : List ℕ) (code : Activation) (shown : ShownModel) → IsSignInRange s
+pub accepted_shown : (s : SignState) (bindings : List VarBind) (settings : SignSettings) (octets : List ℕ) (code : Activation) (shown : ShownModel) → IsSignInRange s
     → AreBindingsInLimits bindings → AreSettings settings (assigned s (writes_of s bindings)) → code ≡ activation_of s.table.order octets → AreOctets 12 octets
     → Ok shown ≡ decided s.config.face settings.defaults s.table s.shown code → IsShownInRange shown
 accepted_shown s bindings settings octets code shown is within are c twelve ok =
     subst IsDecisionInRange (sym ok) (decision_new s bindings settings octets code is within are c twelve)
 
-pub refused_cause : (s : SignState) (bindings : List VarBind) (settings : Settings) (octets : List ℕ) (code : Activation) (cause : Cause) → IsSignInRange s
+pub refused_cause : (s : SignState) (bindings : List VarBind) (settings : SignSettings) (octets : List ℕ) (code : Activation) (cause : Cause) → IsSignInRange s
     → AreBindingsInLimits bindings → AreSettings settings (assigned s (writes_of s bindings)) → code ≡ activation_of s.table.order octets → AreOctets 12 octets
     → Err cause ≡ decided s.config.face settings.defaults s.table s.shown code → IsCauseInRange cause
 refused_cause s bindings settings octets code cause is within are c twelve err =
     subst IsDecisionInRange (sym err) (decision_new s bindings settings octets code is within are c twelve)
 
-pub activation_answer : (s : SignState) (ws : List Write) (bindings : List VarBind) (index : ℕ) (settings : Settings) (octets : List ℕ) (code : Activation)
+pub activation_answer : (s : SignState) (ws : List Write) (bindings : List VarBind) (index : ℕ) (settings : SignSettings) (octets : List ℕ) (code : Activation)
     (r : Result ShownModel Cause) → AreSettings settings (assigned s ws) → code ≡ activation_of s.table.order octets
     → r ≡ decided s.config.face settings.defaults s.table s.shown code
     → commanded s (assigned s ws) bindings index (Activate octets) ≡ as_decided s (assigned s ws) bindings index octets r

@@ -8,7 +8,7 @@ use Rattle.std.proofs.lemmas.Bool.{or_parts}
 use Rattle.dms_wire.specs.Message.{VarBind}
 use Rattle.dms_wire.specs.declared.error_status.ErrorStatus.{ErrorStatus}
 use Rattle.dms_sign_access.specs.declared.settings.Fallbacks.{Fallbacks}
-use Rattle.dms_sign_access.specs.declared.settings.Settings.{Settings}
+use Rattle.dms_sign_access.specs.declared.settings.SignSettings.{SignSettings}
 use Rattle.dms_table.specs.Rows.{TableModel}
 use Rattle.dms_sign.specs.State.{SignState}
 use Rattle.dms_sign_access.specs.Access.{Write, is_command}
@@ -39,14 +39,14 @@ given_append pick (x ∷ xs) ys old = given_append pick xs ys (unwrap_or (pick x
 codes_append : (f : Fallbacks) (xs ys : List Write) → codes_by f (xs ++ ys) ≡ codes_by (codes_by f xs) ys
 codes_append f xs ys = simp given_append
 
-set_append : (s : Settings) (xs ys : List Write) → set_by s (xs ++ ys) ≡ set_by (set_by s xs) ys
+set_append : (s : SignSettings) (xs ys : List Write) → set_by s (xs ++ ys) ≡ set_by (set_by s xs) ys
 unfolding set_by
 set_append s xs ys = simp (given_append, codes_append)
 
 codes_empty : (f : Fallbacks) → f ≡ codes_by f []
 codes_empty f = refl
 
-set_empty : (s : Settings) → s ≡ set_by s []
+set_empty : (s : SignSettings) → s ≡ set_by s []
 unfolding set_by
 set_empty s = ap (λ (f : Fallbacks). record s { fallbacks = f }) (codes_empty s.fallbacks)
 
@@ -77,7 +77,7 @@ is_none_of o e = grind arith
 
 -- ---- the walk
 
-pub record HasJudged (s : SignState) (may : Bool) (all : List VarBind) (old : Settings) (index : ℕ) (settings : Settings) (at : ℕ) (command : Option Write) (rest : List VarBind) : Type 0 where
+pub record HasJudged (s : SignState) (may : Bool) (all : List VarBind) (old : SignSettings) (index : ℕ) (settings : SignSettings) (at : ℕ) (command : Option Write) (rest : List VarBind) : Type 0 where
   pub done : List VarBind
   pub whole : done ++ rest ≡ all
   pub count : length done ≡ index
@@ -87,10 +87,10 @@ pub record HasJudged (s : SignState) (may : Bool) (all : List VarBind) (old : Se
   pub place : at ≡ command_index s done
   pub any : is_some command ≡ list_any (is_command_at s) done
 
-pub judged_starts : (s : SignState) (may : Bool) (all rest : List VarBind) (settings : Settings) → rest ≡ all → HasJudged s may all settings 0 settings 0 None rest
+pub judged_starts : (s : SignState) (may : Bool) (all rest : List VarBind) (settings : SignSettings) → rest ≡ all → HasJudged s may all settings 0 settings 0 None rest
 judged_starts s may all rest settings e = grind (arith, set_empty)
 
-pub before_is : (s : SignState) (may : Bool) (all : List VarBind) (old : Settings) (index : ℕ) (settings : Settings) (at : ℕ) (command : Option Write) (rest : List VarBind)
+pub before_is : (s : SignState) (may : Bool) (all : List VarBind) (old : SignSettings) (index : ℕ) (settings : SignSettings) (at : ℕ) (command : Option Write) (rest : List VarBind)
     → (is : HasJudged s may all old index settings at command rest) → take index all ≡ is.done
 before_is s may all old index settings at command rest is = grind (arith, take-append_seam)
 
@@ -100,8 +100,8 @@ some_if c b w o e = grind arith
 index_if : (c : Bool) (n m : ℕ) (o : Option ℕ) → m ≡ unwrap_or o 0 → cond c n m ≡ unwrap_or (cond c (Some n) o) 0
 index_if c n m o e = grind arith
 
-pub judged_more : (s : SignState) (may : Bool) (all : List VarBind) (old : Settings) (index : ℕ) (settings : Settings) (at : ℕ) (command : Option Write) (rest more : List VarBind)
-    (b : VarBind) (w : Write) (settings_new : Settings) (at_new : ℕ) (command_new : Option Write)
+pub judged_more : (s : SignState) (may : Bool) (all : List VarBind) (old : SignSettings) (index : ℕ) (settings : SignSettings) (at : ℕ) (command : Option Write) (rest more : List VarBind)
+    (b : VarBind) (w : Write) (settings_new : SignSettings) (at_new : ℕ) (command_new : Option Write)
     → HasJudged s may all old index settings at command rest → rest ≡ b ∷ more → causes_at s may (take index all) b ≡ [] → write_at s b ≡ Some w
     → (is_command w ≡ true → is_some command ≡ false) → settings_new ≡ set_by settings (w ∷ []) → command_new ≡ cond (is_command w) (Some w) command
     → at_new ≡ cond (is_command w) (index + 1) at → HasJudged s may all old (index + 1) settings_new at_new command_new more
@@ -135,13 +135,13 @@ judged_more s may all old index settings at command rest more b w settings_new a
     }
 
 -- all of them were judged
-pub record AllJudged (s : SignState) (may : Bool) (all : List VarBind) (old settings : Settings) (at : ℕ) (command : Option Write) : Type 0 where
+pub record AllJudged (s : SignState) (may : Bool) (all : List VarBind) (old settings : SignSettings) (at : ℕ) (command : Option Write) : Type 0 where
   pub none : causes s may all ≡ []
   pub set : settings ≡ set_by old (writes_of s all)
   pub found : command ≡ find is_command (writes_of s all)
   pub place : at ≡ command_index s all
 
-pub judged_all : (s : SignState) (may : Bool) (all : List VarBind) (old : Settings) (index : ℕ) (settings : Settings) (at : ℕ) (command : Option Write) (rest : List VarBind)
+pub judged_all : (s : SignState) (may : Bool) (all : List VarBind) (old : SignSettings) (index : ℕ) (settings : SignSettings) (at : ℕ) (command : Option Write) (rest : List VarBind)
     → HasJudged s may all old index settings at command rest → rest ≡ [] → AllJudged s may all old settings at command
 unfolding causes
 judged_all s may all old index settings at command rest is e = grind (arith, append-nil)
@@ -153,7 +153,7 @@ first_of : {X : Type 0} (xs ys : List X) (x : X) → slice_get xs 0 ≡ Some x �
 first_of [] ys x e = absurd (cc)
 first_of (y ∷ xs) ys x e = e
 
-pub judged_refused : (s : SignState) (may : Bool) (all : List VarBind) (old : Settings) (index : ℕ) (settings : Settings) (at : ℕ) (command : Option Write) (rest more : List VarBind)
+pub judged_refused : (s : SignState) (may : Bool) (all : List VarBind) (old : SignSettings) (index : ℕ) (settings : SignSettings) (at : ℕ) (command : Option Write) (rest more : List VarBind)
     (b : VarBind) (status : ErrorStatus) → HasJudged s may all old index settings at command rest → rest ≡ b ∷ more
     → slice_get (causes_at s may (take index all) b) 0 ≡ Some (record { index = length (take index all) + 1; status = status })
     → slice_get (causes s may all) 0 ≡ Some (record { index = index + 1; status = status })
@@ -169,7 +169,7 @@ judged_refused s may all old index settings at command rest more b status is e f
     ∙ first_of (causes_at s may is.done b) (causes_after s may (is.done ++ b ∷ []) more) (record { index = index + 1; status = status }) here
 
 -- the bindings up to the next one
-pub one_more : (s : SignState) (may : Bool) (all : List VarBind) (old : Settings) (index : ℕ) (settings : Settings) (at : ℕ) (command : Option Write) (rest more : List VarBind)
+pub one_more : (s : SignState) (may : Bool) (all : List VarBind) (old : SignSettings) (index : ℕ) (settings : SignSettings) (at : ℕ) (command : Option Write) (rest more : List VarBind)
     (b : VarBind) → HasJudged s may all old index settings at command rest → rest ≡ b ∷ more → take index all ++ b ∷ [] ≡ take (index + 1) all
 one_more s may all old index settings at command rest more b is e =
     let done = is.done in
@@ -179,7 +179,7 @@ one_more s may all old index settings at command rest more b is e =
     ∙ sym (take-append_seam (done ++ b ∷ []) more) ∙ ap (take (length (done ++ b ∷ []))) whole ∙ ap (λ n. take n all) size
 
 -- all bindings, where none is left
-pub all_taken : (s : SignState) (may : Bool) (all : List VarBind) (old : Settings) (index : ℕ) (settings : Settings) (at : ℕ) (command : Option Write) (rest : List VarBind)
+pub all_taken : (s : SignState) (may : Bool) (all : List VarBind) (old : SignSettings) (index : ℕ) (settings : SignSettings) (at : ℕ) (command : Option Write) (rest : List VarBind)
     → HasJudged s may all old index settings at command rest → rest ≡ [] → take index all ≡ all
 all_taken s may all old index settings at command rest is e =
     before_is s may all old index settings at command rest is ∙ sym (append-nil is.done) ∙ ap (λ r. is.done ++ r) (sym e) ∙ is.whole

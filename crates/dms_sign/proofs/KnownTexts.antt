@@ -12,7 +12,7 @@ use Rattle.dms_codes.specs.declared.memory.Memory.{Memory}
 use Rattle.dms_codes.specs.declared.memory.Memory.TheVariants as memories
 use Rattle.dms_codes.specs.Memory.{memory_of}
 use Rattle.dms_table.specs.declared.row.Services.{Services}
-use Rattle.dms_table.specs.declared.writable.Place.{Place}
+use Rattle.dms_table.specs.declared.writable.RowPlace.{RowPlace}
 use Rattle.dms_table.specs.declared.writable.Writable.{Writable}
 use Rattle.dms_table.specs.declared.writable.Writable.TheVariants.{Changeable, Volatile}
 use Rattle.dms_table.specs.Rows.{RowModel, TableModel, unused, rows_by, rows_of, numbered, row_is_validating}
@@ -127,7 +127,7 @@ row_settled Volatile Volatile services face known defaults table index k row has
 not_zero : (b : Bool) (o : Option RowModel) (row : RowModel) → cond b None o ≡ Some row → (b ≡ false) × (o ≡ Some row)
 not_zero b o row e = grind arith
 
-known_of_type : (o : Option Writable) (place : Place) (known : KnownTexts) (face : FaceModel) (defaults : Defaults) (old : TableModel) (memory number : ℕ)
+known_of_type : (o : Option Writable) (place : RowPlace) (known : KnownTexts) (face : FaceModel) (defaults : Defaults) (old : TableModel) (memory number : ℕ)
     → writable memory ≡ o → HasEntries known old → IsOnlyOfAll place old.changeable old.volatile
     → HasGoodTextWhereValid (under face (kept_in known o number)) old memory number
     → HasGoodTextWhereValid (under face (kept_in (noted known place defaults) o number)) (settled (under face defaults) old) memory number
@@ -143,7 +143,7 @@ known_of_type (Some kind) place known face defaults old memory number is has onl
     ∙ ap (λ b. cond b None (slice_get (of_type kind old.changeable old.volatile) (number - 1))) at.0 ∙ e) valid)
     at.1 valid
 
-pub known_settled : (place : Place) (known : KnownTexts) (face : FaceModel) (defaults : Defaults) (old : TableModel) → HasEntries known old
+pub known_settled : (place : RowPlace) (known : KnownTexts) (face : FaceModel) (defaults : Defaults) (old : TableModel) → HasEntries known old
     → IsPlaced (Some place) old.changeable old.volatile → AreKnown known face old → AreKnown (noted known place defaults) face (settled (under face defaults) old)
 known_settled place known face defaults old has placed good = λ memory number.
     known_of_type (writable memory) place known face defaults old memory number refl has placed (good memory number)

@@ -16,7 +16,7 @@ use Rattle.dms_table.specs.declared.activation.Cause.{Cause}
 use Rattle.dms_table.specs.declared.validation.Verdict.{Verdict}
 use Rattle.dms_table.specs.Rows.{TableModel, after_power}
 use Rattle.dms_table.specs.declared.writable.Writable.{Writable}
-use Rattle.dms_table.specs.declared.writable.Place.{Place}
+use Rattle.dms_table.specs.declared.writable.RowPlace.{RowPlace}
 use Rattle.dms_table.specs.PlaceView.{of_type, IsOnly, IsPlaced}
 use Rattle.dms_table.proofs.Places.{only_of_type}
 use Rattle.dms_table.specs.Validation.{settled, verdict}
@@ -28,7 +28,7 @@ use Rattle.dms_table.specs.Activation.{blank_id, blank_shown}
 use Rattle.dms_table.specs.Activation.{blank_octets}
 use Rattle.dms_sign.specs.State.{ConfigModel, SignState, start, power_recovery_mode}
 use Rattle.dms_sign.specs.Kept.{IsKept}
-use Rattle.dms_sign_access.specs.declared.settings.Settings.{Settings}
+use Rattle.dms_sign_access.specs.declared.settings.SignSettings.{SignSettings}
 use Rattle.dms_sign_access.specs.Settings.{first_settings}
 use Rattle.dms_sign_access.specs.Reports.{first_reports}
 use Rattle.dms_sign.specs.OwnCodes.{showing, with_refused_code, own_activation, put_up_as_decided, put_up_code}
@@ -71,7 +71,7 @@ room_by : (memory : Writable) (index : ℕ) (table : TableModel) → IsTableInRa
     → first_entry memory + index < 80
 room_by memory index table is only = grind (arith, only_within)
 
-pub room_for : (place : Place) (table : TableModel) → IsTableInRange table → IsPlaced (Some place) table.changeable table.volatile → HasRoom place
+pub room_for : (place : RowPlace) (table : TableModel) → IsTableInRange table → IsPlaced (Some place) table.changeable table.volatile → HasRoom place
 room_for place table is placed = room_by place.memory place.index table is (only_of_type place table.changeable table.volatile placed)
 
 -- where no row is being validated, the second settles none
@@ -86,7 +86,7 @@ unsettled s nowhere =
 entries_there : (old : Inside) → IsWhole old → length old.known.rows ≡ 80 → HasEntries old.known old.table
 entries_there old is entries = grind arith
 
-pub settled_whole : (old : Inside) (place : Place) (table : TableModel) (o : Option Verdict) (reports : Reports) (known : KnownTexts) → IsWhole old
+pub settled_whole : (old : Inside) (place : RowPlace) (table : TableModel) (o : Option Verdict) (reports : Reports) (known : KnownTexts) → IsWhole old
     → length old.known.rows ≡ 80 → IsPlaced (Some place) old.table.changeable old.table.volatile
     → table ≡ settled (under old.face old.settings.defaults) old.table → o ≡ verdict (under old.face old.settings.defaults) old.table
     → reports ≡ settled_reports old.reports o → known ≡ noted old.known place old.settings.defaults
@@ -191,7 +191,7 @@ made_kept config table width height fits communities are reader writer stocked o
   communities = communities;
 }
 
-pub made_state : (config : ConfigModel) (table : TableModel) (defaults : Defaults) (settings : Settings) (reports : Reports) (shown kept : ShownModel)
+pub made_state : (config : ConfigModel) (table : TableModel) (defaults : Defaults) (settings : SignSettings) (reports : Reports) (shown kept : ShownModel)
     → defaults ≡ config.face.defaults → settings ≡ first_settings defaults → reports ≡ first_reports
     → shown ≡ blank_shown defaults power_recovery_mode → kept ≡ blank_shown defaults power_recovery_mode → IsKept (start config table)
     → IsKept (record (start config table) {

@@ -4,7 +4,7 @@ use Rattle.dms_codes.specs.Limits.{most_changeable_rows, most_writable_rows}
 use Rattle.dms_face.specs.declared.defaults.Defaults.{Defaults}
 use Rattle.dms_face.specs.Face.{FaceModel}
 use Rattle.dms_face.specs.Layout.{under}
-use Rattle.dms_table.specs.declared.writable.Place.{Place}
+use Rattle.dms_table.specs.declared.writable.RowPlace.{RowPlace}
 use Rattle.dms_table.specs.declared.writable.Writable.{Writable}
 use Rattle.dms_table.specs.PlaceView.{writable, of_type}
 use Rattle.dms_table.specs.Rows.{TableModel}
@@ -28,11 +28,11 @@ abbrev pub kept_for : KnownTexts → ℕ → ℕ → Defaults
 kept_for known memory number = kept_in known (writable memory) number
 
 -- there is room for the defaults of a row at this place
-abbrev pub HasRoom : Place → Type 0
+abbrev pub HasRoom : RowPlace → Type 0
 HasRoom place = first_entry place.memory + place.index < most_writable_rows
 
 -- the same, with these defaults for the row at a place
-abbrev pub noted : KnownTexts → Place → Defaults → KnownTexts
+abbrev pub noted : KnownTexts → RowPlace → Defaults → KnownTexts
 noted known place defaults = record known { rows = set known.rows (first_entry place.memory + place.index) defaults }
 
 -- the text of each row, where it is valid, is good under the defaults that are kept for it

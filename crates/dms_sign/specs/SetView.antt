@@ -3,19 +3,19 @@ use Rattle.std.specs.Prelude.{◌≡◌, Bool, true, false, List, Option, None, 
 use Rattle.dms_wire.specs.Message.{VarBind}
 use Rattle.dms_wire.specs.declared.error_status.ErrorStatus.TheVariants.{NoError}
 use Rattle.dms_codes.specs.declared.codes.Activation.{Activation}
-use Rattle.dms_sign_access.specs.declared.settings.Settings.{Settings}
+use Rattle.dms_sign_access.specs.declared.settings.SignSettings.{SignSettings}
 use Rattle.dms_sign_access.specs.Access.{Write, SetNumber, SetCode, SetField, AskRow, Activate, SetRemaining}
-use Rattle.dms_sign.specs.declared.sign.set_request.Refusal.{Refusal}
+use Rattle.dms_sign.specs.declared.sign.set_request.SetRefusal.{SetRefusal}
 use Rattle.dms_sign.specs.State.{SignState}
 use Rattle.dms_sign.specs.InRange.{AreOctets}
 use Rattle.dms_sign.specs.SetRequest.{SetCause, with_writes}
 use Rattle.dms_sign.specs.Requests.{Answer, writes_of}
 
-abbrev pub refusal_of : Refusal → SetCause
+abbrev pub refusal_of : SetRefusal → SetCause
 refusal_of refusal = record { index = refusal.index; status = refusal.status }
 
 -- the code's result says what the answer is
-abbrev pub Says : Result (Option Activation) Refusal → Answer → Type 0
+abbrev pub Says : Result (Option Activation) SetRefusal → Answer → Type 0
 Says (Ok accepted) answer = (answer.status ≡ NoError) × (answer.index ≡ 0) × (answer.accepted ≡ accepted)
 Says (Err refusal) answer = (answer.status ≡ refusal.status) × (answer.index ≡ refusal.index) × (answer.accepted ≡ None)
 
@@ -42,7 +42,7 @@ abbrev pub StaysWithout : Bool → SignState → List VarBind → Type 0
 StaysWithout fields s bindings = fields ≡ false → with_writes s.table (writes_of s bindings) ≡ s.table
 
 -- the settings are those of the state
-pub record AreSettings (settings : Settings) (s : SignState) : Type 0 where
+pub record AreSettings (settings : SignSettings) (s : SignState) : Type 0 where
   pub fallbacks : settings.fallbacks ≡ s.fallbacks
   pub short_power_loss_time : settings.short_power_loss_time ≡ s.short_power_loss_time
   pub time_comm_loss : settings.time_comm_loss ≡ s.time_comm_loss

@@ -6,7 +6,7 @@ ghost use Rattle.dms_sign.specs.KnownTexts.{first_known, first_entry, kept_for, 
 
 use dms_codes::{MAX_CHANGEABLE, MAX_VOLATILE};
 use dms_face::Defaults;
-use dms_table::{Place, Writable};
+use dms_table::{RowPlace, Writable};
 
 /// A row that can be changed has a place for its defaults.
 const ENTRIES: usize = MAX_CHANGEABLE as usize + MAX_VOLATILE as usize;
@@ -32,7 +32,7 @@ impl KnownTexts {
     }
 
     /// The row at a place was settled under these defaults.
-    pub(crate) fn note(&mut self, place: Place, defaults: &Defaults)
+    pub(crate) fn note(&mut self, place: RowPlace, defaults: &Defaults)
         requires { HasRoom place }
         ensures { self.new ≡ noted self.old place defaults.now }
     {

@@ -23,7 +23,7 @@ use crate::known_texts::KnownTexts;
 use arrayvec::ArrayVec;
 use dms_codes::{Activation, MAX_COMMUNITY, Order};
 use dms_face::{Defaults, Face};
-use dms_sign_access::{Fallbacks, Reports, Settings};
+use dms_sign_access::{Fallbacks, Reports, SignSettings};
 use dms_table::row::copy_of;
 use dms_table::{Cause, Mode, Shown, Table};
 use std::alloc::Global;
@@ -45,7 +45,7 @@ pub struct Sign {
     reader: ArrayVec<u8, MAX_COMMUNITY>,
     writer: ArrayVec<u8, MAX_COMMUNITY>,
     table: Table,
-    settings: Settings,
+    settings: SignSettings,
     /// The seconds since a datagram was answered.
     silent_seconds: u32,
     shown: Shown,
@@ -115,7 +115,7 @@ impl Sign {
             reader,
             writer,
             table,
-            settings: Settings::new(defaults),
+            settings: SignSettings::new(defaults),
             silent_seconds: 0,
             shown: Shown::blank(&defaults, Mode::PowerRecovery),
             source: [7, 0, 1, 0, 0],

@@ -9,7 +9,7 @@ use Rattle.dms_mib.specs.declared.scalar.Scalar.TheVariants.{DefaultFlashOff, De
 use Rattle.dms_mib.specs.declared.scalar.Scalar.TheVariants.{DefaultJustificationPage, DefaultPageOnTime}
 use Rattle.dms_mib.specs.declared.scalar.Scalar.TheVariants.{DefaultPageOffTime, ShortPowerLossTime, TimeCommLoss}
 use Rattle.dms_sign_access.specs.declared.settings.Fallbacks.{Fallbacks}
-use Rattle.dms_sign_access.specs.declared.settings.Settings.{Settings}
+use Rattle.dms_sign_access.specs.declared.settings.SignSettings.{SignSettings}
 use Rattle.dms_table.specs.Activation.{blank_octets}
 use Rattle.dms_sign_access.specs.Access.{Write}
 use Rattle.dms_sign_access.specs.Assignment.{given, number_for, code_for}
@@ -25,7 +25,7 @@ first_fallbacks = record {
 }
 
 -- the settings as a sign is made: the times are 0
-abbrev pub first_settings : Defaults → Settings
+abbrev pub first_settings : Defaults → SignSettings
 first_settings defaults =
     record { fallbacks = first_fallbacks; short_power_loss_time = 0; time_comm_loss = 0; defaults = defaults }
 
@@ -54,7 +54,7 @@ defaults_by d writes = record {
 }
 
 -- the settings after these writes
-unfoldable pub set_by : Settings → List Write → Settings
+unfoldable pub set_by : SignSettings → List Write → SignSettings
 set_by s writes = record {
   fallbacks = codes_by s.fallbacks writes;
   short_power_loss_time = given (number_for ShortPowerLossTime) writes s.short_power_loss_time;

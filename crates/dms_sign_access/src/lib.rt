@@ -7,7 +7,7 @@
 //! assert!(rt; is_settable(seconds) && !is_settable(Instance::Scalar(Scalar::SignWidthPixels)));
 //! assert!(rt; write_of(&face, seconds, &Value::Integer(65536)).is_none());
 //! let change = write_of(&face, seconds, &Value::Integer(60)).ok_or("no change")?;
-//! let mut settings = Settings::new(face.defaults());
+//! let mut settings = SignSettings::new(face.defaults());
 //! settings.assign(&change);
 //! ```
 #![tactic(auto)]
@@ -23,4 +23,4 @@ pub use access::{Change, is_settable, write_of};
 pub use cells::{cell_value, number_value, shown_value, small_value};
 pub use met_names::{Slots, mark_name, was_given};
 pub use reports::Reports;
-pub use settings::{Fallbacks, Settings};
+pub use settings::{Fallbacks, SignSettings};

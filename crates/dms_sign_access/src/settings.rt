@@ -29,7 +29,7 @@ pub struct Fallbacks {
 
 /// The values of the objects that can be set, but for those of the message table.
 #[derive(Clone, Copy, Debug, PartialEq, Eq)]
-pub struct Settings {
+pub struct SignSettings {
     pub fallbacks: Fallbacks,
     /// dmsShortPowerLossTime: seconds
     pub short_power_loss_time: u16,
@@ -38,15 +38,15 @@ pub struct Settings {
     pub defaults: Defaults,
 }
 
-impl Settings {
+impl SignSettings {
     /// The settings as a sign is made: each code is that of blank message 1, and the times are 0.
-    pub fn new(defaults: Defaults) -> Settings
+    pub fn new(defaults: Defaults) -> SignSettings
         ensures first { result ≡ first_settings defaults }
         ensures octets { AreDefaultsInRange defaults }
     {
         are_octets(&defaults);
         let code = [memory::BLANK, 0, 1, 0, 0];
-        Settings {
+        SignSettings {
             fallbacks: Fallbacks {
                 short_power_recovery: code,
                 long_power_recovery: code,
@@ -75,7 +75,7 @@ impl Settings {
 }
 
 #[tactic(auto, unfolding(crate::specs::Settings::set_by))]
-fn assign_number(settings: &mut Settings, object: Scalar, number: u16)
+fn assign_number(settings: &mut SignSettings, object: Scalar, number: u16)
     requires { IsChange (changes.Number object number) }
     ensures { settings.new ≡ set_by settings.old (SetNumber object number ∷ []) }
 {

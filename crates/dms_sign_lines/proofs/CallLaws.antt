@@ -15,12 +15,12 @@ use Rattle.dms_sign_lines.specs.SignCall.{SignCall, datagram, tick, ticks, heard
 use Rattle.dms_sign_lines.specs.SignLine.{SpellsCallWords, SpellsSignCall, SpellsNoSignCall}
 use Rattle.dms_sign_lines.specs.SignReading.{keyword_of, call_after, call_of}
 use Rattle.dms_sign_lines.specs.Answer.{answer_text, after_line, call_text, after_call, text_if, after_if}
-use Rattle.dms_sign_lines.specs.declared.keyword.Keyword.{Keyword}
-use Rattle.dms_sign_lines.specs.declared.keyword.Keyword.TheVariants as key
+use Rattle.dms_sign_lines.specs.declared.keyword.SignKeyword.{SignKeyword}
+use Rattle.dms_sign_lines.specs.declared.keyword.SignKeyword.TheVariants as key
 
 -- ---- keywords
 
-abbrev keyword_text : Keyword → List ℕ
+abbrev keyword_text : SignKeyword → List ℕ
 keyword_text key.Datagram = codes "datagram"
 keyword_text key.Tick = codes "tick"
 keyword_text key.Ticks = codes "ticks"
@@ -30,14 +30,14 @@ keyword_text key.PowerBack = codes "power-back"
 keyword_text key.Show = codes "show"
 keyword_text key.State = codes "state"
 
-keyword_some : (keyword : Keyword) → 0 < length (keyword_text keyword)
+keyword_some : (keyword : SignKeyword) → 0 < length (keyword_text keyword)
 keyword_some keyword = grind arith
 
-keyword_only : (keyword : Keyword) → keyword_of (keyword_text keyword) ≡ Some keyword
+keyword_only : (keyword : SignKeyword) → keyword_of (keyword_text keyword) ≡ Some keyword
 unfolding keyword_of
 keyword_only keyword = grind arith
 
-keyword_found : (word : List ℕ) (keyword : Keyword) → keyword_of word ≡ Some keyword → word ≡ keyword_text keyword
+keyword_found : (word : List ℕ) (keyword : SignKeyword) → keyword_of word ≡ Some keyword → word ≡ keyword_text keyword
 unfolding keyword_of
 keyword_found word keyword e =
     by_text keyword_text word key.Datagram keyword _ e λ e.
@@ -52,7 +52,7 @@ keyword_found word keyword e =
 
 -- ---- calls
 
-after_found : (keyword : Keyword) (words : List (List ℕ)) (call : SignCall) → call_after keyword words ≡ Some call
+after_found : (keyword : SignKeyword) (words : List (List ℕ)) (call : SignCall) → call_after keyword words ≡ Some call
     → SpellsCallWords call (keyword_text keyword ∷ words)
 after_found key.Datagram words call e =
     let made = mapped_some _ _ _ e in subst (λ call. SpellsCallWords call (codes "datagram" ∷ words)) made.2 (last_octets_found (codes "datagram") words made.0 made.1)
@@ -76,7 +76,7 @@ call_found line call e =
     (word_found (words_of line) read.0 read.1).0 ∙ ap (λ word. word ∷ read.0.1) (keyword_found read.0.0 keyword.0 keyword.1) in
     subst (SpellsCallWords call) (sym words) (after_found keyword.0 read.0.1 call keyword.2)
 
-line_read : (keyword : Keyword) (line : List ℕ) (words : List (List ℕ)) → words_of line ≡ keyword_text keyword ∷ words
+line_read : (keyword : SignKeyword) (line : List ℕ) (words : List (List ℕ)) → words_of line ≡ keyword_text keyword ∷ words
     → call_of line ≡ call_after keyword words
 unfolding call_of
 line_read keyword line words e =

@@ -4,17 +4,17 @@ use Rattle.dms_text.specs.Words.{words_of}
 use Rattle.dms_text.specs.Reading.{same_octets, word_at, ◌>>=◌}
 use Rattle.dms_text_forms.specs.FieldsReading.{if_last, last_number_at, last_octets_at}
 use Rattle.dms_sign_lines.specs.SignCall.{SignCall, datagram, tick, ticks, heard, power_lost, power_back, show, state}
-use Rattle.dms_sign_lines.specs.declared.keyword.Keyword.{Keyword}
-use Rattle.dms_sign_lines.specs.declared.keyword.Keyword.TheVariants as key
+use Rattle.dms_sign_lines.specs.declared.keyword.SignKeyword.{SignKeyword}
+use Rattle.dms_sign_lines.specs.declared.keyword.SignKeyword.TheVariants as key
 
 -- the words that ask for what is shown
-abbrev pub asking_keyword : List ℕ → Option Keyword
+abbrev pub asking_keyword : List ℕ → Option SignKeyword
 asking_keyword word =
     if same_octets word (codes "show") then Some key.Show
     else if same_octets word (codes "state") then Some key.State
     else None
 
-unfoldable pub keyword_of : List ℕ → Option Keyword
+unfoldable pub keyword_of : List ℕ → Option SignKeyword
 keyword_of word =
     if same_octets word (codes "datagram") then Some key.Datagram
     else if same_octets word (codes "tick") then Some key.Tick
@@ -25,7 +25,7 @@ keyword_of word =
     else asking_keyword word
 
 -- what stands after a keyword
-abbrev pub call_after : Keyword → List (List ℕ) → Option SignCall
+abbrev pub call_after : SignKeyword → List (List ℕ) → Option SignCall
 call_after key.Datagram words = option_map datagram (last_octets_at words)
 call_after key.Tick words = if_last tick words
 call_after key.Ticks words = option_map ticks (last_number_at words)
@@ -36,7 +36,7 @@ call_after key.Show words = if_last show words
 call_after key.State words = if_last state words
 
 -- the keyword of a line
-unfoldable pub keyword_in : List ℕ → Option Keyword
+unfoldable pub keyword_in : List ℕ → Option SignKeyword
 keyword_in line = do
   found ← word_at (words_of line)
   keyword_of found.0

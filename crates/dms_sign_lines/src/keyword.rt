@@ -4,7 +4,7 @@ use dms_text::are_same;
 
 /// The word with which a line begins.
 #[derive(Clone, Copy)]
-pub(crate) enum Keyword {
+pub(crate) enum SignKeyword {
     Datagram,
     Tick,
     Ticks,
@@ -15,40 +15,40 @@ pub(crate) enum Keyword {
     State,
 }
 
-impl Keyword {
+impl SignKeyword {
     ghost use Rattle.std.specs.Prelude.{◌≡◌};
     ghost use Rattle.dms_sign_lines.specs.SignReading.{keyword_of, asking_keyword};
 
     /// The keyword that a word is, if any.
     #[tactic(auto, unfolding(crate::specs::SignReading::keyword_of))]
-    pub(crate) fn of(word: &[u8]) -> Option<Keyword>
+    pub(crate) fn of(word: &[u8]) -> Option<SignKeyword>
         ensures { result ≡ keyword_of word.now }
     {
         if are_same(word, b"datagram") {
-            Some(Keyword::Datagram)
+            Some(SignKeyword::Datagram)
         } else if are_same(word, b"tick") {
-            Some(Keyword::Tick)
+            Some(SignKeyword::Tick)
         } else if are_same(word, b"ticks") {
-            Some(Keyword::Ticks)
+            Some(SignKeyword::Ticks)
         } else if are_same(word, b"heard") {
-            Some(Keyword::Heard)
+            Some(SignKeyword::Heard)
         } else if are_same(word, b"power-lost") {
-            Some(Keyword::PowerLost)
+            Some(SignKeyword::PowerLost)
         } else if are_same(word, b"power-back") {
-            Some(Keyword::PowerBack)
+            Some(SignKeyword::PowerBack)
         } else {
-            Keyword::asking(word)
+            SignKeyword::asking(word)
         }
     }
 
     /// The keyword of a line that asks for what is shown.
-    fn asking(word: &[u8]) -> Option<Keyword>
+    fn asking(word: &[u8]) -> Option<SignKeyword>
         ensures { result ≡ asking_keyword word.now }
     {
         if are_same(word, b"show") {
-            Some(Keyword::Show)
+            Some(SignKeyword::Show)
         } else if are_same(word, b"state") {
-            Some(Keyword::State)
+            Some(SignKeyword::State)
         } else {
             None
         }

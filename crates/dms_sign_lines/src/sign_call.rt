@@ -2,10 +2,10 @@
 
 ghost use Rattle.std.specs.Prelude.{◌≡◌, Some, IfOk, IsSome, OnErr, option_map};
 ghost use Rattle.dms_sign_lines.specs.SignReading.{call_of, keyword_in};
-ghost use Rattle.dms_sign_lines.specs.declared.keyword.Keyword.TheVariants.{Datagram};
+ghost use Rattle.dms_sign_lines.specs.declared.keyword.SignKeyword.TheVariants.{Datagram};
 ghost use Rattle.dms_sign_lines.specs.CallView.{call_model};
 
-use crate::keyword::Keyword;
+use crate::keyword::SignKeyword;
 use dms_face_lines::alone;
 use dms_text::Words;
 use dms_text_forms::fields::{last_number, last_octets};
@@ -42,17 +42,17 @@ pub(crate) fn call(alloc: Global, line: &[u8]) -> Result<Option<SignCall>, Alloc
     let Some((word, words)) = Words::of(line).next_word() else {
         return Ok(None);
     };
-    let Some(keyword) = Keyword::of(word) else {
+    let Some(keyword) = SignKeyword::of(word) else {
         return Ok(None);
     };
     match keyword {
-        Keyword::Datagram => Ok(last_octets(alloc, words)?.map(SignCall::Datagram)),
-        Keyword::Tick => Ok(alone(words, SignCall::Tick)),
-        Keyword::Ticks => Ok(last_number(words).map(SignCall::Ticks)),
-        Keyword::Heard => Ok(alone(words, SignCall::Heard)),
-        Keyword::PowerLost => Ok(alone(words, SignCall::PowerLost)),
-        Keyword::PowerBack => Ok(last_number(words).map(SignCall::PowerBack)),
-        Keyword::Show => Ok(alone(words, SignCall::Show)),
-        Keyword::State => Ok(alone(words, SignCall::State)),
+        SignKeyword::Datagram => Ok(last_octets(alloc, words)?.map(SignCall::Datagram)),
+        SignKeyword::Tick => Ok(alone(words, SignCall::Tick)),
+        SignKeyword::Ticks => Ok(last_number(words).map(SignCall::Ticks)),
+        SignKeyword::Heard => Ok(alone(words, SignCall::Heard)),
+        SignKeyword::PowerLost => Ok(alone(words, SignCall::PowerLost)),
+        SignKeyword::PowerBack => Ok(last_number(words).map(SignCall::PowerBack)),
+        SignKeyword::Show => Ok(alone(words, SignCall::Show)),
+        SignKeyword::State => Ok(alone(words, SignCall::State)),
     }
 }

@@ -3,7 +3,7 @@
 use dms_mib::{Instance, Scalar};
 use dms_mib_instances::Counts;
 use dms_sign::{Config, Receipt, Sign};
-use dms_sign_access::{Settings, is_settable, write_of};
+use dms_sign_access::{SignSettings, is_settable, write_of};
 use dms_sign_bench::{face, stock};
 use dms_table::Table;
 use dms_wire::{Out, Value};
@@ -27,13 +27,13 @@ fn access(rt: HostRuntime) -> Result<(), Fail> {
     assert!(rt; is_settable(seconds) && !is_settable(Instance::Scalar(Scalar::SignWidthPixels)));
     assert!(rt; write_of(&face, seconds, &Value::Integer(65536)).is_none());
     let change = write_of(&face, seconds, &Value::Integer(60)).ok_or("no change")?;
-    let mut settings = Settings::new(face.defaults());
+    let mut settings = SignSettings::new(face.defaults());
     settings.assign(&change);
-    let wanted = Settings {
+    let wanted = SignSettings {
         short_power_loss_time: 60,
-        ..Settings::new(face.defaults())
+        ..SignSettings::new(face.defaults())
     };
-    assert!(rt; settings == wanted && wanted != Settings::new(face.defaults()));
+    assert!(rt; settings == wanted && wanted != SignSettings::new(face.defaults()));
     Ok(())
 }
 

@@ -7,7 +7,7 @@ use Rattle.dms_text.proofs.LineFilter.{octets-numbered}
 use Rattle.dms_sign.specs.State.{SignState}
 use Rattle.dms_sign_text.specs.declared.fault.DescriptionFault.{DescriptionFault}
 use Rattle.dms_sign_text.specs.declared.fault.DescriptionFault.TheVariants.{Memory}
-use Rattle.dms_sign_text.specs.declared.reader.Parts.{Parts}
+use Rattle.dms_sign_text.specs.declared.reader.DescriptionParts.{DescriptionParts}
 use Rattle.dms_sign_text.specs.declared.rows.OwnedRow.{OwnedRow}
 use Rattle.dms_sign_text.specs.declared.setup.Setup.{Setup}
 use Rattle.dms_sign_text.specs.Description.{Description, SpellsSign}
@@ -20,16 +20,16 @@ use Rattle.dms_sign_text.proofs.DescriptionLaws.{read_is_spelled, none_begins, r
 -- ---- the first lines
 
 -- the answer of `made` is about the parts
-pub made_of_parts : (parts : Parts) (rows : List OwnedRow) (made found : Option SignState) → rows ≡ parts.rows.items → made ≡ found
+pub made_of_parts : (parts : DescriptionParts) (rows : List OwnedRow) (made found : Option SignState) → rows ≡ parts.rows.items → made ≡ found
     → MadeOrRefused (described (head_seen parts.head) (map row_seen rows) parts.fonts.items) made → MadeOrRefused (parts_seen parts) found
 made_of_parts parts rows made found are is answer = grind arith
 
-pub is_made : (lines rest : List (List ℕ)) (parts : Parts) (sign : SignState) (setup : Setup) → description_at lines ≡ Some (parts_seen parts, rest) → MadeOrRefused (parts_seen parts) (Some sign)
+pub is_made : (lines rest : List (List ℕ)) (parts : DescriptionParts) (sign : SignState) (setup : Setup) → description_at lines ≡ Some (parts_seen parts, rest) → MadeOrRefused (parts_seen parts) (Some sign)
     → setup.sign ≡ sign → setup.first ≡ parts.head.first → (it : Description) × BeginsWith lines rest it × IsMade it setup
 is_made lines rest parts sign setup read made same first =
     (parts_seen parts, read_is_spelled lines rest (parts_seen parts) read made.1, record { sign = same ∙ made.0; first = first })
 
-pub is_refused : (lines rest : List (List ℕ)) (parts : Parts) → description_at lines ≡ Some (parts_seen parts, rest) → MadeOrRefused (parts_seen parts) None
+pub is_refused : (lines rest : List (List ℕ)) (parts : DescriptionParts) → description_at lines ≡ Some (parts_seen parts, rest) → MadeOrRefused (parts_seen parts) None
     → (it : Description) (others : List (List ℕ)) → BeginsWith lines others it → ⊥
 is_refused lines rest parts read refused = refused_begins lines rest (parts_seen parts) read refused
 

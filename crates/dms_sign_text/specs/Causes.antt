@@ -13,12 +13,12 @@ use Rattle.dms_face.specs.Face.{FaceModel, checked}
 use Rattle.dms_face.specs.declared.fault.FaceFault.{FaceFault}
 use Rattle.dms_table.specs.Rows.{RowModel}
 use Rattle.dms_sign_text_causes.specs.Forms.{form_words}
-use Rattle.dms_sign_text_causes.specs.declared.forms.Form.{Form}
-use Rattle.dms_sign_text_causes.specs.declared.forms.Form.TheVariants as forms
+use Rattle.dms_sign_text_causes.specs.declared.forms.DescriptionLine.{DescriptionLine}
+use Rattle.dms_sign_text_causes.specs.declared.forms.DescriptionLine.TheVariants as forms
 use Rattle.dms_sign_text_causes.specs.SignCauses.{face_cause, communities_cause, counts_cause, rows_cause}
 use Rattle.dms_sign_text_causes.specs.declared.sign_causes.SignCause.{SignCause}
-use Rattle.dms_sign_text_causes.specs.declared.cause.Cause.{Cause}
-use Rattle.dms_sign_text_causes.specs.declared.cause.Cause.TheVariants as causes
+use Rattle.dms_sign_text_causes.specs.declared.cause.LineCause.{LineCause}
+use Rattle.dms_sign_text_causes.specs.declared.cause.LineCause.TheVariants as causes
 use Rattle.dms_sign_text.specs.declared.body_word.BodyWord.{BodyWord}
 use Rattle.dms_sign_text.specs.declared.body_word.BodyWord.TheVariants as body
 use Rattle.dms_sign_text.specs.Description.{Description}
@@ -27,15 +27,15 @@ use Rattle.dms_sign_text.specs.DescriptionReading.{HeadModel, head_at, rows_from
 -- ---- the words of a line
 
 -- the first word of a line that is not of its form
-abbrev pub form_cause : Form → List ℕ → Option Cause
+abbrev pub form_cause : DescriptionLine → List ℕ → Option LineCause
 form_cause form line = option_map causes.Word (word_fault (form_words form) (words_of line))
 
 -- the lines with which a description begins
-abbrev pub head_forms : List Form
+abbrev pub head_forms : List DescriptionLine
 head_forms = forms.Size ∷ forms.Communities ∷ forms.Rows ∷ forms.Order ∷ forms.Has ∷ forms.Defaults ∷ forms.First ∷ []
 
 -- the first of these lines that has not its form
-abbrev pub head_cause : List Form → List (List ℕ) → Option Cause
+abbrev pub head_cause : List DescriptionLine → List (List ℕ) → Option LineCause
 head_cause [] lines = None
 head_cause (form ∷ others) [] = Some causes.NoEnd
 head_cause (form ∷ others) (line ∷ lines) = option_or (form_cause form line) (head_cause others lines)
@@ -64,7 +64,7 @@ is_no_glyph TooMany = false
 is_no_glyph Memory = false
 
 -- a character that a font did not take
-abbrev pub glyph_fault : List ℕ → Result FontModel FontFaultKind → Option Cause
+abbrev pub glyph_fault : List ℕ → Result FontModel FontFaultKind → Option LineCause
 glyph_fault line (Ok font) = None
 glyph_fault line (Err kind) = if is_no_glyph kind then form_cause forms.Glyph line else Some (causes.Glyph kind)
 
@@ -74,19 +74,19 @@ last_font (font ∷ []) = Some font
 last_font (font ∷ next ∷ fonts) = last_font (next ∷ fonts)
 
 -- a character after this font
-abbrev pub glyph_after : List ℕ → Option FontModel → Option Cause
+abbrev pub glyph_after : List ℕ → Option FontModel → Option LineCause
 glyph_after line None = Some causes.GlyphBeforeFont
 glyph_after line (Some font) = glyph_fault line (glyph_added font line)
 
 -- a character after these fonts
-abbrev pub glyph_cause : List FontModel → List ℕ → Option Cause
+abbrev pub glyph_cause : List FontModel → List ℕ → Option LineCause
 glyph_cause fonts line = glyph_after line (last_font fonts)
 
-abbrev pub row_line_cause : List FontModel → List ℕ → Option Cause
+abbrev pub row_line_cause : List FontModel → List ℕ → Option LineCause
 row_line_cause [] line = form_cause forms.Permanent line
 row_line_cause (font ∷ fonts) line = Some causes.RowAfterFont
 
-abbrev pub named_cause : Option BodyWord → List FontModel → List ℕ → Option Cause
+abbrev pub named_cause : Option BodyWord → List FontModel → List ℕ → Option LineCause
 named_cause (Some body.Permanent) fonts line = row_line_cause fonts line
 named_cause (Some body.Font) fonts line = form_cause forms.Font line
 named_cause (Some body.Glyph) fonts line = glyph_cause fonts line
@@ -94,7 +94,7 @@ named_cause (Some body.End) fonts line = form_cause forms.End line
 named_cause None fonts line = Some causes.Keyword
 
 -- a line that is not `end` may not stand after these fonts
-abbrev pub line_cause : List FontModel → List ℕ → Option Cause
+abbrev pub line_cause : List FontModel → List ℕ → Option LineCause
 line_cause fonts line = named_cause (body_word line) fonts line
 
 -- ---- the line `end`
@@ -115,30 +115,30 @@ abbrev pub sign_cause : Description → Option SignCause
 sign_cause it = face_then it (checked it.config.face)
 
 -- a line stands after the last one
-abbrev pub after_cause : List (List ℕ) → Option Cause
+abbrev pub after_cause : List (List ℕ) → Option LineCause
 after_cause [] = None
 after_cause (line ∷ lines) = Some causes.AfterEnd
 
 -- ---- the whole
 
 -- the line that comes next ends no sign of these parts
-abbrev pub stop_cause : HeadModel → List RowModel → List FontModel → List (List ℕ) → Option Cause
+abbrev pub stop_cause : HeadModel → List RowModel → List FontModel → List (List ℕ) → Option LineCause
 stop_cause head rows fonts [] = Some causes.NoEnd
 stop_cause head rows fonts (line ∷ lines) =
     if same_octets line (codes "end")
     then option_or (option_map causes.Sign (sign_cause (described head rows fonts))) (after_cause lines)
     else line_cause fonts line
 
-abbrev pub after_fonts_cause : HeadModel → List RowModel → List FontModel × List (List ℕ) → Option Cause
+abbrev pub after_fonts_cause : HeadModel → List RowModel → List FontModel × List (List ℕ) → Option LineCause
 after_fonts_cause head rows fonts = stop_cause head rows fonts.0 fonts.1
 
-abbrev pub rows_then_cause : HeadModel → List RowModel × List (List ℕ) → Option Cause
+abbrev pub rows_then_cause : HeadModel → List RowModel × List (List ℕ) → Option LineCause
 rows_then_cause head rows = after_fonts_cause head rows.0 (fonts_at rows.1)
 
-abbrev pub body_cause : Option (HeadModel × List (List ℕ)) → Option Cause
+abbrev pub body_cause : Option (HeadModel × List (List ℕ)) → Option LineCause
 body_cause None = None
 body_cause (Some head) = rows_then_cause head.0 (rows_from [] head.1)
 
 -- the first cause for which these lines are no sign's
-unfoldable pub first_cause : List (List ℕ) → Option Cause
+unfoldable pub first_cause : List (List ℕ) → Option LineCause
 first_cause lines = option_or (head_cause head_forms lines) (body_cause (head_at lines))

@@ -23,17 +23,20 @@ use std::alloc::Global;
 
 /// What a description says, and the number of its line `end`.
 #[derive(Drop)]
-pub(crate) struct Parts<'a> {
+pub(crate) struct DescriptionParts<'a> {
     pub head: Head<'a>,
     pub rows: Vec<OwnedRow>,
     pub fonts: Vec<Font>,
     pub end: usize,
 }
 
-impl<'a> Parts<'a> {
+impl<'a> DescriptionParts<'a> {
     /// What the first lines say, up to the line `end`, and the lines after it.
     #[tactic(auto, unfolding(crate::specs::DescriptionReading::description_at), using(crate::proofs::Refused::parts))]
-    fn read(alloc: Global, lines: Lines<'a>) -> Result<(Parts<'a>, Lines<'a>), DescriptionFault>
+    fn read(
+        alloc: Global,
+        lines: Lines<'a>,
+    ) -> Result<(DescriptionParts<'a>, Lines<'a>), DescriptionFault>
         ensures found { IfOk result
             (λ x. description_at (octets_left lines.entry) ≡ Some (parts_seen x.0, octets_left x.1)) }
         ensures last { IfOk result (λ x. Leaves (numbered_left lines.entry) (numbered_left x.1)) }
@@ -51,7 +54,7 @@ impl<'a> Parts<'a> {
         };
         let end = upcoming.number();
         let lines = upcoming.after_end().ok_or(DescriptionFault::Line(end))?;
-        let parts = Parts {
+        let parts = DescriptionParts {
             head,
             rows,
             fonts,
@@ -74,11 +77,11 @@ pub fn sign_of_lines(
         ⊎ ((it : Description) (rest : List (List ℕ)) → BeginsWith (octets_left lines.entry) rest it → ⊥)) }
     ensures number { IfErr result (NamesLine (λ number. number ≡ refused_number (numbered_left lines.entry))) }
 {
-    let (parts, rest) = match Parts::read(alloc, lines) {
+    let (parts, rest) = match DescriptionParts::read(alloc, lines) {
         Ok(found) => found,
         Err(fault) => return Err(fault),
     };
-    let Parts {
+    let DescriptionParts {
         head,
         rows,
         fonts,

@@ -19,25 +19,25 @@ use crate::rows::{OwnedRow, rows};
 use crate::sign_reasons::sign_cause;
 use crate::upcoming::Upcoming;
 use dms_face_font::{Font, FontFaultKind};
-use dms_sign_text_causes::{Cause, Form};
+use dms_sign_text_causes::{DescriptionLine, LineCause};
 use dms_text::{Lines, are_same};
 use dms_text_forms::word_fault;
 use std::alloc::{AllocError, Global};
 
 /// The lines with which a description begins.
-const HEAD: [Form; 7] = [
-    Form::Size,
-    Form::Communities,
-    Form::Rows,
-    Form::Order,
-    Form::Has,
-    Form::Defaults,
-    Form::First,
+const HEAD: [DescriptionLine; 7] = [
+    DescriptionLine::Size,
+    DescriptionLine::Communities,
+    DescriptionLine::Rows,
+    DescriptionLine::Order,
+    DescriptionLine::Has,
+    DescriptionLine::Defaults,
+    DescriptionLine::First,
 ];
 
 /// Why the line of this number is the one for which the description is refused. None is said of any other line, and
 /// none where the description is a sign's.
-pub fn why(alloc: Global, octets: &[u8], number: usize) -> Result<Option<Cause>, AllocError>
+pub fn why(alloc: Global, octets: &[u8], number: usize) -> Result<Option<LineCause>, AllocError>
     ensures cause { IfOk result (λ found. IfSome found (λ cause. first_cause (kept_lines octets.now) ≡ Some cause)) }
     ensures refused { IfOk result
         (λ found. IfSome found (λ cause. (it : Description) → SpellsSign (kept_lines octets.now) it → ⊥)) }
@@ -52,7 +52,7 @@ pub fn why(alloc: Global, octets: &[u8], number: usize) -> Result<Option<Cause>,
 }
 
 /// The first cause for which these octets are no sign's description.
-pub fn first_cause(alloc: Global, octets: &[u8]) -> Result<Option<Cause>, AllocError>
+pub fn first_cause(alloc: Global, octets: &[u8]) -> Result<Option<LineCause>, AllocError>
     ensures { IfOk result (λ found. found ≡ first_cause (kept_lines octets.now)) }
 {
     cause_of(alloc, octets)
@@ -60,7 +60,7 @@ pub fn first_cause(alloc: Global, octets: &[u8]) -> Result<Option<Cause>, AllocE
 
 /// What is wrong with the lines that are left of a text.
 #[tactic(auto, unfolding(crate::specs::Causes::first_cause))]
-fn cause_of(alloc: Global, octets: &[u8]) -> Result<Option<Cause>, AllocError>
+fn cause_of(alloc: Global, octets: &[u8]) -> Result<Option<LineCause>, AllocError>
     ensures { IfOk result (λ found. found ≡ first_cause (octets_left (record { number = 1; text = octets.now }))) }
 {
     if let Some(cause) = head_cause(&HEAD, Lines::of(octets)) {
@@ -73,7 +73,11 @@ fn cause_of(alloc: Global, octets: &[u8]) -> Result<Option<Cause>, AllocError>
 }
 
 /// Why the lines after the first seven end no sign.
-fn body_cause(alloc: Global, head: &Head<'_>, lines: Lines<'_>) -> Result<Option<Cause>, AllocError>
+fn body_cause(
+    alloc: Global,
+    head: &Head<'_>,
+    lines: Lines<'_>,
+) -> Result<Option<LineCause>, AllocError>
     ensures { IfOk result (λ found. found ≡ body_cause (Some (head_seen head.now, octets_left lines.entry))) }
 {
     let (rows, upcoming) = rows(alloc, Upcoming::of(lines))?;
@@ -82,7 +86,7 @@ fn body_cause(alloc: Global, head: &Head<'_>, lines: Lines<'_>) -> Result<Option
 }
 
 /// The first of these lines that has not its form.
-fn head_cause(forms: &[Form], lines: Lines<'_>) -> Option<Cause>
+fn head_cause(forms: &[DescriptionLine], lines: Lines<'_>) -> Option<LineCause>
     ensures { result ≡ head_cause forms.now (octets_left lines.entry) }
 {
     match forms {
@@ -90,7 +94,7 @@ fn head_cause(forms: &[Form], lines: Lines<'_>) -> Option<Cause>
         [form, others @ ..] => {
             let mut lines = lines;
             let Some(line) = lines.next_line() else {
-                return Some(Cause::NoEnd);
+                return Some(LineCause::NoEnd);
             };
             match form_cause(*form, line.octets) {
                 Some(cause) => Some(cause),
@@ -101,10 +105,10 @@ fn head_cause(forms: &[Form], lines: Lines<'_>) -> Option<Cause>
 }
 
 /// The first word of a line that is not of its form.
-fn form_cause(form: Form, line: &[u8]) -> Option<Cause>
+fn form_cause(form: DescriptionLine, line: &[u8]) -> Option<LineCause>
     ensures { result ≡ form_cause form line.now }
 {
-    word_fault(form.words(), line).map(Cause::Word)
+    word_fault(form.words(), line).map(LineCause::Word)
 }
 
 /// Why the line that comes next ends no sign of these parts.
@@ -114,64 +118,71 @@ fn stop_cause(
     rows: &[OwnedRow],
     fonts: Vec<Font>,
     lines: Upcoming<'_>,
-) -> Result<Option<Cause>, AllocError>
+) -> Result<Option<LineCause>, AllocError>
     ensures { IfOk result
         (λ found. found ≡ stop_cause (head_seen head.now) (map row_seen rows.now) fonts.items
         (octets_of lines.entry.lines)) }
 {
     let Some(line) = lines.peek() else {
-        return Ok(Some(Cause::NoEnd));
+        return Ok(Some(LineCause::NoEnd));
     };
     if !are_same(line, b"end") {
         return line_cause(alloc, fonts, line);
     }
     if let Some(cause) = sign_cause(alloc, head, rows, fonts)? {
-        return Ok(Some(Cause::Sign(cause)));
+        return Ok(Some(LineCause::Sign(cause)));
     }
     Ok(after_cause(lines))
 }
 
 /// A line stands after the line `end`, which comes next.
-fn after_cause(lines: Upcoming<'_>) -> Option<Cause>
+fn after_cause(lines: Upcoming<'_>) -> Option<LineCause>
     ensures { result ≡ after_cause (after (octets_of lines.entry.lines)) }
 {
     let mut lines = lines;
     lines.advance();
     match lines.peek() {
-        Some(_) => Some(Cause::AfterEnd),
+        Some(_) => Some(LineCause::AfterEnd),
         None => None,
     }
 }
 
 /// Why a line may not stand after these fonts.
-fn line_cause(alloc: Global, fonts: Vec<Font>, line: &[u8]) -> Result<Option<Cause>, AllocError>
+fn line_cause(alloc: Global, fonts: Vec<Font>, line: &[u8]) -> Result<Option<LineCause>, AllocError>
     ensures { IfOk result (λ found. found ≡ line_cause fonts.items line.now) }
 {
     match BodyWord::of(line) {
-        Some(BodyWord::Permanent) if fonts.is_empty() => Ok(form_cause(Form::Permanent, line)),
-        Some(BodyWord::Permanent) => Ok(Some(Cause::RowAfterFont)),
-        Some(BodyWord::Font) => Ok(form_cause(Form::Font, line)),
+        Some(BodyWord::Permanent) if fonts.is_empty() => Ok(form_cause(
+            DescriptionLine::Permanent,
+            line,
+        )),
+        Some(BodyWord::Permanent) => Ok(Some(LineCause::RowAfterFont)),
+        Some(BodyWord::Font) => Ok(form_cause(DescriptionLine::Font, line)),
         Some(BodyWord::Glyph) => glyph_cause(alloc, fonts, line),
-        Some(BodyWord::End) => Ok(form_cause(Form::End, line)),
-        None => Ok(Some(Cause::Keyword)),
+        Some(BodyWord::End) => Ok(form_cause(DescriptionLine::End, line)),
+        None => Ok(Some(LineCause::Keyword)),
     }
 }
 
 /// Why a line is no character of the last of these fonts.
-fn glyph_cause(alloc: Global, fonts: Vec<Font>, line: &[u8]) -> Result<Option<Cause>, AllocError>
+fn glyph_cause(
+    alloc: Global,
+    fonts: Vec<Font>,
+    line: &[u8],
+) -> Result<Option<LineCause>, AllocError>
     ensures { IfOk result (λ found. found ≡ glyph_cause fonts.items line.now) }
 {
     let Some(mut font) = last_font(fonts) else {
-        return Ok(Some(Cause::GlyphBeforeFont));
+        return Ok(Some(LineCause::GlyphBeforeFont));
     };
     match font.add_glyph(alloc, line) {
         Ok(()) => Ok(None),
         Err(FontFaultKind::Memory) => Err(AllocError),
         Err(kind) => {
             if is_no_glyph(kind) {
-                Ok(form_cause(Form::Glyph, line))
+                Ok(form_cause(DescriptionLine::Glyph, line))
             } else {
-                Ok(Some(Cause::Glyph(kind)))
+                Ok(Some(LineCause::Glyph(kind)))
             }
         }
     }

@@ -1,13 +1,13 @@
 -- What each word of a description's lines is to be (this profile).
 use Rattle.std.specs.Prelude.{List, [], ◌∷◌}
 use Rattle.dms_text_forms.specs.declared.vocabulary.Keyword.TheVariants as keywords
-use Rattle.dms_text_forms.specs.declared.vocabulary.Name.TheVariants as names
+use Rattle.dms_text_forms.specs.declared.vocabulary.WordName.TheVariants as names
 use Rattle.dms_text_forms.specs.declared.wanted.Wanted.{Wanted}
 use Rattle.dms_text_forms.specs.declared.wanted.Wanted.TheVariants as wanted
-use Rattle.dms_sign_text_causes.specs.declared.forms.Form.{Form}
-use Rattle.dms_sign_text_causes.specs.declared.forms.Form.TheVariants as forms
+use Rattle.dms_sign_text_causes.specs.declared.forms.DescriptionLine.{DescriptionLine}
+use Rattle.dms_sign_text_causes.specs.declared.forms.DescriptionLine.TheVariants as forms
 
-abbrev pub form_words : Form → List Wanted
+abbrev pub form_words : DescriptionLine → List Wanted
 form_words forms.Size = wanted.Keyword keywords.Size ∷ wanted.Number 0 65535 ∷ wanted.Number 0 65535 ∷ []
 form_words forms.Communities =
     wanted.Keyword keywords.Communities ∷ wanted.Name names.Reader ∷ wanted.Name names.Writer ∷ []

@@ -3,8 +3,8 @@ use Rattle.std.specs.Prelude.{ℕ, List, ◌++◌, codes, decimal}
 use Rattle.dms_face_font.specs.FaultTexts.{kind_text}
 use Rattle.dms_text_forms.specs.Texts.{fault_text}
 use Rattle.dms_face.specs.FaultTexts.{multi_fault_text}
-use Rattle.dms_sign_text_causes.specs.declared.cause.Cause.{Cause}
-use Rattle.dms_sign_text_causes.specs.declared.cause.Cause.TheVariants as causes
+use Rattle.dms_sign_text_causes.specs.declared.cause.LineCause.{LineCause}
+use Rattle.dms_sign_text_causes.specs.declared.cause.LineCause.TheVariants as causes
 use Rattle.dms_sign_text_causes.specs.declared.row_causes.RowCause.{RowCause}
 use Rattle.dms_sign_text_causes.specs.declared.row_causes.RowCause.TheVariants as row
 use Rattle.dms_sign_text_causes.specs.declared.sign_causes.SignCause.{SignCause}
@@ -42,7 +42,7 @@ sign_cause_text sign.VolatileRows = codes "there are more than 16 volatile rows"
 sign_cause_text (sign.Row number cause) =
     codes "permanent row " ++ (decimal number ++ (codes ": " ++ row_cause_text cause))
 
-abbrev pub cause_text : Cause → List ℕ
+abbrev pub cause_text : LineCause → List ℕ
 cause_text (causes.Word fault) = fault_text fault
 cause_text causes.NoEnd = codes "the text ends before its line `end`"
 cause_text causes.Keyword = codes "a row, a font, a character or `end` is wanted"

@@ -7,7 +7,7 @@ use std::fmt;
 
 /// Why a line of a description is refused.
 #[derive(Clone, Copy, Debug, PartialEq, Eq)]
-pub enum Cause {
+pub enum LineCause {
     /// A word of it is not what is wanted there.
     Word(WordFault),
     /// The text ends before the line `end`.
@@ -26,7 +26,7 @@ pub enum Cause {
     Sign(SignCause),
 }
 
-impl fmt::Display for Cause {
+impl fmt::Display for LineCause {
     ghost use Rattle.std.specs.Prelude.{Some};
     ghost use Rattle.dms_sign_text_causes.specs.Texts.{cause_text};
 
@@ -34,14 +34,14 @@ impl fmt::Display for Cause {
 
     fn fmt<W: fmt::Write>(&self, f: &mut fmt::Formatter<W>) -> fmt::Result {
         match self {
-            Cause::Word(fault) => write!(f, "{fault}"),
-            Cause::NoEnd => f.write_str("the text ends before its line `end`"),
-            Cause::Keyword => f.write_str("a row, a font, a character or `end` is wanted"),
-            Cause::RowAfterFont => f.write_str("a permanent row stands before all fonts"),
-            Cause::GlyphBeforeFont => f.write_str("a character stands after its font"),
-            Cause::Glyph(kind) => write!(f, "{kind}"),
-            Cause::AfterEnd => f.write_str("no line may stand after `end`"),
-            Cause::Sign(cause) => write!(f, "{cause}"),
+            LineCause::Word(fault) => write!(f, "{fault}"),
+            LineCause::NoEnd => f.write_str("the text ends before its line `end`"),
+            LineCause::Keyword => f.write_str("a row, a font, a character or `end` is wanted"),
+            LineCause::RowAfterFont => f.write_str("a permanent row stands before all fonts"),
+            LineCause::GlyphBeforeFont => f.write_str("a character stands after its font"),
+            LineCause::Glyph(kind) => write!(f, "{kind}"),
+            LineCause::AfterEnd => f.write_str("no line may stand after `end`"),
+            LineCause::Sign(cause) => write!(f, "{cause}"),
         }
     }
 }

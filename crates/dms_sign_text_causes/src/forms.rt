@@ -1,10 +1,10 @@
 //! What each word of a description's lines is to be.
 
-use dms_text_forms::{Keyword, Name, Wanted};
+use dms_text_forms::{Keyword, Wanted, WordName};
 
 /// A line of a description.
 #[derive(Clone, Copy)]
-pub enum Form {
+pub enum DescriptionLine {
     /// The columns and rows of the matrix.
     Size,
     /// The two communities.
@@ -29,7 +29,7 @@ pub enum Form {
     End,
 }
 
-impl Form {
+impl DescriptionLine {
     ghost use Rattle.std.specs.Prelude.{◌≡◌};
     ghost use Rattle.dms_sign_text_causes.specs.Forms.{form_words};
 
@@ -38,31 +38,31 @@ impl Form {
         ensures { result.now ≡ form_words self }
     {
         match self {
-            Form::Size => &[
+            DescriptionLine::Size => &[
                 Wanted::Keyword(Keyword::Size),
                 Wanted::Number(0, 65535),
                 Wanted::Number(0, 65535),
             ],
-            Form::Communities => &[
+            DescriptionLine::Communities => &[
                 Wanted::Keyword(Keyword::Communities),
-                Wanted::Name(Name::Reader),
-                Wanted::Name(Name::Writer),
+                Wanted::Name(WordName::Reader),
+                Wanted::Name(WordName::Writer),
             ],
-            Form::Rows => &[
+            DescriptionLine::Rows => &[
                 Wanted::Keyword(Keyword::Rows),
                 Wanted::Number(0, 255),
                 Wanted::Number(0, 255),
             ],
-            Form::Order => &[
+            DescriptionLine::Order => &[
                 Wanted::Keyword(Keyword::Order),
                 Wanted::Either(Keyword::High, Keyword::Swapped),
             ],
-            Form::Has => &[
+            DescriptionLine::Has => &[
                 Wanted::Keyword(Keyword::Has),
                 Wanted::Number(0, 1),
                 Wanted::Number(0, 1),
             ],
-            Form::Defaults => &[
+            DescriptionLine::Defaults => &[
                 Wanted::Keyword(Keyword::Defaults),
                 Wanted::Number(0, 255),
                 Wanted::Number(0, 255),
@@ -74,16 +74,16 @@ impl Form {
                 Wanted::Number(0, 255),
                 Wanted::Number(0, 255),
             ],
-            Form::First => &[Wanted::Keyword(Keyword::First), Wanted::FourOctets],
-            Form::Permanent => &[
+            DescriptionLine::First => &[Wanted::Keyword(Keyword::First), Wanted::FourOctets],
+            DescriptionLine::Permanent => &[
                 Wanted::Keyword(Keyword::Permanent),
-                Wanted::Octets(Name::Text),
-                Wanted::Octets(Name::Owner),
+                Wanted::Octets(WordName::Text),
+                Wanted::Octets(WordName::Owner),
                 Wanted::Number(0, 255),
                 Wanted::Number(0, 255),
                 Wanted::Number(0, 255),
             ],
-            Form::Font => &[
+            DescriptionLine::Font => &[
                 Wanted::Keyword(Keyword::Font),
                 Wanted::Number(1, 255),
                 Wanted::Keyword(Keyword::Height),
@@ -95,13 +95,13 @@ impl Form {
                 Wanted::Keyword(Keyword::Version),
                 Wanted::Version,
             ],
-            Form::Glyph => &[
+            DescriptionLine::Glyph => &[
                 Wanted::Keyword(Keyword::Glyph),
                 Wanted::Number(1, 65535),
                 Wanted::Number(1, 32),
-                Wanted::Octets(Name::Picture),
+                Wanted::Octets(WordName::Picture),
             ],
-            Form::End => &[Wanted::Keyword(Keyword::End)],
+            DescriptionLine::End => &[Wanted::Keyword(Keyword::End)],
         }
     }
 }

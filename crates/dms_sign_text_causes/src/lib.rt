@@ -12,8 +12,8 @@ mod row_causes;
 mod sign_causes;
 mod whole;
 
-pub use cause::Cause;
-pub use forms::Form;
+pub use cause::LineCause;
+pub use forms::DescriptionLine;
 pub use row_causes::{RowCause, row_cause};
 pub use sign_causes::SignCause;
 pub use whole::{communities_cause, counts_cause, face_cause, rows_cause};

@@ -10,7 +10,7 @@ use Rattle.dms_table.specs.Rows.{RowModel, FieldModel, TableModel, row_is_valida
 use Rattle.dms_table.specs.Validation.{settled_row}
 use Rattle.dms_table.specs.declared.row.Refused.{Refused}
 use Rattle.dms_table.specs.declared.writable.Writable.{Writable}
-use Rattle.dms_table.specs.declared.writable.Place.{Place}
+use Rattle.dms_table.specs.declared.writable.RowPlace.{RowPlace}
 use Rattle.dms_codes.specs.declared.status.Ask.{Ask}
 use Rattle.dms_codes.specs.Status.{is_validate}
 use Rattle.dms_table.specs.PlaceView.{of_type, IsOnly, IsOnlyOfAll, IsPlaced, validating_after}
@@ -140,21 +140,21 @@ alone : (memory : Writable) (changeable volatile : List RowModel) → 1 ≤ coun
     → (count (of_type memory changeable volatile) ≡ 1) × (count (of_type memory volatile changeable) ≡ 0)
 alone memory changeable volatile some one = grind arith
 
-pub only_of_type : (place : Place) (changeable volatile : List RowModel) → IsOnlyOfAll place changeable volatile
+pub only_of_type : (place : RowPlace) (changeable volatile : List RowModel) → IsOnlyOfAll place changeable volatile
     → IsOnly place.index (of_type place.memory changeable volatile)
 only_of_type place changeable volatile is = grind (arith, alone, counted)
 
-pub none_of_other : (place : Place) (changeable volatile : List RowModel) → IsOnlyOfAll place changeable volatile
+pub none_of_other : (place : RowPlace) (changeable volatile : List RowModel) → IsOnlyOfAll place changeable volatile
     → count (of_type place.memory volatile changeable) ≡ 0
 none_of_other place changeable volatile is = (alone place.memory changeable volatile (counted (of_type place.memory changeable volatile) place.index is.there) is.one).1
 
-pub placed_at : (validating : Option Place) (place : Place) (changeable volatile : List RowModel) → validating ≡ Some place
+pub placed_at : (validating : Option RowPlace) (place : RowPlace) (changeable volatile : List RowModel) → validating ≡ Some place
     → IsPlaced validating changeable volatile → IsOnlyOfAll place changeable volatile
-placed_at validating place changeable volatile is placed = subst (λ (v : Option Place). IsPlaced v changeable volatile) is placed
+placed_at validating place changeable volatile is placed = subst (λ (v : Option RowPlace). IsPlaced v changeable volatile) is placed
 
-pub placed_nowhere : (validating : Option Place) (changeable volatile : List RowModel) → validating ≡ None
+pub placed_nowhere : (validating : Option RowPlace) (changeable volatile : List RowModel) → validating ≡ None
     → IsPlaced validating changeable volatile → IsPlaced None changeable volatile
-placed_nowhere validating changeable volatile is placed = subst (λ (v : Option Place). IsPlaced v changeable volatile) is placed
+placed_nowhere validating changeable volatile is placed = subst (λ (v : Option RowPlace). IsPlaced v changeable volatile) is placed
 
 -- none of either type
 pub none_left : (memory : Writable) (changeable volatile rows : List RowModel) → count rows ≡ 0 → count (of_type memory volatile changeable) ≡ 0
@@ -178,7 +178,7 @@ kept_there : (memory other : Writable) (changeable volatile rows : List RowModel
 kept_there memory other changeable volatile rows index kept there = grind arith
 
 -- a change that validates no row leaves the place
-kept_place : (memory : Writable) (validating : Option Place) (changeable volatile more : List RowModel) (number : ℕ) (change : RowModel → Option RowModel)
+kept_place : (memory : Writable) (validating : Option RowPlace) (changeable volatile more : List RowModel) (number : ℕ) (change : RowModel → Option RowModel)
     → Frees change → changed_in (of_type memory changeable volatile) number change ≡ Some more → count more ≡ count (of_type memory changeable volatile)
     → IsPlaced validating changeable volatile → IsPlaced validating (of_type memory more changeable) (of_type memory volatile more)
 kept_place memory None changeable volatile more number change frees changed same is = grind (arith, changed_count, kept_there, kept_by, slice_get)
@@ -206,7 +206,7 @@ put_place memory changeable volatile more number index ask asks numbered changed
       one = omega (arith, extra, none, changed_count memory changeable volatile more, changed_one_row rows more number (extra_of ask) (asked_row ask) (asked_weight ask) changed);
     }
 
-asked_by : (asks : Bool) (memory : Writable) (validating : Option Place) (ask : Ask) (changeable volatile more : List RowModel) (number index : ℕ) → is_validate ask ≡ asks
+asked_by : (asks : Bool) (memory : Writable) (validating : Option RowPlace) (ask : Ask) (changeable volatile more : List RowModel) (number index : ℕ) → is_validate ask ≡ asks
     → (asks && is_some validating) ≡ false → index + 1 ≡ number → changed_in (of_type memory changeable volatile) number (asked_row ask) ≡ Some more
     → IsPlaced validating changeable volatile
     → IsPlaced (cond asks (Some (record { memory = memory; index = index })) validating) (of_type memory more changeable) (of_type memory volatile more)
@@ -221,23 +221,23 @@ asked_by false memory validating ask changeable volatile more number index asks 
 
 -- ---- whether a row is being validated
 
-placed_count : (validating : Option Place) (changeable volatile : List RowModel) → IsPlaced validating changeable volatile
+placed_count : (validating : Option RowPlace) (changeable volatile : List RowModel) → IsPlaced validating changeable volatile
     → count changeable + count volatile ≡ cond (is_some validating) 1 0
 placed_count validating changeable volatile is = grind arith
 
-pub placed_settling : (validating : Option Place) (table : TableModel) → IsPlaced validating table.changeable table.volatile → is_settling table ≡ is_some validating
+pub placed_settling : (validating : Option RowPlace) (table : TableModel) → IsPlaced validating table.changeable table.volatile → is_settling table ≡ is_some validating
 placed_settling validating table is =
     settling_is (is_some validating) table.changeable table.volatile (placed_count validating table.changeable table.volatile is)
 
 free_after : (asks has settling : Bool) → settling ≡ has → not (asks && settling) ≡ true → (asks && has) ≡ false
 free_after asks has settling is may = grind arith
 
-may_place : (validating : Option Place) (table : TableModel) (ask : Ask) → IsPlaced validating table.changeable table.volatile → may_ask table ask ≡ true
+may_place : (validating : Option RowPlace) (table : TableModel) (ask : Ask) → IsPlaced validating table.changeable table.volatile → may_ask table ask ≡ true
     → (is_validate ask && is_some validating) ≡ false
 may_place validating table ask is may = free_after (is_validate ask) (is_some validating) (is_settling table) (placed_settling validating table is) may
 
 -- a row has taken what it was asked
-pub asked_place : (memory : Writable) (validating after : Option Place) (table : TableModel) (ask : Ask) (more : List RowModel) (number index : ℕ)
+pub asked_place : (memory : Writable) (validating after : Option RowPlace) (table : TableModel) (ask : Ask) (more : List RowModel) (number index : ℕ)
     → IsPlaced validating table.changeable table.volatile → may_ask table ask ≡ true → index + 1 ≡ number
     → changed_in (of_type memory table.changeable table.volatile) number (asked_row ask) ≡ Some more
     → after ≡ validating_after validating ask (record { memory = memory; index = index })
@@ -247,12 +247,12 @@ asked_place memory validating after table ask more number index is may numbered 
 -- ---- writing
 
 -- rows that stay as they are
-pub same_place : (memory : Writable) (validating : Option Place) (changeable volatile more : List RowModel) → more ≡ of_type memory changeable volatile
+pub same_place : (memory : Writable) (validating : Option RowPlace) (changeable volatile more : List RowModel) → more ≡ of_type memory changeable volatile
     → IsPlaced validating changeable volatile → IsPlaced validating (of_type memory more changeable) (of_type memory volatile more)
 same_place memory validating changeable volatile more same is = grind arith
 
 -- a row was written, or not
-pub written_place : (memory : Writable) (validating : Option Place) (field : FieldModel) (changeable volatile more : List RowModel) (number : ℕ)
+pub written_place : (memory : Writable) (validating : Option RowPlace) (field : FieldModel) (changeable volatile more : List RowModel) (number : ℕ)
     (result : Result Unit Refused) → OnOk result (changed_in (of_type memory changeable volatile) number (written_row field) ≡ Some more)
     → OnErr result (more ≡ of_type memory changeable volatile)
     → IsPlaced validating changeable volatile → IsPlaced validating (of_type memory more changeable) (of_type memory volatile more)

@@ -8,7 +8,7 @@ use Rattle.dms_codes.specs.declared.memory.Memory.TheVariants as memories
 use Rattle.dms_codes.specs.Memory.{memory_of}
 use Rattle.dms_table.specs.declared.writable.Writable.{Writable}
 use Rattle.dms_table.specs.declared.writable.Writable.TheVariants.{Changeable, Volatile}
-use Rattle.dms_table.specs.declared.writable.Place.{Place}
+use Rattle.dms_table.specs.declared.writable.RowPlace.{RowPlace}
 use Rattle.dms_table.specs.Rows.{RowModel, row_is_validating}
 
 -- a type of memory, where its rows can be changed
@@ -32,16 +32,16 @@ pub record IsOnly (index : ℕ) (rows : List RowModel) : Type 0 where
   pub one : count_by row_is_validating rows ≡ 1
 
 -- the row at this place is being validated, and no other of all
-pub record IsOnlyOfAll (place : Place) (changeable volatile : List RowModel) : Type 0 where
+pub record IsOnlyOfAll (place : RowPlace) (changeable volatile : List RowModel) : Type 0 where
   pub there : option_map row_is_validating (slice_get (of_type place.memory changeable volatile) place.index)
       ≡ Some true
   pub one : count_by row_is_validating changeable + count_by row_is_validating volatile ≡ 1
 
 -- the row at this place alone is being validated, or none is
-abbrev pub IsPlaced : Option Place → (changeable volatile : List RowModel) → Type 0
+abbrev pub IsPlaced : Option RowPlace → (changeable volatile : List RowModel) → Type 0
 IsPlaced None changeable volatile = count_by row_is_validating changeable + count_by row_is_validating volatile ≡ 0
 IsPlaced (Some place) changeable volatile = IsOnlyOfAll place changeable volatile
 
 -- the place once a row at another has taken what it was asked
-abbrev pub validating_after : Option Place → Ask → Place → Option Place
+abbrev pub validating_after : Option RowPlace → Ask → RowPlace → Option RowPlace
 validating_after validating ask place = if is_validate ask then Some place else validating

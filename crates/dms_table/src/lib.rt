@@ -30,4 +30,4 @@ pub use shown::{Shown, seconds_of};
 pub use stock::{Permanent, Stock, TableFault};
 pub use table::Table;
 pub use validation::Verdict;
-pub use writable::{Place, Writable};
+pub use writable::{RowPlace, Writable};

@@ -21,7 +21,7 @@ ghost use Rattle.dms_table.specs.Stock.{PermanentRowsAreGood, HasOctets};
 use crate::row::{Field, Refused, Row, RowView, Services};
 use crate::stock::{Stock, TableFault, permanent_rows, unused_rows};
 use crate::validation::{Validator, Verdict};
-use crate::writable::{Place, Writable, WritableRows};
+use crate::writable::{RowPlace, Writable, WritableRows};
 use dms_codes::{Ask, Memory, Order, RowId, memory};
 use dms_face::{Defaults, Face};
 use std::alloc::{AllocError, Global};
@@ -35,7 +35,7 @@ pub struct Table {
     services: Services,
     order: Order,
     /// The row that is being validated.
-    validating: Option<Place>,
+    validating: Option<RowPlace>,
 }
 
 impl Model for Table {
@@ -159,7 +159,7 @@ impl Table {
     }
 
     /// Where the row stands that the next `settle` settles.
-    pub fn settling(&self) -> Option<Place>
+    pub fn settling(&self) -> Option<RowPlace>
         ensures { IsPlaced result self.now.changeable self.now.volatile }
     {
         self.validating
@@ -203,7 +203,7 @@ impl Table {
             return Err(Refused);
         };
         let index = ask_in(self.writable.of_mut(memory), id.number, ask)?;
-        self.validating = validating_after(self.validating, ask, Place { memory, index });
+        self.validating = validating_after(self.validating, ask, RowPlace { memory, index });
         Ok(())
     }
 
@@ -256,7 +256,7 @@ fn is_validate(ask: Ask) -> bool
 }
 
 /// The row that is being validated once a row at a place has taken this.
-fn validating_after(validating: Option<Place>, ask: Ask, place: Place) -> Option<Place>
+fn validating_after(validating: Option<RowPlace>, ask: Ask, place: RowPlace) -> Option<RowPlace>
     ensures { result ≡ validating_after validating ask place }
 {
     if is_validate(ask) {

@@ -19,7 +19,7 @@ pub enum Writable {
 
 /// Where a row stands that can be changed.
 #[derive(Clone, Copy, Debug, PartialEq, Eq)]
-pub struct Place {
+pub struct RowPlace {
     /// The type of its memory.
     pub memory: Writable,
     /// Its index among the rows of that memory: that of number 1 stands at 0.

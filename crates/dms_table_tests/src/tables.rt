@@ -4,7 +4,7 @@
 use dms_face::{Defaults, Face, MultiFault, MultiFaultCode};
 use dms_sign_bench::{B, DEFAULTS, face, stock};
 use dms_table::{
-    Activation, Ask, Cause, Field, Mode, Order, Permanent, Place, Refused, RowId, Shown, Status,
+    Activation, Ask, Cause, Field, Mode, Order, Permanent, Refused, RowId, RowPlace, Shown, Status,
     Stock, Table, TableFault, Verdict, Writable, memory,
 };
 use std::alloc::Global;
@@ -544,7 +544,7 @@ fn check_begun(rt: &impl Abort, table: &mut Table) {
             Ok(()),
             Ok(()),
             false,
-            Some(Place {
+            Some(RowPlace {
                 memory: Writable::Changeable,
                 index: 0
             })
@@ -553,7 +553,7 @@ fn check_begun(rt: &impl Abort, table: &mut Table) {
 }
 
 /// The error of the verdict on it, whether it passes, what is being validated then, and the row's checksum.
-fn settled(table: &mut Table, face: &Face) -> Option<(u8, bool, Option<Place>, Option<u16>)> {
+fn settled(table: &mut Table, face: &Face) -> Option<(u8, bool, Option<RowPlace>, Option<u16>)> {
     let verdict = table.settle(face, &face.defaults())?;
     Some((
         verdict.error,

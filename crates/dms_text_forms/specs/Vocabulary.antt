@@ -3,8 +3,8 @@
 use Rattle.std.specs.Prelude.{ℕ, List, codes}
 use Rattle.dms_text_forms.specs.declared.vocabulary.Keyword.{Keyword}
 use Rattle.dms_text_forms.specs.declared.vocabulary.Keyword.TheVariants as keywords
-use Rattle.dms_text_forms.specs.declared.vocabulary.Name.{Name}
-use Rattle.dms_text_forms.specs.declared.vocabulary.Name.TheVariants as names
+use Rattle.dms_text_forms.specs.declared.vocabulary.WordName.{WordName}
+use Rattle.dms_text_forms.specs.declared.vocabulary.WordName.TheVariants as names
 
 abbrev pub keyword_text : Keyword → List ℕ
 keyword_text keywords.Size = codes "size"
@@ -37,7 +37,7 @@ keyword_text keywords.CentreRestart = codes "centre-restart"
 keyword_text keywords.ForgeSign = codes "forge-sign"
 keyword_text keywords.ForgeCentre = codes "forge-centre"
 
-abbrev pub name_text : Name → List ℕ
+abbrev pub name_text : WordName → List ℕ
 name_text names.Reader = codes "the first community"
 name_text names.Writer = codes "the second community"
 name_text names.Text = codes "a text"

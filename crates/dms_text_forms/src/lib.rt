@@ -17,5 +17,5 @@ mod wanted;
 
 pub use fault::{WordFault, WordFaultKind};
 pub use form::word_fault;
-pub use vocabulary::{Keyword, Name};
+pub use vocabulary::{Keyword, WordName};
 pub use wanted::Wanted;

@@ -78,7 +78,7 @@ impl Keyword {
 
 /// What a word is, where any word or any octets will do.
 #[derive(Clone, Copy, Debug, PartialEq, Eq)]
-pub enum Name {
+pub enum WordName {
     Reader,
     Writer,
     Text,
@@ -87,7 +87,7 @@ pub enum Name {
     Datagram,
 }
 
-impl Name {
+impl WordName {
     ghost use Rattle.std.specs.Prelude.{◌≡◌};
     ghost use Rattle.dms_text_forms.specs.Vocabulary.{name_text};
 
@@ -96,12 +96,12 @@ impl Name {
         ensures { result.now ≡ name_text self }
     {
         match self {
-            Name::Reader => "the first community",
-            Name::Writer => "the second community",
-            Name::Text => "a text",
-            Name::Owner => "an owner",
-            Name::Picture => "a picture",
-            Name::Datagram => "a datagram",
+            WordName::Reader => "the first community",
+            WordName::Writer => "the second community",
+            WordName::Text => "a text",
+            WordName::Owner => "an owner",
+            WordName::Picture => "a picture",
+            WordName::Datagram => "a datagram",
         }
     }
 }

@@ -1,6 +1,6 @@
 //! What a word of a line is to be.
 
-use crate::vocabulary::{Keyword, Name};
+use crate::vocabulary::{Keyword, WordName};
 use std::fmt;
 
 /// What a word of a line is to be.
@@ -11,13 +11,13 @@ pub enum Wanted {
     /// One of these two words.
     Either(Keyword, Keyword),
     /// Any word, of this name.
-    Name(Name),
+    Name(WordName),
     /// A number of one to five decimal digits, from the first of these to the second.
     Number(u16, u16),
     /// A number of one to ten decimal digits, below 2^32.
     FourOctets,
     /// Octets of this name in hexadecimal digits, none as `-`.
-    Octets(Name),
+    Octets(WordName),
     /// A number of just four hexadecimal digits.
     Version,
     /// Four numbers with dots between them.

@@ -1,6 +1,6 @@
 //! The program's subcommands, their words and their help.
 
-use crate::word::{Flag, Valued, Wanted, Word, arg};
+use crate::word::{Flag, Valued, WantedWord, Word, arg};
 use clap::Command;
 use std::alloc::{AllocError, Global};
 
@@ -28,7 +28,7 @@ const SUBCOMMANDS: [Subcommand; 10] = [
     Subcommand {
         name: "answer",
         about: "Prints the sign's reply to a datagram",
-        words: &[Word::Flag(Flag::Sign), Word::Wanted(Wanted::Datagram)],
+        words: &[Word::Flag(Flag::Sign), Word::Wanted(WantedWord::Datagram)],
     },
     Subcommand {
         name: "check",
@@ -36,7 +36,7 @@ const SUBCOMMANDS: [Subcommand; 10] = [
         words: &[
             Word::Flag(Flag::Sign),
             Word::Flag(Flag::Json),
-            Word::Wanted(Wanted::Text),
+            Word::Wanted(WantedWord::Text),
         ],
     },
     Subcommand {
@@ -46,16 +46,16 @@ const SUBCOMMANDS: [Subcommand; 10] = [
             Word::Flag(Flag::Sign),
             Word::Flag(Flag::Svg),
             Word::Valued(Valued::Page),
-            Word::Wanted(Wanted::Text),
+            Word::Wanted(WantedWord::Text),
         ],
     },
     Subcommand {
         name: "code",
         about: "Prints a message's checksum and the code that activates it",
         words: &[
-            Word::Wanted(Wanted::RowMemory),
-            Word::Wanted(Wanted::Number),
-            Word::Wanted(Wanted::Text),
+            Word::Wanted(WantedWord::RowMemory),
+            Word::Wanted(WantedWord::Number),
+            Word::Wanted(WantedWord::Text),
             Word::Flag(Flag::Beacon),
             Word::Flag(Flag::Pixel),
             Word::Flag(Flag::Swapped),
@@ -68,9 +68,9 @@ const SUBCOMMANDS: [Subcommand; 10] = [
         name: "activation",
         about: "Prints the code that activates the message of a checksum",
         words: &[
-            Word::Wanted(Wanted::CodeMemory),
-            Word::Wanted(Wanted::Number),
-            Word::Wanted(Wanted::Checksum),
+            Word::Wanted(WantedWord::CodeMemory),
+            Word::Wanted(WantedWord::Number),
+            Word::Wanted(WantedWord::Checksum),
             Word::Flag(Flag::Swapped),
             Word::Valued(Valued::Duration),
             Word::Valued(Valued::Priority),
@@ -83,13 +83,13 @@ const SUBCOMMANDS: [Subcommand; 10] = [
         words: &[
             Word::Flag(Flag::Spaced),
             Word::Flag(Flag::Json),
-            Word::Wanted(Wanted::Datagram),
+            Word::Wanted(WantedWord::Datagram),
         ],
     },
     Subcommand {
         name: "items",
         about: "Prints the items of a text with their offsets in octets, or the text's fault",
-        words: &[Word::Flag(Flag::Json), Word::Wanted(Wanted::Text)],
+        words: &[Word::Flag(Flag::Json), Word::Wanted(WantedWord::Text)],
     },
     Subcommand {
         name: "replay",

@@ -6,14 +6,14 @@ use std::alloc::Global;
 /// A word or an option of a subcommand.
 #[derive(Clone, Copy)]
 pub(crate) enum Word {
-    Wanted(Wanted),
+    Wanted(WantedWord),
     Flag(Flag),
     Valued(Valued),
 }
 
 /// A word that has to stand.
 #[derive(Clone, Copy)]
-pub(crate) enum Wanted {
+pub(crate) enum WantedWord {
     Datagram,
     Text,
     /// The type of memory of a row that has a text of its own.
@@ -56,7 +56,7 @@ pub(crate) fn arg<'a>(alloc: Global, word: Word) -> Arg<'a> {
     }
 }
 
-impl Wanted {
+impl WantedWord {
     fn arg<'a>(self, alloc: Global) -> Arg<'a> {
         let (name, help) = self.name_and_help();
         Arg::new(alloc, name).required(true).help(help)
@@ -64,21 +64,21 @@ impl Wanted {
 
     fn name_and_help<'a>(self) -> (&'a str, &'a str) {
         match self {
-            Wanted::Datagram => (
+            WantedWord::Datagram => (
                 "HEX",
                 "the datagram, two hexadecimal digits an octet, with nothing between octets",
             ),
-            Wanted::Text => ("TEXT", "the message's text, at most 512 octets"),
-            Wanted::RowMemory => (
+            WantedWord::Text => ("TEXT", "the message's text, at most 512 octets"),
+            WantedWord::RowMemory => (
                 "TYPE",
                 "the memory type: 2 permanent, 3 changeable, 4 volatile",
             ),
-            Wanted::CodeMemory => (
+            WantedWord::CodeMemory => (
                 "MEMORY",
                 "the memory type: 2 permanent, 3 changeable, 4 volatile, 5 what is shown, 7 blank",
             ),
-            Wanted::Number => ("NUMBER", "the message's number, 1 to 65535"),
-            Wanted::Checksum => (
+            WantedWord::Number => ("NUMBER", "the message's number, 1 to 65535"),
+            WantedWord::Checksum => (
                 "CHECKSUM",
                 "the message's checksum, four hexadecimal digits; 0000 for a blank message",
             ),

@@ -11,10 +11,10 @@ ghost use Rattle.dms_sign.specs.SetView.{AreSettings, IsCommandInRange, Says, St
 ghost use Rattle.dms_sign.specs.SetRequest.{assigned};
 ghost use Rattle.dms_sign.specs.Requests.{activated, with_remaining, writes_of, commanded, commanded_if, set};
 
-use crate::sign::set_request::{Judged, Refusal, write_fields};
+use crate::sign::set_request::{Judged, SetRefusal, write_fields};
 use crate::sign::{Sign, judge};
 use dms_codes::{Activation, Ask, RowId};
-use dms_sign_access::{Change, Settings};
+use dms_sign_access::{Change, SignSettings};
 use dms_table::{Mode, seconds_of};
 use dms_wire::{Binds, ErrorStatus};
 
@@ -24,7 +24,7 @@ impl Sign {
         &mut self,
         may_write: bool,
         binds: &Binds<'_>,
-    ) -> Result<Option<Activation>, Refusal>
+    ) -> Result<Option<Activation>, SetRefusal>
         requires few { length binds.now ≤ most_bindings }
         requires limits { AreBindingsInLimits binds.now }
         ensures after { self.new ≡ (set self.old may_write binds.now).after }
@@ -41,7 +41,7 @@ impl Sign {
         &mut self,
         judged: &Judged<'_>,
         binds: &Binds<'_>,
-    ) -> Result<Option<Activation>, Refusal>
+    ) -> Result<Option<Activation>, SetRefusal>
         requires settings { AreSettings judged.now.settings (assigned self.old (writes_of self.old binds.now)) }
         requires fields { StaysWithout judged.now.fields self.old binds.now }
         requires limits { AreBindingsInLimits binds.now }
@@ -73,7 +73,7 @@ impl Sign {
         ask: Ask,
         judged: &Judged<'_>,
         binds: &Binds<'_>,
-    ) -> Result<Option<Activation>, Refusal>
+    ) -> Result<Option<Activation>, SetRefusal>
         requires settings { AreSettings judged.now.settings (assigned self.old (writes_of self.old binds.now)) }
         requires fields { StaysWithout judged.now.fields self.old binds.now }
         requires limits { AreBindingsInLimits binds.now }
@@ -87,7 +87,7 @@ impl Sign {
             self.ask(id, ask);
             Ok(None)
         } else {
-            Err(Refusal {
+            Err(SetRefusal {
                 index: judged.index,
                 status: ErrorStatus::GenErr,
             })
@@ -100,7 +100,7 @@ impl Sign {
         octets: [u8; 12],
         judged: &Judged<'_>,
         binds: &Binds<'_>,
-    ) -> Result<Option<Activation>, Refusal>
+    ) -> Result<Option<Activation>, SetRefusal>
         requires settings { AreSettings judged.now.settings (assigned self.old (writes_of self.old binds.now)) }
         requires fields { StaysWithout judged.now.fields self.old binds.now }
         requires limits { AreBindingsInLimits binds.now }
@@ -127,7 +127,7 @@ impl Sign {
             }
             Err(cause) => {
                 self.refuse_code(&cause, octets);
-                Err(Refusal {
+                Err(SetRefusal {
                     index: judged.index,
                     status: ErrorStatus::GenErr,
                 })
@@ -149,7 +149,7 @@ impl Sign {
         }
     }
 
-    fn assign_fields(&mut self, settings: Settings, binds: &Binds<'_>)
+    fn assign_fields(&mut self, settings: SignSettings, binds: &Binds<'_>)
         requires settings { AreSettings settings (assigned self.old (writes_of self.old binds.now)) }
         requires limits { AreBindingsInLimits binds.now }
         ensures { self.new ≡ assigned self.old (writes_of self.old binds.now) }
@@ -159,7 +159,7 @@ impl Sign {
         self.settings = settings;
     }
 
-    fn assign_settings(&mut self, settings: Settings, binds: &Binds<'_>)
+    fn assign_settings(&mut self, settings: SignSettings, binds: &Binds<'_>)
         requires settings { AreSettings settings (assigned self.old (writes_of self.old binds.now)) }
         requires fields { StaysWithout false self.old binds.now }
         requires limits { AreBindingsInLimits binds.now }

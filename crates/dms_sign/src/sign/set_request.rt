@@ -21,13 +21,13 @@ use dms_codes::Status;
 use dms_face::Face;
 use dms_mib::Instance;
 use dms_mib_instances::Counts;
-use dms_sign_access::{Change, Settings, Slots, is_settable, mark_name, was_given, write_of};
+use dms_sign_access::{Change, SignSettings, Slots, is_settable, mark_name, was_given, write_of};
 use dms_table::Table;
 use dms_wire::{Bind, Binds, ErrorStatus, Oid};
 
 /// Why a SET is refused: the index of a binding, from 1, and an error-status.
 #[derive(Clone, Copy, Debug, PartialEq, Eq)]
-pub(super) struct Refusal {
+pub(super) struct SetRefusal {
     pub index: u32,
     pub status: ErrorStatus,
 }
@@ -36,7 +36,7 @@ pub(super) struct Refusal {
 /// its index.
 #[derive(Clone, Copy)]
 pub(super) struct Judged<'a> {
-    pub settings: Settings,
+    pub settings: SignSettings,
     pub fields: bool,
     pub index: u32,
     pub command: Option<Change<'a>>,
@@ -114,10 +114,10 @@ impl Sign {
     /// What the bindings write, or the first cause of a refusal.
     pub(super) fn judged<'a>(
         &self,
-        settings: Settings,
+        settings: SignSettings,
         may_write: bool,
         binds: &Binds<'a>,
-    ) -> Result<Judged<'a>, Refusal>
+    ) -> Result<Judged<'a>, SetRefusal>
         requires { length binds.now ≤ most_bindings }
         ensures none { OnOk result (causes self.now may_write binds.now ≡ []) }
         ensures settings { IfOk result (λ judged. judged.settings ≡ set_by settings (writes_of self.now binds.now)) }
@@ -146,7 +146,7 @@ impl Sign {
                     judged.note(index, change);
                 }
                 Err(status) => {
-                    return Err(Refusal {
+                    return Err(SetRefusal {
                         index: index + 1,
                         status,
                     });
@@ -181,7 +181,7 @@ impl<'a> Judged<'a> {
 
 /// Assigns what a binding writes: out of line, so that the settings are copied as a whole.
 #[inline(never)]
-fn assign(settings: &mut Settings, change: &Change<'_>)
+fn assign(settings: &mut SignSettings, change: &Change<'_>)
     requires { IsChange change.now }
     ensures { settings.new ≡ set_by settings.old (write_by change.now ∷ []) }
 {

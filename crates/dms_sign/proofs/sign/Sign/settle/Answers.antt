@@ -1,5 +1,5 @@
 use Rattle.std.proofs.Common.{Option, subst, arith}
-use Rattle.dms_table.specs.declared.writable.Place.{Place}
+use Rattle.dms_table.specs.declared.writable.RowPlace.{RowPlace}
 use Rattle.dms_table.specs.PlaceView.{IsPlaced}
 use Rattle.dms_sign.specs.SignView.{state_of}
 use Rattle.dms_sign.proofs.Wholes.{verdict_placed, room_for, unsettled, settled_whole}
@@ -18,5 +18,5 @@ pub invariant_of-self : goal.invariant_of-self
 invariant_of-self c =
     let s = state_of c.self.inside in
     settled_whole c.self.inside c.in-Some.place c.settle-verdict.new.self c.settle-verdict.result c.with_verdict-self-inside.result c.note.new.self c.self.invariant
-    (omega arith) (subst (λ (o : Option Place). IsPlaced o s.table.changeable s.table.volatile) c.in-Some.is c.settling.ensures)
+    (omega arith) (subst (λ (o : Option RowPlace). IsPlaced o s.table.changeable s.table.volatile) c.in-Some.is c.settling.ensures)
     c.settle-verdict.ensures.rows c.settle-verdict.ensures.verdict c.with_verdict-self-inside.ensures c.note.ensures

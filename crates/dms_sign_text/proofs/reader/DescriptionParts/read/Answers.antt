@@ -3,7 +3,7 @@ use Rattle.std.proofs.lemmas.Option.{MatchOption-at_some}
 use Rattle.dms_sign_text.specs.Views.{head_seen}
 use Rattle.dms_sign_text.proofs.LastLines.{leaves_after}
 use Rattle.dms_sign_text.proofs.Refused.{misfit_refused, ReadTo, read_to, stop_refused}
-use Rattle.dms_sign_text.proofs.reader.Parts.read.Goals as goal
+use Rattle.dms_sign_text.proofs.reader.DescriptionParts.read.Goals as goal
 
 pub returns-in_err-head-clause-number : goal.returns-in_err-head-clause-number
 returns-in_err-head-clause-number c =
