@@ -166,7 +166,7 @@ fn check_goes_on(rt: &impl Abort, centre: &mut Centre) {
 
 /// Each change of one octet of a Get is not heard: the request that waits is as old as before, and its reply is taken.
 #[test]
-fn changed_octets(rt: HostRuntime) {
+fn a_get_with_a_changed_octet_is_not_heard(rt: HostRuntime) {
     let mut centre = publishing(&rt, rt.alloc());
     for place in 0..cases::GET.len() {
         let mut datagram = cases::GET;
@@ -206,7 +206,7 @@ fn cut_and_longer_replies(rt: HostRuntime) {
 }
 
 #[test]
-fn published(rt: HostRuntime) {
+fn a_publication_goes_through_eight_steps(rt: HostRuntime) {
     let mut centre = centre(&rt, rt.alloc(), Order::High, 1);
     check_reported(&rt, &centre, (false, Ended::Never, 0));
     let (first, _) = cases::PUBLISHED[0];
@@ -268,7 +268,7 @@ fn check_ending(rt: &impl Abort, alloc: Global, count: usize, reply: &[u8], ende
 }
 
 #[test]
-fn failed(rt: HostRuntime) {
+fn each_way_to_fail_ends_the_job_as_it_says(rt: HostRuntime) {
     for (count, reply, ended) in &cases::ENDINGS {
         check_ending(&rt, rt.alloc(), *count, reply, *ended);
     }
@@ -332,7 +332,7 @@ const BLANK_CODE: Activation = Activation {
 };
 
 #[test]
-fn restarted(rt: HostRuntime) {
+fn what_waited_at_a_restart_is_unknown(rt: HostRuntime) {
     let mut centre = centre(&rt, rt.alloc(), Order::High, 1);
     check_sent(&rt, &mut centre, BLANK, &cases::BLANK);
     centre.restart();
@@ -346,7 +346,7 @@ fn restarted(rt: HostRuntime) {
 }
 
 #[test]
-fn last_number(rt: HostRuntime) {
+fn after_the_last_number_nothing_is_sent(rt: HostRuntime) {
     let mut centre = centre(&rt, rt.alloc(), Order::High, 2_147_483_647);
     check_sent(
         &rt,
@@ -418,7 +418,7 @@ fn check_refused(
 
 /// What is refused is not sent and changes nothing, and the first fault is reported.
 #[test]
-fn refused_commands(rt: HostRuntime) {
+fn a_refused_command_changes_nothing(rt: HostRuntime) {
     let text = [b'A'; 513];
     let mut out = Out::new();
     let mut centre = centre(&rt, rt.alloc(), Order::High, 1);
@@ -449,7 +449,7 @@ fn refused_commands(rt: HostRuntime) {
 }
 
 #[test]
-fn communities(rt: HostRuntime) {
+fn a_community_has_1_to_32_octets(rt: HostRuntime) {
     let long = [b'c'; 33];
     for (size, fault) in [
         (0, Some(CentreFault::Community)),
@@ -533,7 +533,7 @@ fn check_text<T: Display + Drop>(
 }
 
 #[test]
-fn printed_outcomes(rt: HostRuntime) -> Result<(), Fail> {
+fn each_outcome_is_printed_as_its_word(rt: HostRuntime) -> Result<(), Fail> {
     for (outcome, text) in [
         (Outcome::Waiting, "waiting"),
         (Outcome::Accepted, "accepted"),
@@ -548,7 +548,7 @@ fn printed_outcomes(rt: HostRuntime) -> Result<(), Fail> {
 }
 
 #[test]
-fn printed_ends(rt: HostRuntime) -> Result<(), Fail> {
+fn each_end_is_printed_with_its_step(rt: HostRuntime) -> Result<(), Fail> {
     for (ended, text) in [
         (Ended::Never, "no job has ended"),
         (Ended::Accepted, "accepted"),
@@ -592,7 +592,7 @@ fn printed_ends(rt: HostRuntime) -> Result<(), Fail> {
 }
 
 #[test]
-fn printed(rt: HostRuntime) -> Result<(), Fail> {
+fn each_fault_is_printed_as_its_sentence(rt: HostRuntime) -> Result<(), Fail> {
     let alloc = rt.alloc();
     check_text(
         &rt,

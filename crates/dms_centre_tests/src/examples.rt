@@ -22,7 +22,7 @@ const SETTINGS: Settings<'static> = Settings {
 };
 
 #[test]
-fn requests(rt: HostRuntime) -> Result<(), Fail> {
+fn a_job_of_a_blank_command_begins_with_its_activation(rt: HostRuntime) -> Result<(), Fail> {
     let mut job = Job::none();
     job.begin(&BLANK);
     let mut out = Out::new();
@@ -32,7 +32,7 @@ fn requests(rt: HostRuntime) -> Result<(), Fail> {
 }
 
 #[test]
-fn centre(rt: HostRuntime) -> Result<(), Fail> {
+fn a_restart_keeps_the_entry_that_waits(rt: HostRuntime) -> Result<(), Fail> {
     let mut centre = Centre::new(rt.alloc(), SETTINGS, 1)?;
     let mut out = Out::new();
     centre.command(BLANK, &mut out)?;
@@ -43,7 +43,7 @@ fn centre(rt: HostRuntime) -> Result<(), Fail> {
 }
 
 #[test]
-fn world(rt: HostRuntime) -> Result<(), Fail> {
+fn a_world_runs_the_events_of_its_page(rt: HostRuntime) -> Result<(), Fail> {
     let config = Config {
         face: face(rt.alloc())?,
         stock: stock(&[]),

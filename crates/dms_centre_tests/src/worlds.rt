@@ -157,7 +157,7 @@ fn seen(alloc: Global, events: &[Event<'_>], request: u32) -> Result<(Seen, usiz
 /// A publication is accepted at the sixteenth event. Where the run stops out of memory, it goes on after the stop, and
 /// counts from there.
 #[test]
-fn publication(rt: HostRuntime) -> Result<(), Fail> {
+fn a_publication_is_accepted_at_its_sixteenth_event(rt: HostRuntime) -> Result<(), Fail> {
     let (found, stop) = seen(rt.alloc(), &PUBLICATION, 7)?;
     assert_eq!(rt;
         found,
@@ -229,7 +229,7 @@ static IN_VAIN: [Event<'static>; 6] = [
 
 /// A second command, a delivery of what was never sent and a delivery to a sign without power change nothing.
 #[test]
-fn nothing_happens(rt: HostRuntime) -> Result<(), Fail> {
+fn what_cannot_happen_changes_nothing(rt: HostRuntime) -> Result<(), Fail> {
     let (mut world, _) = after_all(rt.alloc(), &IN_VAIN)?;
     let before = counts(&world);
     let stop = run_through(&mut world, &[Event::PowerBack(1), Event::ToSign(0)]);
@@ -242,7 +242,7 @@ fn nothing_happens(rt: HostRuntime) -> Result<(), Fail> {
 
 /// A forged reply makes the centre record what never was, and enters no list.
 #[test]
-fn forged_reply(rt: HostRuntime) -> Result<(), Fail> {
+fn a_forged_reply_is_recorded_and_enters_no_list(rt: HostRuntime) -> Result<(), Fail> {
     let events = [
         Event::Command(Command::Activate(CODE)),
         Event::ForgeCentre(&cases::NOTHING_BOUND),

@@ -74,7 +74,7 @@ fn check_text_with(rt: &impl Abort, face: &Face, others: &[Other], text: &str, e
 }
 
 #[test]
-fn other_defaults(rt: HostRuntime) -> Result<(), Fail> {
+fn other_defaults_hold(rt: HostRuntime) -> Result<(), Fail> {
     let face = face(rt.alloc())?;
     let small: &[Other] = &[Other::Font(2)];
     let right: &[Other] = &[Other::Line(4), Other::Page(4)];
@@ -93,7 +93,7 @@ fn other_defaults(rt: HostRuntime) -> Result<(), Fail> {
 
 /// One of the defaults is another: a text's answers under the sign's own and under these.
 #[test]
-fn each_default(rt: HostRuntime) -> Result<(), Fail> {
+fn a_check_follows_each_default(rt: HostRuntime) -> Result<(), Fail> {
     let face = face(rt.alloc())?;
     for (other, text, own, expected) in [
         (Other::Background(1), "[cb]A", Ok(1), Ok(1)),
@@ -150,7 +150,7 @@ fn answer_of_long(alloc: Global, more: usize) -> Result<(usize, Answer), Fail> {
 }
 
 #[test]
-fn long_texts(rt: HostRuntime) -> Result<(), Fail> {
+fn a_text_has_512_octets_at_most(rt: HostRuntime) -> Result<(), Fail> {
     for (more, octets, expected) in [(6, 512, Ok(2)), (7, 513, Err((5, 512)))] {
         assert_eq!(rt; answer_of_long(rt.alloc(), more)?, (octets, expected));
     }

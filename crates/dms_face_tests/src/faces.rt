@@ -19,7 +19,7 @@ const TOO_BIG: MultiFault = MultiFault {
 
 /// The example of the crate's page.
 #[test]
-fn example(rt: HostRuntime) -> Result<(), Fail> {
+fn a_text_too_wide_is_too_big_at_its_place(rt: HostRuntime) -> Result<(), Fail> {
     let font: &[u8] = b"font 1 height 5 space 1 line 1 version 0001\nglyph 65 3 57da";
     let face = Face::new(7, 5, fonts_of(rt.alloc(), &[font])?, DEFAULTS)?;
     let fault = MultiFault {
@@ -87,7 +87,7 @@ fn height_of(face: &Face, font: u8) -> Option<u8> {
 }
 
 #[test]
-fn a_face(rt: HostRuntime) -> Result<(), Fail> {
+fn a_face_has_the_size_fonts_and_defaults_it_was_made_of(rt: HostRuntime) -> Result<(), Fail> {
     let fonts = fonts_of(rt.alloc(), &[TALL, SMALL])?;
     let face = Face::new(23, 14, fonts, DEFAULTS)?;
     assert_eq!(rt;
@@ -163,6 +163,6 @@ fn face_or_out_of_memory(rt: HostRuntime) {
 }
 
 #[test]
-fn fault_numbers(rt: HostRuntime) {
+fn a_fault_of_a_face_has_its_number(rt: HostRuntime) {
     assert_eq!(rt; FaceFault::Default.number(), 3);
 }

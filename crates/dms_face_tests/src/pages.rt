@@ -23,7 +23,7 @@ fn first_lit(page: &Page) -> Option<((u16, u16), Cell)> {
 
 /// The example of the crate's page.
 #[test]
-fn example(rt: HostRuntime) -> Result<(), Fail> {
+fn a_new_page_begins_with_its_tag(rt: HostRuntime) -> Result<(), Fail> {
     let shown = pages(rt.alloc(), &face(rt.alloc())?, b"A[np]A")?;
     let page = shown.get(1).ok_or("no page")?;
     let lit = Cell {
@@ -108,7 +108,7 @@ fn pages_with_or_out_of_memory(rt: HostRuntime) {
 }
 
 #[test]
-fn a_letter(rt: HostRuntime) -> Result<(), Fail> {
+fn a_letter_is_drawn_as_its_picture(rt: HostRuntime) -> Result<(), Fail> {
     let shown = pages(rt.alloc(), &face(rt.alloc())?, b"A")?;
     let page = shown.get(0).ok_or("no page")?;
     assert_eq!(rt;
@@ -135,7 +135,7 @@ fn check_cell(rt: &impl Abort, found: Option<Cell>, cell: Cell) {
 }
 
 #[test]
-fn cells(rt: HostRuntime) -> Result<(), Fail> {
+fn each_cell_shows_colour_and_flash(rt: HostRuntime) -> Result<(), Fail> {
     let face = face(rt.alloc())?;
     let flash = Some(Flash {
         first: Lead::Lit,
@@ -212,7 +212,7 @@ fn look_under(
 
 /// Where a text says nothing, and where its tags have no values, the defaults hold.
 #[test]
-fn each_default(rt: HostRuntime) -> Result<(), Fail> {
+fn a_page_has_defaults(rt: HostRuntime) -> Result<(), Fail> {
     let face = face(rt.alloc())?;
     let own: &[Other] = &[];
     for (others, at, colour, (lit, dark), page) in [

@@ -21,7 +21,7 @@ fn is_document(document: &[u8], groups: &str) -> bool {
 }
 
 #[test]
-fn messages_play(rt: HostRuntime) -> Result<(), Fail> {
+fn a_picture_plays_its_pages_in_their_times(rt: HostRuntime) -> Result<(), Fail> {
     let alloc = rt.alloc();
     let face = face(alloc)?;
     for (text, groups) in [

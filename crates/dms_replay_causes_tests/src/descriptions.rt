@@ -119,7 +119,7 @@ fn too_long_and_too_many(rt: HostRuntime) -> Result<(), Fail> {
 }
 
 #[test]
-fn most_characters(rt: HostRuntime) -> Result<(), Fail> {
+fn a_font_with_too_many_characters_names_the_one(rt: HostRuntime) -> Result<(), Fail> {
     let alloc = rt.alloc();
     let mut lines = String::new(alloc);
     for character in 1000..1252u16 {

@@ -5,7 +5,7 @@ use dms_text_streams::Gathered;
 use std::test::Fail;
 
 #[test]
-fn script(rt: HostRuntime) -> Result<(), Fail> {
+fn a_blank_command_s_report_begins_with_its_events(rt: HostRuntime) -> Result<(), Fail> {
     let mut script: &[u8] = b"bench\nblank 1 65535 255 192.0.2.1\nto-sign 0\nto-centre 0\n";
     let mut report = Gathered::new(rt.alloc());
     replay(rt.alloc(), &mut script, &mut report)?;

@@ -115,7 +115,7 @@ fn report_of(alloc: Global, script: &str) -> Result<Gathered, ReplayFault> {
 }
 
 #[test]
-fn reports(rt: HostRuntime) -> Result<(), Fail> {
+fn each_script_has_its_report(rt: HostRuntime) -> Result<(), Fail> {
     for cases in [
         cases::PUBLICATIONS.as_slice(),
         cases::LEDGERS.as_slice(),

@@ -173,7 +173,7 @@ fn codes_in_both_orders(rt: HostRuntime) -> Result<(), Fail> {
 }
 
 #[test]
-fn addresses(rt: HostRuntime) {
+fn an_address_is_four_octets_with_dots(rt: HostRuntime) {
     for (word, octets) in [
         ("192.0.2.1", Some([192, 0, 2, 1])),
         ("000.00.0.255", Some([0, 0, 0, 255])),
@@ -216,7 +216,7 @@ fn check_fault(
 
 /// Scripts without a sign, with a sign that is at fault, and with a fault after a sign of its own.
 #[test]
-fn faults(rt: HostRuntime) -> Result<(), Fail> {
+fn a_script_at_fault_names_its_line(rt: HostRuntime) -> Result<(), Fail> {
     for (script, number) in [
         ("", 1),
         ("\n# nothing\n", 3),
@@ -242,7 +242,7 @@ fn first_of_bench(alloc: Global) -> Result<u32, ReplayFault> {
 /// What is printed of each fault, by its `Display` and by the function that the program calls; and the bench sign is
 /// there without one.
 #[test]
-fn texts(rt: HostRuntime) -> Result<(), Fail> {
+fn each_fault_of_a_replay_prints_its_text(rt: HostRuntime) -> Result<(), Fail> {
     for (fault, text) in [
         (ReplayFault::Read, "read"),
         (ReplayFault::Write, "write"),

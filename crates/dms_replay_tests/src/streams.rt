@@ -197,7 +197,7 @@ fn writer_fails_at_each_call(rt: HostRuntime) {
 /// An input of the most octets, one of an octet more, one that fails right before and right after its last octet, and
 /// one that never ends.
 #[test]
-fn longest_inputs(rt: HostRuntime) {
+fn too_long_is_refused(rt: HostRuntime) {
     let rest = LONGEST_INPUT.saturating_sub(SCRIPT.len());
     for (padding, piece, calls, wanted) in [
         (rest, 1, usize::MAX, Ok(())),
@@ -223,7 +223,7 @@ fn longest_inputs(rt: HostRuntime) {
 
 /// A description is read by the same limits and from the same readers.
 #[test]
-fn descriptions(rt: HostRuntime) {
+fn a_description_is_read_by_the_same_limits(rt: HostRuntime) {
     let rest = LONGEST_INPUT.saturating_sub(BENCH.len());
     for (padding, piece, calls, wanted) in [
         (0, 1, usize::MAX, None),

@@ -11,7 +11,7 @@ use dms_wire_ber::name_of;
 use std::test::Fail;
 
 #[test]
-fn instances(rt: HostRuntime) -> Result<(), Fail> {
+fn the_next_of_a_name_is_the_next_instance(rt: HostRuntime) -> Result<(), Fail> {
     let table = Table::new(rt.alloc(), stock(&[]), &face(rt.alloc())?)?;
     let counts = Counts::of(&table);
     let name = name_of(&[43, 6, 1, 4, 1, 137, 54, 4, 2, 3, 6, 3, 0]).ok_or("no name")?;
@@ -21,7 +21,7 @@ fn instances(rt: HostRuntime) -> Result<(), Fail> {
 }
 
 #[test]
-fn access(rt: HostRuntime) -> Result<(), Fail> {
+fn only_a_settable_object_in_its_range_is_assigned(rt: HostRuntime) -> Result<(), Fail> {
     let face = face(rt.alloc())?;
     let seconds = Instance::Scalar(Scalar::ShortPowerLossTime);
     assert!(rt; is_settable(seconds) && !is_settable(Instance::Scalar(Scalar::SignWidthPixels)));
@@ -38,7 +38,7 @@ fn access(rt: HostRuntime) -> Result<(), Fail> {
 }
 
 #[test]
-fn sign(rt: HostRuntime) -> Result<(), Fail> {
+fn a_sign_drops_what_is_no_datagram(rt: HostRuntime) -> Result<(), Fail> {
     let config = Config {
         face: face(rt.alloc())?,
         stock: stock(&[]),

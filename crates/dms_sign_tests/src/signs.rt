@@ -145,7 +145,7 @@ fn played(alloc: Global, order: Order, before: &str, script: &str) -> Result<(),
 /// Each script of the bench sign, after what goes before it. In the last the octets of checksums are in the other
 /// order, and it has the same number as 29954 so.
 #[test]
-fn scripts(rt: HostRuntime) {
+fn each_script_of_the_bench_sign_has_its_replies(rt: HostRuntime) {
     let high = Order::High;
     let swapped = Order::Swapped;
     let ready = cases::A_IN_ROW_ONE;
@@ -236,7 +236,7 @@ fn walked(sign: &mut Sign) -> Result<u32, &'static str> {
 
 /// A walk from 0.0 on names each instance once, in order, and each reads the same by its name.
 #[test]
-fn walk(rt: HostRuntime) -> Result<(), Fail> {
+fn a_walk_names_each_instance_once_in_order(rt: HostRuntime) -> Result<(), Fail> {
     let rows = Stock {
         changeable: 1,
         ..stock(&[B, B])
@@ -319,7 +319,7 @@ fn picture_after(alloc: Global, sign: &mut Sign, script: &str) -> Result<String,
 
 /// A message keeps the font under which it came up, until it is activated again.
 #[test]
-fn pictures(rt: HostRuntime) -> Result<(), Fail> {
+fn a_message_keeps_the_font_under_which_it_came_up(rt: HostRuntime) -> Result<(), Fail> {
     let mut sign = bench_sign(rt.alloc())?;
     play(&mut sign, cases::A_IN_ROW_ONE)?;
     for (script, wanted) in [

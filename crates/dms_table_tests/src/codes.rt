@@ -3,7 +3,7 @@
 use dms_codes::{Ask, Memory, MessageId, Order, RowId, Status, crc, memory};
 
 #[test]
-fn example(rt: HostRuntime) {
+fn a_code_s_checksum_stands_in_either_order(rt: HostRuntime) {
     let id = MessageId {
         memory: memory::CHANGEABLE,
         number: 1,

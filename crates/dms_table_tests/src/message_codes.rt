@@ -38,7 +38,7 @@ fn octets_of_codes(rt: HostRuntime) {
 }
 
 #[test]
-fn wrong_lengths(rt: HostRuntime) {
+fn a_code_has_its_length_and_no_other(rt: HostRuntime) {
     for length in [0, 4, 6, 11] {
         let octets = &HIGH[..length];
         assert!(rt;

@@ -9,7 +9,7 @@ fn check_number(rt: &impl Abort, column: Column, number: u8) {
 }
 
 #[test]
-fn columns(rt: HostRuntime) {
+fn each_column_has_its_number(rt: HostRuntime) {
     let numbers = [
         (Column::MemoryType, 1),
         (Column::Number, 2),
@@ -27,7 +27,7 @@ fn columns(rt: HostRuntime) {
 }
 
 #[test]
-fn example(rt: HostRuntime) {
+fn the_name_of_an_object_is_its_octets(rt: HostRuntime) {
     let name = Name::of(Instance::Scalar(Scalar::ActivateMessage));
     assert_eq!(rt;
         name.oid().content(),
@@ -46,7 +46,7 @@ fn check_row(rt: &impl Abort, memory: u8, number: u16, octets: &[u8]) {
 /// The octets after those of dmsMessageEntry: a column, a type of memory, and a row's number of one, two and three
 /// octets.
 #[test]
-fn rows(rt: HostRuntime) {
+fn the_name_of_a_cell_ends_in_its_row(rt: HostRuntime) {
     let rows: [(u8, u16, &[u8]); 6] = [
         (3, 1, &[9, 3, 1]),
         (7, 127, &[9, 7, 127]),

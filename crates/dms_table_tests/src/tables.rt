@@ -110,7 +110,7 @@ fn check_asked(
 }
 
 #[test]
-fn statuses(rt: HostRuntime) -> Result<(), Fail> {
+fn each_status_allows_what_it_allows(rt: HostRuntime) -> Result<(), Fail> {
     let face = face(rt.alloc())?;
     let modifying = Some(Status::Modifying);
     let validating = Some(Status::Validating);
@@ -151,7 +151,7 @@ fn verdict_of(error: u8) -> Verdict {
 }
 
 #[test]
-fn verdicts(rt: HostRuntime) -> Result<(), Fail> {
+fn a_row_s_verdict_is_that_of_its_text(rt: HostRuntime) -> Result<(), Fail> {
     let syntax = Verdict {
         error: 5,
         fault: Some(MultiFault {
@@ -293,7 +293,7 @@ fn cause_of(
 }
 
 #[test]
-fn decisions(rt: HostRuntime) -> Result<(), Fail> {
+fn an_activation_is_decided_by_its_row_and_priority(rt: HostRuntime) -> Result<(), Fail> {
     let face = face(rt.alloc())?;
     let mut table = Table::new(rt.alloc(), stock(&[B]), &face)?;
     validated(&mut table, &face, &DEFAULTS, b"A", 0, 0)?;
@@ -427,7 +427,7 @@ fn reported(alloc: Global, face: &Face) -> Result<Reported, TableFault> {
 }
 
 #[test]
-fn tables(rt: HostRuntime) -> Result<(), Fail> {
+fn a_table_reads_what_was_written(rt: HostRuntime) -> Result<(), Fail> {
     let face = face(rt.alloc())?;
     assert_eq!(rt; reported(rt.alloc(), &face), Ok(REPORTED));
     Ok(())
@@ -445,7 +445,7 @@ fn check_permanent(
 }
 
 #[test]
-fn permanent_rows(rt: HostRuntime) -> Result<(), Fail> {
+fn a_wrong_permanent_row_makes_no_table(rt: HostRuntime) -> Result<(), Fail> {
     let face = face(rt.alloc())?;
     let long = [65; 513];
     let rows: [(&[u8], u8, u8, u8); 5] = [
@@ -495,7 +495,7 @@ fn counted_of(
 }
 
 #[test]
-fn counts(rt: HostRuntime) -> Result<(), Fail> {
+fn a_table_has_64_changeable_and_16_volatile_rows_at_most(rt: HostRuntime) -> Result<(), Fail> {
     let face = face(rt.alloc())?;
     for (changeable, volatile, found) in [
         (0, 0, Ok([16, 16, 0, 0])),
@@ -564,7 +564,7 @@ fn settled(table: &mut Table, face: &Face) -> Option<(u8, bool, Option<RowPlace>
 }
 
 #[test]
-fn example(rt: HostRuntime) -> Result<(), Fail> {
+fn a_validated_row_has_its_checksum(rt: HostRuntime) -> Result<(), Fail> {
     let face = face(rt.alloc())?;
     let mut table = Table::new(rt.alloc(), stock(&[]), &face)?;
     check_begun(&rt, &mut table);

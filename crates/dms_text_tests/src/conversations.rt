@@ -197,7 +197,7 @@ fn ending(
 
 /// Lines of so many octets, then a short one: a long line is refused, and the next is answered as if it had not been.
 #[test]
-fn long_lines(rt: HostRuntime) -> Result<(), Fail> {
+fn the_line_after_a_long_one_is_answered(rt: HostRuntime) -> Result<(), Fail> {
     for (length, end, refused) in [
         (65_536, "\nb", false),
         (65_537, "\nb", true),
@@ -282,7 +282,7 @@ fn fault_within(alloc: Global) -> Result<Option<InputFault>, AllocError> {
 
 /// A description of 1,048,576 octets is taken, one more is too long, and a reader may fail within.
 #[test]
-fn long_descriptions(rt: HostRuntime) -> Result<(), Fail> {
+fn a_description_before_a_talk_has_1048576_octets_at_most(rt: HostRuntime) -> Result<(), Fail> {
     let mut talk = Vec::new(rt.alloc());
     talk.resize(1_048_573, b'#')?;
     talk.extend_from_slice(b"\nend\n")?;

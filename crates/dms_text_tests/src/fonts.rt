@@ -30,7 +30,7 @@ glyph 65535 1 ff
 
 /// The example of the crate's page.
 #[test]
-fn example(rt: HostRuntime) -> Result<(), Fail> {
+fn a_glyph_reads_the_cells_of_its_text(rt: HostRuntime) -> Result<(), Fail> {
     let font = Font::from_text(
         rt.alloc(),
         b"font 2 height 5 space 1 line 1 version 0002\nglyph 65 3 57da",
@@ -62,7 +62,7 @@ fn header(alloc: Global, text: &[u8]) -> Result<(u8, u8, u8, u8, u16, usize), Fo
 }
 
 #[test]
-fn headers(rt: HostRuntime) {
+fn a_font_has_what_its_first_line_says(rt: HostRuntime) {
     for (text, read) in [
         (TALL, (1, 7, 1, 1, 1, 5)),
         (SMALL, (2, 5, 1, 1, 2, 1)),
@@ -133,7 +133,7 @@ fn drawn(alloc: Global, text: &[u8]) -> Option<String> {
 }
 
 #[test]
-fn drawings(rt: HostRuntime) -> Result<(), Fail> {
+fn a_glyph_is_drawn_as_its_picture(rt: HostRuntime) -> Result<(), Fail> {
     for (text, picture) in [
         (
             TALL,
@@ -292,7 +292,7 @@ fn fault_of_many(alloc: Global, past: u16, more: &str) -> Result<Option<FontFaul
 
 /// A font has 255 characters at most.
 #[test]
-fn most_characters(rt: HostRuntime) -> Result<(), Fail> {
+fn a_font_has_255_characters_at_most(rt: HostRuntime) -> Result<(), Fail> {
     let twice = Some(FontFault {
         kind: FontFaultKind::Twice,
         line: 257,
@@ -313,7 +313,7 @@ fn most_characters(rt: HostRuntime) -> Result<(), Fail> {
 }
 
 #[test]
-fn fault_numbers(rt: HostRuntime) {
+fn a_fault_of_a_font_has_its_number(rt: HostRuntime) {
     assert_eq!(rt;
         (
             FontFaultKind::Header.number(),

@@ -147,7 +147,7 @@ fn spot(item: Item, first: usize, past: usize) -> Spot {
 
 /// The example of the crate's page.
 #[test]
-fn example(rt: HostRuntime) -> Result<(), Fail> {
+fn a_text_is_read_as_items_and_written_again(rt: HostRuntime) -> Result<(), Fail> {
     let mut read = items(b"A[nl2]");
     let letter = spot(Item::Char(65), 0, 1);
     let line = spot(Item::NewLine(Some(2)), 1, 6);
@@ -178,12 +178,12 @@ fn all_agree(rt: &impl Abort, alloc: Global, rows: &str, count: usize) -> Result
 }
 
 #[test]
-fn rows_agree(rt: HostRuntime) -> Result<(), Fail> {
+fn each_row_of_a_tag_reads_as_it_says(rt: HostRuntime) -> Result<(), Fail> {
     all_agree(&rt, rt.alloc(), ROWS, 80)
 }
 
 #[test]
-fn cases_agree(rt: HostRuntime) -> Result<(), Fail> {
+fn each_text_of_the_cases_reads_as_it_says(rt: HostRuntime) -> Result<(), Fail> {
     all_agree(&rt, rt.alloc(), CASES, 160)
 }
 

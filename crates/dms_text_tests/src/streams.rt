@@ -109,7 +109,7 @@ fn a_reader_of_std_is_counted(rt: HostRuntime) {
 }
 
 #[test]
-fn reading_ends(rt: HostRuntime) {
+fn a_reader_that_never_ends_is_left_at_the_limit(rt: HostRuntime) {
     for (before_failure, limit, fault, failures) in [
         (0, 3, InputFault::Read, 1),
         (3, 3, InputFault::Read, 1),

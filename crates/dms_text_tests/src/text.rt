@@ -44,7 +44,7 @@ fn check_address(rt: &impl Abort, word: &str, read: Option<[u8; 4]>) {
 }
 
 #[test]
-fn addresses(rt: HostRuntime) {
+fn an_address_is_four_numbers_of_three_digits_at_most(rt: HostRuntime) {
     for (word, read) in [
         ("000.000.000.255", Some([0, 0, 0, 255])),
         ("192.0.2.256", None),

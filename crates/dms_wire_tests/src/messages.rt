@@ -90,7 +90,7 @@ fn datagram_of(rt: &impl Abort, parts: &[&[u8]]) -> Out {
 }
 
 #[test]
-fn faulty(rt: HostRuntime) {
+fn each_fault_is_told_at_its_place(rt: HostRuntime) {
     check_faulty(&rt, FaultKind::Truncated, &cases::TRUNCATED_1);
     check_faulty(&rt, FaultKind::BadTag, &cases::BAD_TAG_1);
     check_faulty(&rt, FaultKind::BadTag, &cases::BAD_TAG_2);
@@ -104,7 +104,7 @@ fn faulty(rt: HostRuntime) {
 }
 
 #[test]
-fn spelled(rt: HostRuntime) -> Result<(), Fail> {
+fn each_spelling_is_written_in_the_shortest(rt: HostRuntime) -> Result<(), Fail> {
     check_spelled(&rt, rt.alloc(), &cases::SPELLED_1)?;
     check_spelled(&rt, rt.alloc(), &cases::SPELLED_2)?;
     check_spelled(&rt, rt.alloc(), &cases::SPELLED_3)?;
@@ -115,14 +115,14 @@ fn spelled(rt: HostRuntime) -> Result<(), Fail> {
 }
 
 #[test]
-fn prefixes(rt: HostRuntime) {
+fn a_prefix_is_truncated_at_its_end(rt: HostRuntime) {
     for (place, _) in GET.iter().enumerate() {
         check_fault(&rt, &GET[..place], FaultKind::Truncated, place);
     }
 }
 
 #[test]
-fn hostile(rt: HostRuntime) {
+fn a_hostile_length_is_a_fault_at_its_place(rt: HostRuntime) {
     let cases: [(&[u8], FaultKind, usize); 8] = [
         (b"\x30\x84\xff\xff\xff\xff", FaultKind::Truncated, 6),
         (b"\x30\x80", FaultKind::BadLength, 1),
@@ -147,7 +147,7 @@ static SEVEN: [u8; 49] =
 
 /// The example of the crate's documentation: each object of a Get has the value 7.
 #[test]
-fn example(rt: HostRuntime) -> Result<(), Fail> {
+fn a_response_repeats_the_names_of_its_get(rt: HostRuntime) -> Result<(), Fail> {
     let message = read(&GET)?;
     let mut values = BindingOctets::new();
     for bind in message.binds.again() {
@@ -187,7 +187,7 @@ fn written_alone(rt: &impl Abort, value: Value<'_>, out: &mut Out) -> Result<usi
 
 /// A binding alone is written as the message that has it and no other, up to the largest datagram.
 #[test]
-fn one_binding(rt: HostRuntime) {
+fn a_binding_alone_is_written_as_its_message(rt: HostRuntime) {
     let mut out = Out::new();
     let seven = written_alone(&rt, Value::Integer(7), &mut out);
     check_octets(&rt, &out, &SEVEN);
@@ -212,7 +212,7 @@ fn check_response(rt: &impl Abort, request: &[u8], response: &[u8]) -> Result<()
 /// A Response repeats bindings in their shortest spelling: as they lie in the request, or written again where it
 /// spells a length longer.
 #[test]
-fn responses(rt: HostRuntime) -> Result<(), Fail> {
+fn a_response_repeats_bindings_in_their_shortest_spelling(rt: HostRuntime) -> Result<(), Fail> {
     let long = b"\x30\x82\x00\x15\x06\x81\x10";
     let cases = [
         (
@@ -256,7 +256,7 @@ fn responses(rt: HostRuntime) -> Result<(), Fail> {
 
 /// A name has at most 127 sub-identifiers.
 #[test]
-fn long_names(rt: HostRuntime) -> Result<(), Fail> {
+fn a_name_has_127_sub_identifiers_at_most(rt: HostRuntime) -> Result<(), Fail> {
     let longest = datagram_of(
         &rt,
         &[
@@ -281,7 +281,7 @@ fn long_names(rt: HostRuntime) -> Result<(), Fail> {
 }
 
 #[test]
-fn kinds(rt: HostRuntime) -> Result<(), Fail> {
+fn each_tag_is_a_kind_of_message(rt: HostRuntime) -> Result<(), Fail> {
     let mut octets = GET;
     for (tag, kind) in [
         (160, Kind::Get),
@@ -321,7 +321,7 @@ fn binding<'a>(rt: &impl Abort, name: &'a [u8], value: Value<'a>) -> Bind<'a> {
 }
 
 #[test]
-fn values(rt: HostRuntime) -> Result<(), Fail> {
+fn each_value_is_read(rt: HostRuntime) -> Result<(), Fail> {
     let expected = [
         binding(&rt, b"\x2b\x01", Value::Integer(-2147483648)),
         binding(&rt, b"\x2b\x02", Value::Integer(4294967295)),
@@ -391,7 +391,7 @@ fn check_too_big(rt: &impl Abort, parts: &MessageParts<'_>) {
 }
 
 #[test]
-fn limit(rt: HostRuntime) {
+fn a_datagram_has_1472_octets_at_most(rt: HostRuntime) {
     let octets = [0x61; 1473];
     let mut out = datagram_of(&rt, &[&GET]);
     assert_eq!(rt; write(&get_of(&octets[..1448]), &mut out), Ok(()));
@@ -431,7 +431,7 @@ fn check_text<T: Display + Drop>(
 }
 
 #[test]
-fn texts(rt: HostRuntime) -> Result<(), Fail> {
+fn each_fault_of_a_datagram_prints_its_text(rt: HostRuntime) -> Result<(), Fail> {
     for (kind, text) in [
         (FaultKind::Truncated, "truncated"),
         (FaultKind::BadTag, "unexpected tag"),

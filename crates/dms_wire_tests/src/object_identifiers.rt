@@ -16,7 +16,7 @@ fn check_numbers(rt: &impl Abort, content: &[u8], numbers: &[u32]) {
 
 /// The example of the crate's documentation.
 #[test]
-fn example(rt: HostRuntime) -> Result<(), Fail> {
+fn a_name_reads_as_its_numbers_with_dots(rt: HostRuntime) -> Result<(), Fail> {
     let octets: &[u8] = b"\x06\x03\x2b\x06\x01";
     let (name, rest) = read_name(octets, octets.len())?;
     let text = name.to_string(rt.alloc())?;
@@ -38,7 +38,7 @@ fn numbers_of_contents(rt: HostRuntime) {
 }
 
 #[test]
-fn no_names(rt: HostRuntime) {
+fn what_is_no_name_is_refused(rt: HostRuntime) {
     let octets = [0x2b; 128];
     for content in [
         b"".as_slice(),
@@ -62,7 +62,7 @@ fn check_order(rt: &impl Abort, a: &[u8], b: &[u8], order: Ordering) {
 }
 
 #[test]
-fn order(rt: HostRuntime) {
+fn names_are_in_the_order_of_their_numbers(rt: HostRuntime) {
     check_order(&rt, b"\x2b\x06", b"\x2b\x06", Ordering::Equal);
     check_order(&rt, b"\x2b", b"\x2b\x00", Ordering::Less);
     check_order(&rt, b"\x27\x05", b"\x28", Ordering::Less);

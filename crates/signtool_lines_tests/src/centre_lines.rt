@@ -101,7 +101,7 @@ fn is_bad(alloc: Global, centre: &mut Centre, line: &str) -> bool {
 
 /// After each of them the central system stands as before.
 #[test]
-fn bad_lines(rt: HostRuntime) -> Result<(), Fail> {
+fn state_kept(rt: HostRuntime) -> Result<(), Fail> {
     let mut centre = centre(rt.alloc(), 1)?;
     for line in cases::BAD_LINES.lines() {
         assert!(rt; is_bad(rt.alloc(), &mut centre, line), "of {line:?}");

@@ -155,7 +155,7 @@ fn case_of(case: &str) -> Option<(usize, usize, &str)> {
 }
 
 #[test]
-fn wrong_lines(rt: HostRuntime) -> Result<(), Fail> {
+fn wrong_line_told(rt: HostRuntime) -> Result<(), Fail> {
     for cases in [FIRST_LINES.as_slice(), LAST_LINES.as_slice()] {
         for (place, line, number) in cases {
             let fault = fault_with(rt.alloc(), *place, line)?;
@@ -172,7 +172,7 @@ fn wrong_lines(rt: HostRuntime) -> Result<(), Fail> {
 
 /// The bench sign with another line at the ends of the ranges.
 #[test]
-fn limits(rt: HostRuntime) -> Result<(), Fail> {
+fn a_number_at_the_end_of_its_range_is_taken(rt: HostRuntime) -> Result<(), Fail> {
     for (place, line) in [
         (1, "size 00256 00064"),
         (2, "communities a aaaaaaaaaaaaaaaaaaaaaaaaaaaaaaaa"),
@@ -215,7 +215,7 @@ end";
 
 /// With a 17th permanent row or a fifth font the fault is at `end`, as the sign with them cannot be made.
 #[test]
-fn too_many(rt: HostRuntime) {
+fn a_row_or_font_too_many_is_a_fault_at_the_end(rt: HostRuntime) {
     assert_eq!(rt;
         (
             fault_of_rows(rt.alloc(), 15),
@@ -247,7 +247,7 @@ fn face_of(setup: &Setup) -> (u16, u16, usize, u8, Option<usize>) {
 }
 
 #[test]
-fn bench_sign(rt: HostRuntime) -> Result<(), Fail> {
+fn the_bench_sign_is_as_its_description_says(rt: HostRuntime) -> Result<(), Fail> {
     let setup = bench(rt.alloc())?;
     assert_eq!(rt;
         (

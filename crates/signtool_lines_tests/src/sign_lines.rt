@@ -34,7 +34,7 @@ fn put_line(talk: &mut Vec<u8>, line: &str) -> Result<(), AllocError> {
 
 /// Each line has the answer that stands under it.
 #[test]
-fn answers(rt: HostRuntime) -> Result<(), Fail> {
+fn each_line_answered(rt: HostRuntime) -> Result<(), Fail> {
     for talk in [cases::TALK, cases::SECONDS] {
         let found = answered(rt.alloc(), talk)?;
         assert!(rt; found.as_slice() == talk.as_bytes());
@@ -51,7 +51,7 @@ fn has_answer(alloc: Global, setup: &mut Setup, line: &str, wanted: &str) -> boo
 
 /// A line that spells no call is a bad line, and changes nothing.
 #[test]
-fn bad_lines(rt: HostRuntime) -> Result<(), Fail> {
+fn nothing_changes(rt: HostRuntime) -> Result<(), Fail> {
     let mut setup = bench(rt.alloc())?;
     setup.sign.power_lost();
     for line in cases::BAD_LINES {
@@ -71,7 +71,7 @@ fn text_of_pages(alloc: Global, text: &[u8]) -> Option<Vec<u8>> {
 
 /// Two pages of other times and another background than the defaults, in two colours.
 #[test]
-fn two_pages(rt: HostRuntime) -> Result<(), Fail> {
+fn two_pages_told(rt: HostRuntime) -> Result<(), Fail> {
     let found = text_of_pages(rt.alloc(), b"[cb3][pt5o2]1[np][fo2][cf1]A").ok_or("no pages")?;
     assert!(rt; found.as_slice() == cases::TWO_PAGES.as_bytes());
     Ok(())
@@ -86,7 +86,7 @@ fn text_of_second_page(alloc: Global, text: &[u8]) -> Option<Vec<u8>> {
 
 /// A page alone is what the text of all pages has of it.
 #[test]
-fn second_page(rt: HostRuntime) -> Result<(), Fail> {
+fn a_page_alone_is_what_all_pages_have_of_it(rt: HostRuntime) -> Result<(), Fail> {
     let text = b"[cb3][pt5o2]1[np][fo2][cf1]A";
     let found = text_of_second_page(rt.alloc(), text).ok_or("no page")?;
     let (found, all) = (found.as_slice(), cases::TWO_PAGES.as_bytes());

@@ -46,7 +46,7 @@ fn called(alloc: Global, line: &str, input: &str, printed: &str) -> Option<(u8, 
 }
 
 #[test]
-fn answers(rt: HostRuntime) {
+fn each_datagram_has_its_printed_answer(rt: HostRuntime) {
     let sign = SignWanted::Bench;
     for (hex, printed, status) in cases::ANSWERS {
         let found = acted(
@@ -60,7 +60,7 @@ fn answers(rt: HostRuntime) {
 }
 
 #[test]
-fn calls(rt: HostRuntime) -> Result<(), Fail> {
+fn each_check_and_code_is_printed_as_it_stands(rt: HostRuntime) -> Result<(), Fail> {
     for (line, printed, status) in cases::TEXTS {
         let found = called(rt.alloc(), line, "", printed);
         assert_eq!(rt; found, Some((status, true)), "for {line}");
@@ -75,7 +75,7 @@ fn calls(rt: HostRuntime) -> Result<(), Fail> {
 
 /// A code, or a refusal with its status. What is wrong with a checksum is said before what is wrong with an address.
 #[test]
-fn activations(rt: HostRuntime) -> Result<(), Fail> {
+fn each_activation_is_printed_or_refused(rt: HostRuntime) -> Result<(), Fail> {
     for case in cases::ACTIVATIONS.lines() {
         let (line, wanted) = case.split_once('|').unwrap_or((case, ""));
         let (printed, status) = wanted.split_once('|').unwrap_or((wanted, ""));
@@ -116,7 +116,7 @@ fn called_saying(alloc: Global, line: &str, printed: &str, said: &str) -> Option
 }
 
 #[test]
-fn readers(rt: HostRuntime) {
+fn each_reading_call_prints_and_says_its_lines(rt: HostRuntime) {
     for cases in [
         cases::DECODED.as_slice(),
         cases::ITEMS.as_slice(),
@@ -278,7 +278,7 @@ fn status_where_full(alloc: Global, line: &str) -> Option<u8> {
 
 /// Where the output takes nothing, the status says so, whatever was to be printed.
 #[test]
-fn full_output(rt: HostRuntime) {
+fn a_full_output_is_told_by_the_status(rt: HostRuntime) {
     for line in cases::PRINTING {
         assert_eq!(rt; status_where_full(rt.alloc(), line), Some(1));
     }
@@ -305,7 +305,7 @@ impl Read for Filler {
 
 /// Whatever reads the standard input says that it fails, and that it is too long.
 #[test]
-fn bad_inputs(rt: HostRuntime) {
+fn an_input_that_fails_or_is_too_long_is_told(rt: HostRuntime) {
     for calls in [
         cases::READ_FIRST.as_slice(),
         cases::READ_BY_LINES.as_slice(),
@@ -414,7 +414,7 @@ fn drawn(alloc: Global, drawing: Drawing) -> (u8, bool, bool, usize) {
 
 /// A picture begins and ends as a document; a page alone is as many rows as the sign has, and the line before them.
 #[test]
-fn pictures(rt: HostRuntime) {
+fn a_picture_begins_and_ends_as_a_document(rt: HostRuntime) {
     for (svg, page) in [(true, None), (true, Some(2)), (false, Some(2))] {
         let (status, document, second, lines) = drawn(rt.alloc(), Drawing { svg, page });
         assert_eq!(rt; (status, document, second), (0, svg, !svg));

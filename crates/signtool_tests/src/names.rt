@@ -132,7 +132,7 @@ fn objects_with_one_instance(rt: HostRuntime) -> Result<(), Fail> {
 
 /// Each column has its name beside its numbers, with the row, and other numbers have none.
 #[test]
-fn columns(rt: HostRuntime) -> Result<(), Fail> {
+fn each_column_has_its_name_beside_its_numbers(rt: HostRuntime) -> Result<(), Fail> {
     let alloc = rt.alloc();
     for place in 0..=12_u8 {
         for (memory, row) in [(3_u8, 1_u8), (0, 0), (7, 127)] {
@@ -152,7 +152,7 @@ fn columns(rt: HostRuntime) -> Result<(), Fail> {
 
 /// Nothing stands beside numbers that are no instance's.
 #[test]
-fn no_instances(rt: HostRuntime) -> Result<(), Fail> {
+fn nothing_stands_beside_numbers_of_no_instance(rt: HostRuntime) -> Result<(), Fail> {
     for below in NO_INSTANCES {
         let printed = decoded(rt.alloc(), below)?;
         let is_named = printed.as_slice().contains(&b'(');

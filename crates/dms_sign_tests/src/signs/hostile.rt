@@ -88,7 +88,7 @@ fn two_signs(rt: &HostRuntime) -> Result<Pair, &'static str> {
 }
 
 #[test]
-fn no_message(rt: HostRuntime) -> Result<(), Fail> {
+fn what_is_no_message_changes_nothing(rt: HostRuntime) -> Result<(), Fail> {
     let mut pair = two_signs(&rt)?;
     play(&mut pair.sent, cases::HOSTILE)?;
     Ok(pair.check_same()?)
@@ -96,7 +96,7 @@ fn no_message(rt: HostRuntime) -> Result<(), Fail> {
 
 /// Each proper prefix, one to four octets more, and more octets than a datagram has.
 #[test]
-fn other_lengths(rt: HostRuntime) -> Result<(), Fail> {
+fn a_datagram_of_another_length_is_judged_alike(rt: HostRuntime) -> Result<(), Fail> {
     let mut pair = two_signs(&rt)?;
     for size in 0..48 {
         assert!(rt; pair.drops(&STATUS[..size]), "of {size} octets");
@@ -142,7 +142,7 @@ fn joined(some: &[u8], more: &[u8]) -> Result<Out, &'static str> {
 
 /// Each pair of neighbours deleted, doubled and exchanged.
 #[test]
-fn neighbours(rt: HostRuntime) -> Result<(), Fail> {
+fn exchanged_neighbours_are_judged_alike(rt: HostRuntime) -> Result<(), Fail> {
     let mut pair = two_signs(&rt)?;
     for place in 0..47 {
         pair.fall_silent()?;
