@@ -1,4 +1,4 @@
-//! Calls that take no memory, each many times, for tools/no_memory.sh, which counts how often memory was asked for.
+//! Calls that take no memory, each many times, for trials/no_memory.sh, which counts how often memory was asked for.
 
 use crate::centre::{SETTINGS, publication};
 use crate::{face_of, face_with, fonts_of};

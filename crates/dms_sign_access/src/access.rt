@@ -18,7 +18,6 @@ use dms_wire::Value;
 #[derive(Clone, Copy, Debug, PartialEq, Eq)]
 pub enum Change<'a> {
     /// The number of an object that is a setting.
-    /// The number of an object that is a setting.
     Number(Scalar, u16),
     /// The code of a message that the sign activates by itself.
     Code(Scalar, [u8; 5]),
@@ -33,7 +32,6 @@ pub enum Change<'a> {
 }
 
 impl<'a> Change<'a> {
-    /// Whether it is a command, which assigns no value.
     /// Whether it is a command, which assigns no value.
     pub fn is_command(&self) -> bool
         ensures { result ≡ is_command (write_by self.now) }

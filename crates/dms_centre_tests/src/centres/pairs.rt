@@ -109,7 +109,7 @@ fn unheard_at(
 }
 
 /// Each pair of a reply's octets is left out, doubled and exchanged: what is no reply any more is as if it had never
-/// come. How many are none was counted by the model of tools/model.
+/// come. How many are none was counted by the model of model/.
 #[test]
 fn what_is_no_reply_is_as_if_it_never_came(rt: HostRuntime) -> Result<(), Fail> {
     let (_, opened) = cases::PUBLISHED[0];

@@ -154,7 +154,7 @@ ledger 3 ffffff070001000000000000 refused 5
 ok
 ";
 
-/// A publication, with the replies of the model's bench sign (tools/model): how the central system stands before it, in
+/// A publication, with the replies of the model's bench sign (model/): how the central system stands before it, in
 /// it and after it.
 pub const PUBLISHED: &str = "\
 > status
