@@ -39,7 +39,7 @@ BARS = (
     Bar("wrong bodies apply", wrong.applied),
     Bar("the drawing of the houses", drawing.drawn),
     Bar("what stands on what", drawing.told),
-    Bar("crates that a live line crosses", drawing.crossed),
+    Bar("files that octets pass", drawing.passed),
     Bar("the list of tools", tools.in_list),
     Bar("tools can be called", tools.executable),
     Bar("tools have a help", tools.has_help),

@@ -11,8 +11,7 @@ PICTURE = "docs/pictures/houses.svg"
 PAGE = "docs/ARCHITECTURE.md"
 EDGE = re.compile(r"<title>([\w]+)->([\w]+)</title>")
 NODE = re.compile(r"<title>([a-z]\w+)</title>")
-LIVE = ("signtool", "dms_sign_lines", "dms_sign")
-MOST_CROSSED = 7
+BY_FILE = "### File by file"
 SHADES = ("#dbe9f6", "#eef4d9")
 
 
@@ -86,21 +85,16 @@ def told(tree: Tree) -> list[str]:
     ]
 
 
-def longest(lowers: dict[str, set[str]], upper: str, lower: str) -> int | None:
-    """How many steps down the longest way from one crate to another has, if there is any."""
-    if upper == lower:
-        return 0
-    ways = [way for next_one in lowers.get(upper, set()) if (way := longest(lowers, next_one, lower)) is not None]
-    return 1 + max(ways) if ways else None
-
-
-def crossed(tree: Tree) -> list[str]:
-    """Whether a line to a live sign crosses few crates, from the program to the sign, and the page says how many."""
-    lowers = nearest(tree)
-    ways = [longest(lowers, upper, lower) for upper, lower in zip(LIVE, LIVE[1:])]
-    if None in ways:
-        return [f"{crates.LIST}: no way from {' by '.join(LIVE)}"]
-    count = sum(way for way in ways if way is not None)
-    found = [f"{crates.LIST}: a line to a live sign crosses {count} crates"] if count > MOST_CROSSED else []
-    words = f"crosses {count} crates before `Sign::receive`"
-    return found if words in tree.text(PAGE) else [*found, f"{PAGE}: does not say that a line to a live sign {words}"]
+def passed(tree: Tree) -> list[str]:
+    """Files that the page says octets pass, and that are gone: of Rattle in the crate before them, or of Python."""
+    _, _, section = tree.text(PAGE).partition(f"\n{BY_FILE}\n")
+    if not section:
+        return [f"{PAGE}: no section `{BY_FILE}`"]
+    folder, found = "", []
+    for word in re.findall(r"[\w/]+(?:\.rt|\.py)?", section.partition("\n## ")[0]):
+        if word in nearest(tree):
+            folder = f"crates/{word}/src"
+        where = f"{folder}/{word}" if word.endswith(".rt") else f"python/wisangub/{word}"
+        if word.endswith((".rt", ".py")) and not tree.has(where):
+            found.append(f"{PAGE}: there is no {where}")
+    return found

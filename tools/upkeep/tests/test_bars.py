@@ -147,18 +147,17 @@ def test_stands_on(made: MakesTree) -> None:
     assert drawing.told(tree) == ["docs/ARCHITECTURE.md: second stands on first"]
 
 
-def test_crossed(made: MakesTree) -> None:
-    short = "dms_sign:\ndms_low: dms_sign\ndms_sign_lines: dms_sign dms_low\nsigntool: dms_sign_lines\n"
-    page = "It crosses 3 crates before `Sign::receive`."
-    assert drawing.crossed(made(crates_txt=short, docs__ARCHITECTURE_md=page)) == []
-    between = [f"c{number}" for number in range(6)]
-    chain = "".join(f"{upper}: {lower}\n" for upper, lower in zip(between, [*between[1:], "dms_sign_lines"]))
-    long = short.replace("signtool: dms_sign_lines\n", f"{chain}signtool: c0\n")
-    assert drawing.crossed(made(crates_txt=long, docs__ARCHITECTURE_md=page)) == [
-        "crates.txt: a line to a live sign crosses 9 crates",
-        "docs/ARCHITECTURE.md: does not say that a line to a live sign crosses 9 crates before `Sign::receive`",
+def test_passed(made: MakesTree) -> None:
+    page = "### File by file\n\n- room/send.py -> first way.rt and\n  far/end.rt -> second gone.rt\n\n## More\n\nother.rt\n"
+    texts = {"crates__first__src__way_rt": "", "crates__first__src__far__end_rt": "", "crates__second__src__lib_rt": ""}
+    tree = made(**texts, crates_txt=LISTED, docs__ARCHITECTURE_md=f"# Crates\n\n{page}")
+    assert drawing.passed(tree) == [
+        "docs/ARCHITECTURE.md: there is no python/wisangub/room/send.py",
+        "docs/ARCHITECTURE.md: there is no crates/second/src/gone.rt",
     ]
-    assert len(drawing.crossed(made(crates_txt="dms_sign:\nsigntool: dms_sign\n", docs__ARCHITECTURE_md=page))) == 1
+    assert drawing.passed(made(docs__ARCHITECTURE_md="# Crates\n")) == [
+        "docs/ARCHITECTURE.md: no section `### File by file`"
+    ]
 
 
 def test_tools(made: MakesTree, tmp_path: pathlib.Path) -> None:
