@@ -27,10 +27,9 @@ fn read(alloc: Global, order: Order, line: Line<'_>) -> Result<ScriptEvent, Repl
         ⊎ (IsLine fault × (None ≡ event_of order line.entry.octets.now))) }
     ensures number { IfErr result (NamesLine (λ number. number ≡ line.entry.number)) }
 {
-    match read_event(alloc, order, line.octets) {
-        Ok(Some(event)) => Ok(event),
-        Ok(None) => Err(ReplayFault::Line(line.number)),
-        Err(_) => Err(ReplayFault::Memory),
+    match read_event(alloc, order, line.octets)? {
+        Some(event) => Ok(event),
+        None => Err(ReplayFault::Line(line.number)),
     }
 }
 

@@ -98,10 +98,7 @@ fn run_report(alloc: Global, setup: Setup, events: &[ScriptEvent]) -> Result<Vec
     ensures memory { IfErr result (λ fault. fault ≡ faults.Memory) }
 {
     let world = ended_world(alloc, setup, events)?;
-    match report(alloc, &world, events.len()) {
-        Ok(report) => Ok(report),
-        Err(_) => Err(ReplayFault::Memory),
-    }
+    Ok(report(alloc, &world, events.len())?)
 }
 
 /// The world of a sign and of its centre after these events.
@@ -180,8 +177,5 @@ pub fn bench(alloc: Global) -> Result<Setup, ReplayFault>
     ensures sign { IfOk result (λ setup. (it : Description) × SpellsSign (kept_lines bench_text) it × IsMade it setup) }
     ensures memory { IfErr result (λ fault. fault ≡ faults.Memory) }
 {
-    match dms_sign_text::bench(alloc) {
-        Ok(setup) => Ok(setup),
-        Err(_) => Err(ReplayFault::Memory),
-    }
+    Ok(dms_sign_text::bench(alloc)?)
 }

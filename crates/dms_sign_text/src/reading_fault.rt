@@ -47,9 +47,9 @@ impl From<AllocError> for ReplayFault {
     ghost use Rattle.std.specs.Prelude.{◌≡◌};
     ghost use Rattle.dms_sign_text.specs.declared.reading_fault.ReplayFault.TheVariants as faults;
 
-    fn from(_: AllocError) -> ReplayFault
-        ensures { result ≡ faults.Memory }
-    {
+    ghost from_gives = { λ _ made. made ≡ faults.Memory };
+
+    fn from(_: AllocError) -> ReplayFault {
         ReplayFault::Memory
     }
 }
