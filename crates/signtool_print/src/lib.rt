@@ -1,5 +1,4 @@
-//! What the program prints of a datagram, of a text on a face and of a code, as lines and as JSON, and what a face
-//! lacks for a text, in words. It needs no sign.
+//! What the program prints of a datagram, of a text on a face and of a code, as lines and as JSON. It needs no sign.
 //!
 //! ```
 //! let mut printed = Gathered::new(alloc);
@@ -15,7 +14,6 @@ mod fields;
 mod item_lines;
 mod item_words;
 mod json;
-mod lacking;
 mod names;
 mod reading;
 mod statuses;

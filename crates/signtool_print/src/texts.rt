@@ -8,7 +8,6 @@ ghost use Rattle.signtool_print.specs.Printed.{PrintsOrMemory};
 ghost use Rattle.signtool_print.specs.TextAnswers.{fault_line, count_line, fault_answer, count_answer, check_answer};
 ghost use Rattle.signtool_print.specs.TextAnswers.{all_answer, page_answer, one_answer, wanted_answer, pages_answer};
 
-use crate::lacking::what_lacks;
 use crate::reading::print_no_memory;
 use crate::statuses::{ExitStatus, print_made, print_memory, print_text};
 use dms_face::{Face, MultiFault, check};
@@ -17,6 +16,7 @@ use dms_face_pages::{Page, PagesFault, pages};
 use dms_face_picture::{picture, still};
 use dms_text_streams::{Failed, Sink};
 use signtool_calls::{Drawing, Form};
+use signtool_lacks::what_lacks;
 use std::alloc::{AllocError, Global};
 use std::io::Write;
 

@@ -1,5 +1,12 @@
 //! What a sign lacks for a text, in words.
 
+ghost use Rattle.std.specs.Prelude.{◌≡◌, ◌-◌, ◌<◌, length, IfSome, Some};
+ghost use Rattle.dms_codes.specs.Limits.{longest_text};
+ghost use Rattle.dms_face.specs.declared.multi_fault.MultiFaultCode.TheVariants.{TextTooBig};
+ghost use Rattle.signtool_lacks.specs.LackText.{excess_text, plural_ending, text_of_excess};
+ghost use Rattle.signtool_lacks.specs.LackText.{LacksFor, IsOfItem, IsRoom};
+ghost use Rattle.signtool_lacks.specs.declared.lacking.Lack.TheVariants.{Octets};
+
 use dms_codes::MAX_TEXT;
 use dms_face::{Face, Font, Glyph, MultiFault, MultiFaultCode, check};
 use dms_multi::{Item, items};
@@ -17,7 +24,7 @@ const STEPS: [u16; 8] = [128, 64, 32, 16, 8, 4, 2, 1];
 
 /// What a sign lacks for a text that it refuses.
 #[derive(Clone, Copy)]
-pub(crate) enum Lack {
+pub enum Lack {
     /// A picture of a character.
     Character { character: u16, font: u8 },
     /// A font of this number.
@@ -31,42 +38,89 @@ pub(crate) enum Lack {
 }
 
 impl fmt::Display for Lack {
+    ghost use Rattle.std.specs.Prelude.{Some};
+    ghost use Rattle.signtool_lacks.specs.LackText.{lack_text};
+
+    ghost output = { λ lack. Some (lack_text lack) };
+
     fn fmt<W: fmt::Write>(&self, f: &mut fmt::Formatter<W>) -> fmt::Result {
         match self {
             Lack::Character { character, font } => {
-                write!(f, "character {character} is not in font {font}")
+                write!(f, "character {character}{}", OutsideFont { font: *font })
             }
             Lack::Font(font) => write!(f, "the sign has no font {font}"),
             Lack::Columns(count) => {
-                put_count(f, "wider than the matrix", usize::from(*count), "column")
+                let excess = too_much("wider than the matrix", usize::from(*count), "column");
+                write!(f, "{excess}")
             }
             Lack::Rows(count) => {
-                put_count(f, "higher than the matrix", usize::from(*count), "row")
+                let excess = too_much("higher than the matrix", usize::from(*count), "row");
+                write!(f, "{excess}")
             }
-            Lack::Octets(count) => put_count(f, "longer than a text may be", *count, "octet"),
+            Lack::Octets(count) => {
+                let excess = too_much("longer than a text may be", *count, "octet");
+                write!(f, "{excess}")
+            }
         }
     }
 }
 
-/// Prints by how many of these it is too much.
-fn put_count<W: fmt::Write>(
-    f: &mut fmt::Formatter<W>,
-    what: &str,
+/// That a character is not in a font.
+#[derive(Clone, Copy)]
+struct OutsideFont {
+    font: u8,
+}
+
+impl fmt::Display for OutsideFont {
+    ghost use Rattle.std.specs.Prelude.{Some};
+    ghost use Rattle.signtool_lacks.specs.LackText.{text_of_outside};
+
+    ghost output = { λ it. Some (text_of_outside it) };
+
+    fn fmt<W: fmt::Write>(&self, f: &mut fmt::Formatter<W>) -> fmt::Result {
+        write!(f, " is not in font {}", self.font)
+    }
+}
+
+/// By how many of a unit something is too much.
+#[derive(Clone, Copy)]
+struct Excess {
+    what: &'static str,
     count: usize,
-    unit: &str,
-) -> fmt::Result {
-    let plural = if count == 1 { "" } else { "s" };
-    write!(f, "{what} by {count} {unit}{plural}")
+    unit: &'static str,
+}
+
+impl fmt::Display for Excess {
+    ghost use Rattle.std.specs.Prelude.{Some};
+    ghost use Rattle.signtool_lacks.specs.LackText.{text_of_excess};
+
+    ghost output = { λ it. Some (text_of_excess it) };
+
+    fn fmt<W: fmt::Write>(&self, f: &mut fmt::Formatter<W>) -> fmt::Result {
+        let ending = plural_ending(self.count);
+        write!(f, "{} by {} {}{ending}", self.what, self.count, self.unit)
+    }
+}
+
+fn too_much(what: &'static str, count: usize, unit: &'static str) -> Excess
+    ensures { text_of_excess result ≡ excess_text what.now count unit.now }
+{
+    Excess { what, count, unit }
+}
+
+fn plural_ending(count: usize) -> &'static str
+    ensures { result.now ≡ plural_ending count }
+{
+    if count == 1 { "" } else { "s" }
 }
 
 /// What a face lacks for a text with this fault, where that is a character, a font or room. `None` where no matrix has
 /// the room, and where there is no memory to look.
-pub(crate) fn what_lacks(
-    alloc: Global,
-    face: &Face,
-    text: &[u8],
-    fault: MultiFault,
-) -> Option<Lack> {
+pub fn what_lacks(alloc: Global, face: &Face, text: &[u8], fault: MultiFault) -> Option<Lack>
+    ensures kind { IfSome result (LacksFor fault.code text.now) }
+    ensures octets { fault.code ≡ TextTooBig → longest_text < length text.now
+        → result ≡ Some (Octets (length text.now - longest_text)) }
+{
     match fault.code {
         MultiFaultCode::CharacterNotDefined | MultiFaultCode::FontNotDefined => {
             missing_item(face, text, fault.place)
@@ -80,7 +134,9 @@ pub(crate) fn what_lacks(
 }
 
 /// The character that begins at this octet and the font that it is looked for in, or the font that is asked for there.
-fn missing_item(face: &Face, text: &[u8], place: usize) -> Option<Lack> {
+fn missing_item(face: &Face, text: &[u8], place: usize) -> Option<Lack>
+    ensures { IfSome result IsOfItem }
+{
     let mut font = face.defaults().font;
     for spot in items(text) {
         let spot = spot.ok()?;
@@ -98,7 +154,9 @@ fn missing_item(face: &Face, text: &[u8], place: usize) -> Option<Lack> {
 
 /// The columns or the rows that a matrix has to have more, for the item at this octet and those after it on its line or
 /// its page.
-fn missing_room(alloc: Global, face: &Face, text: &[u8], place: usize) -> Option<Lack> {
+fn missing_room(alloc: Global, face: &Face, text: &[u8], place: usize) -> Option<Lack>
+    ensures { IfSome result IsRoom }
+{
     let past = place.saturating_add(1);
     if takes(alloc, face, (face.width(), HIGHEST), text, past).ok()? {
         let count = more_rows(alloc, face, text, end_of_page(text, place)).ok()?;

@@ -1,0 +1,2 @@
+-- what a reader must believe of what a face lacks
+pub mod LackText

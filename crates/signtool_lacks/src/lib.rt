@@ -1,0 +1,12 @@
+//! What a face lacks for a text that it refuses, in words.
+//!
+//! ```
+//! if let Some(lack) = what_lacks(alloc, face, text, fault) {
+//!     writeln!(errors, "{fault}: {lack}")?;
+//! }
+//! ```
+#![tactic(auto)]
+
+mod lacking;
+
+pub use lacking::{Lack, what_lacks};
