@@ -8,3 +8,4 @@ pub mod TextAnswers
 pub mod ItemLines
 pub mod ItemWords
 pub mod InstanceNames
+pub mod DatagramLines

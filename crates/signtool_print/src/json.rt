@@ -1,6 +1,6 @@
 //! Answers as objects of JSON, whose fields are named by the words of the answer as lines.
 
-use crate::fields::{is_printable, kind_name, type_name};
+use crate::fields::{are_printable, kind_name, type_name};
 use crate::item_words::{ItemWords, Values};
 use crate::names::write_object;
 use dms_multi::{Spot, SyntaxFault, items};
@@ -57,16 +57,16 @@ fn put_separator(is_first: bool, out: &mut Vec<u8>) -> io::Result<()> {
 /// Appends a binding: its name, and its value with its type.
 fn put_binding(alloc: Global, binding: &Bind<'_>, out: &mut Vec<u8>) -> io::Result<()> {
     out.write_all(b"{")?;
-    put_name(&binding.name, out)?;
+    put_name(alloc, &binding.name, out)?;
     put_type(&binding.value, out)?;
     put_value(alloc, &binding.value, out)?;
     out.write_all(b"}")
 }
 
 /// Appends an object identifier, and the object and the instance that it names, if it is one.
-fn put_name(name: &Oid<'_>, out: &mut Vec<u8>) -> io::Result<()> {
+fn put_name(alloc: Global, name: &Oid<'_>, out: &mut Vec<u8>) -> io::Result<()> {
     write!(out, "\"name\":\"{name}\"")?;
-    write_object(name, ",\"object\":\"", "\"", out)
+    write_object(alloc, name, (",\"object\":\"", "\""), out)
 }
 
 /// Appends the type of a value, and the name of the field that has the value.
@@ -85,7 +85,7 @@ fn put_value(alloc: Global, value: &Value<'_>, out: &mut Vec<u8>) -> io::Result<
         Value::Octets(octets) => put_octets(alloc, octets, out),
         Value::Opaque(octets) => put_octets(alloc, octets, out),
         Value::Null => out.write_all(b"null"),
-        Value::Name(name) => put_named(name, out),
+        Value::Name(name) => put_named(alloc, name, out),
         Value::Address([a, b, c, d]) => write!(out, "\"{a}.{b}.{c}.{d}\""),
     }
 }
@@ -95,16 +95,16 @@ fn put_integer(number: i64, out: &mut Vec<u8>) -> io::Result<()> {
 }
 
 /// Appends an object that names an object identifier.
-fn put_named(name: &Oid<'_>, out: &mut Vec<u8>) -> io::Result<()> {
+fn put_named(alloc: Global, name: &Oid<'_>, out: &mut Vec<u8>) -> io::Result<()> {
     out.write_all(b"{")?;
-    put_name(name, out)?;
+    put_name(alloc, name, out)?;
     out.write_all(b"}")
 }
 
 /// Appends octets in hexadecimal digits, and the text that they are, where all of them are printable.
 fn put_octets(alloc: Global, octets: &[u8], out: &mut Vec<u8>) -> io::Result<()> {
     put_digits(alloc, octets, out)?;
-    if is_printable(octets) {
+    if !octets.is_empty() && are_printable(octets) {
         out.write_all(b",\"text\":\"")?;
         put_escaped(octets, out)?;
         out.write_all(b"\"")?;

@@ -1,7 +1,13 @@
 //! Datagrams and texts, read and printed.
 
-ghost use Rattle.std.specs.Prelude.{◌≡◌, codes};
+ghost use Rattle.std.specs.Prelude.{◌≡◌, ◌⊎◌, false, ℕ, List, Result, Ok, Err, codes, IfOk, IfErr};
+ghost use Rattle.hex.specs.Hex.{decode_of};
 ghost use Rattle.hex.specs.declared.error.FromHexError.TheVariants.{OutOfMemory};
+ghost use Rattle.dms_wire_ber.specs.declared.fault.WireFault.{WireFault};
+ghost use Rattle.dms_wire.specs.Message.{SnmpMessage};
+ghost use Rattle.dms_wire.specs.Reading.{message_at};
+ghost use Rattle.dms_wire.specs.View.{snmp_message};
+ghost use Rattle.signtool_print.specs.DatagramLines.{read_answer, decode_answer};
 ghost use Rattle.signtool_print.specs.declared.statuses.ExitStatus.TheVariants.{Misused};
 ghost use Rattle.signtool_calls.specs.declared.call.Form.TheVariants.{Lines};
 ghost use Rattle.signtool_print.specs.Printed.{Answer, answer, PrintsOrMemory};
@@ -26,27 +32,79 @@ pub fn decode<W: Sink, E: Write>(
     words: (&str, bool, Form),
     writer: &mut W,
     errors: &mut E,
-) -> Result<ExitStatus, Failed> {
+) -> Result<ExitStatus, Failed>
+    ensures { words.entry.2 ≡ Lines → words.entry.1 ≡ false → PrintsOrMemory (W.contents writer.old)
+        (W.contents writer.new) (W.failed writer.old) (W.failed writer.new) result (decode_answer words.entry.0.now) }
+{
     let (digits, spaced, form) = words;
-    let octets = if spaced {
-        spaced_octets(alloc, digits)
+    if spaced {
+        decode_spaced(alloc, (digits, form), writer, errors)
     } else {
-        hex::decode(alloc, digits.as_bytes())
-    };
-    match octets {
-        Ok(datagram) => match read(datagram.as_slice()) {
-            Ok(message) => print_message(alloc, message, form, writer),
-            Err(fault) => {
-                let _ = writeln!(errors, "{fault}");
-                print_wire_fault(alloc, form, fault, writer)
-            }
-        },
+        decode_digits(alloc, (digits, form), writer, errors)
+    }
+}
+
+/// Decodes digits between whose pairs spaces and colons may stand.
+fn decode_spaced<W: Sink, E: Write>(
+    alloc: Global,
+    words: (&str, Form),
+    writer: &mut W,
+    errors: &mut E,
+) -> Result<ExitStatus, Failed> {
+    let (digits, form) = words;
+    match spaced_octets(alloc, digits) {
+        Ok(datagram) => print_datagram(alloc, datagram.as_slice(), form, writer, errors),
         // what is no digit in the word is a separator in its place
-        Err(FromHexError::OddLength) if spaced => {
+        Err(FromHexError::OddLength) => {
             say_odd_number(errors);
             print_not_hex(form, writer)
         }
         Err(fault) => print_hex_fault(form, (digits, fault), writer, errors),
+    }
+}
+
+/// Decodes digits with nothing between them.
+fn decode_digits<W: Sink, E: Write>(
+    alloc: Global,
+    words: (&str, Form),
+    writer: &mut W,
+    errors: &mut E,
+) -> Result<ExitStatus, Failed>
+    ensures { words.entry.1 ≡ Lines → PrintsOrMemory (W.contents writer.old) (W.contents writer.new)
+        (W.failed writer.old) (W.failed writer.new) result (decode_answer words.entry.0.now) }
+{
+    let (digits, form) = words;
+    match octets_of(alloc, digits) {
+        Ok(datagram) => print_datagram(alloc, datagram.as_slice(), form, writer, errors),
+        Err(fault) => print_hex_fault(form, (digits, fault), writer, errors),
+    }
+}
+
+/// The octets that hexadecimal digits are.
+fn octets_of(alloc: Global, digits: &str) -> Result<Vec<u8>, FromHexError>
+    ensures octets { IfOk result (λ octets. decode_of digits.now ≡ Ok octets.items) }
+    ensures fault { IfErr result (λ fault. (fault ≡ OutOfMemory) ⊎ (decode_of digits.now ≡ Err fault)) }
+{
+    hex::decode(alloc, digits.as_bytes())
+}
+
+/// Prints the fields of a datagram, or its fault.
+fn print_datagram<W: Sink, E: Write>(
+    alloc: Global,
+    datagram: &[u8],
+    form: Form,
+    writer: &mut W,
+    errors: &mut E,
+) -> Result<ExitStatus, Failed>
+    ensures { form ≡ Lines → (wanted : List ℕ) → datagram.now ≡ wanted → PrintsOrMemory (W.contents writer.old)
+        (W.contents writer.new) (W.failed writer.old) (W.failed writer.new) result (read_answer (message_at wanted)) }
+{
+    match read(datagram) {
+        Ok(message) => print_message(alloc, message, form, writer),
+        Err(fault) => {
+            let _ = writeln!(errors, "{fault}");
+            print_wire_fault(alloc, form, fault, writer)
+        }
     }
 }
 
@@ -55,7 +113,11 @@ fn print_message<W: Sink>(
     message: Message<'_>,
     form: Form,
     writer: &mut W,
-) -> Result<ExitStatus, Failed> {
+) -> Result<ExitStatus, Failed>
+    ensures { form ≡ Lines → (wanted : Result SnmpMessage WireFault) → Ok (snmp_message message.entry) ≡ wanted
+        → PrintsOrMemory (W.contents writer.old) (W.contents writer.new) (W.failed writer.old) (W.failed writer.new)
+        result (read_answer wanted) }
+{
     let mut fields = Vec::new(alloc);
     let made = match form {
         Form::Lines => write_message(alloc, message, &mut fields),
@@ -241,7 +303,11 @@ fn print_wire_fault<W: Sink>(
     form: Form,
     fault: WireFault,
     writer: &mut W,
-) -> Result<ExitStatus, Failed> {
+) -> Result<ExitStatus, Failed>
+    ensures { form ≡ Lines → (wanted : Result SnmpMessage WireFault) → Err fault ≡ wanted
+        → PrintsOrMemory (W.contents writer.old) (W.contents writer.new) (W.failed writer.old) (W.failed writer.new)
+        result (read_answer wanted) }
+{
     let mut text = Vec::new(alloc);
     let made = match form {
         Form::Lines => writeln!(text, "fault {fault}"),
