@@ -116,10 +116,10 @@ fn be_sign<R: Read, W: Sink, E: Write>(
     errors: &mut E,
 ) -> Result<ExitStatus, Failed> {
     let Ok(mut input) = Input::new(alloc, Counted::new(&mut *reader)) else {
-        return print_memory(writer);
+        return print_memory(writer, errors);
     };
     match live_setup(alloc, wanted, &mut input) {
-        Ok(setup) => talk(alloc, LiveSign::new(setup.sign), &mut input, writer),
+        Ok(setup) => talk(alloc, LiveSign::new(setup.sign), &mut input, writer, errors),
         Err(refusal) => refusal.refuse(alloc, writer, errors),
     }
 }
@@ -133,15 +133,15 @@ fn be_centre<R: Read, W: Sink, E: Write>(
     errors: &mut E,
 ) -> Result<ExitStatus, Failed> {
     let Ok(mut input) = Input::new(alloc, Counted::new(&mut *reader)) else {
-        return print_memory(writer);
+        return print_memory(writer, errors);
     };
     let setup = match live_setup(alloc, wanted, &mut input) {
         Ok(setup) => setup,
         Err(refusal) => return refusal.refuse(alloc, writer, errors),
     };
     match LiveCentre::new(alloc, &setup) {
-        Ok(centre) => talk(alloc, centre, &mut input, writer),
-        Err(_) => print_memory(writer),
+        Ok(centre) => talk(alloc, centre, &mut input, writer, errors),
+        Err(_) => print_memory(writer, errors),
     }
 }
 
@@ -157,21 +157,44 @@ fn live_setup<S: Source>(
     }
 }
 
-/// Answers the lines that are left of the input.
-fn talk<P: Party + Drop, S: Source, W: Sink>(
+/// Answers the lines that are left of the input. Why it ends before them is said in words too.
+fn talk<P: Party + Drop, S: Source, W: Sink, E: Write>(
     alloc: Global,
     mut party: P,
     input: &mut Input<S>,
     writer: &mut W,
+    errors: &mut E,
 ) -> Result<ExitStatus, Failed> {
     match converse(alloc, &mut party, input, writer) {
         Ok(()) => Ok(ExitStatus::Done),
         Err(ConversationFault::Write) => Err(Failed),
-        Err(fault) => match talk_fault_line(alloc, fault) {
-            Ok(line) => print_made(writer, line, ExitStatus::Refused),
-            Err(_) => print_memory(writer),
-        },
+        Err(fault) => print_talk_fault(alloc, fault, writer, errors),
     }
+}
+
+/// Prints why a conversation ended before its input did, and says so in words too.
+fn print_talk_fault<W: Sink, E: Write>(
+    alloc: Global,
+    fault: ConversationFault,
+    writer: &mut W,
+    errors: &mut E,
+) -> Result<ExitStatus, Failed> {
+    match talk_fault_line(alloc, fault) {
+        Ok(line) => {
+            say_talk_fault(fault, errors);
+            print_made(writer, line, ExitStatus::Refused)
+        }
+        Err(_) => print_memory(writer, errors),
+    }
+}
+
+fn say_talk_fault<E: Write>(fault: ConversationFault, errors: &mut E) {
+    let _ = match fault {
+        ConversationFault::Read => writeln!(errors, "the standard input could not be read"),
+        ConversationFault::Write => Ok(()),
+        ConversationFault::TooLong => writeln!(errors, "the standard input is too long"),
+        ConversationFault::Memory => writeln!(errors, "there is not enough memory"),
+    };
 }
 
 fn talk_fault_line(alloc: Global, fault: ConversationFault) -> Result<Vec<u8>, AllocError> {
@@ -328,15 +351,16 @@ fn print_reply<W: Sink, E: Write>(
     if receipt == Receipt::Dropped {
         say_why_dropped(datagram, errors);
     }
-    print_receipt(alloc, receipt, &reply, writer)
+    print_receipt(alloc, receipt, &reply, writer, errors)
 }
 
 /// Prints what was sent.
-fn print_receipt<W: Sink>(
+fn print_receipt<W: Sink, E: Write>(
     alloc: Global,
     receipt: Receipt,
     reply: &Out,
     writer: &mut W,
+    errors: &mut E,
 ) -> Result<ExitStatus, Failed>
     ensures { (wanted : Option (List ℕ)) → sent receipt reply.now.items ≡ wanted
         → PrintsOrMemory (W.contents writer.old) (W.contents writer.new) (W.failed writer.old) (W.failed writer.new)
@@ -344,18 +368,23 @@ fn print_receipt<W: Sink>(
 {
     match receipt {
         Receipt::Dropped => print_text(writer, b"dropped\n", ExitStatus::Refused),
-        Receipt::Replied => print_octets(alloc, reply.as_slice(), writer),
-        Receipt::Accepted(_) => print_octets(alloc, reply.as_slice(), writer),
+        Receipt::Replied => print_octets(alloc, reply.as_slice(), writer, errors),
+        Receipt::Accepted(_) => print_octets(alloc, reply.as_slice(), writer, errors),
     }
 }
 
-fn print_octets<W: Sink>(alloc: Global, octets: &[u8], writer: &mut W) -> Result<ExitStatus, Failed>
+fn print_octets<W: Sink, E: Write>(
+    alloc: Global,
+    octets: &[u8],
+    writer: &mut W,
+    errors: &mut E,
+) -> Result<ExitStatus, Failed>
     ensures { (wanted : List ℕ) → octets.now ≡ wanted → PrintsOrMemory (W.contents writer.old) (W.contents writer.new)
         (W.failed writer.old) (W.failed writer.new) result (answer Done (encode_lower wanted ++ codes "\n")) }
 {
     match digits_line(alloc, octets) {
         Ok(line) => print_made(writer, line, ExitStatus::Done),
-        Err(_) => print_memory(writer),
+        Err(_) => print_memory(writer, errors),
     }
 }
 
@@ -403,7 +432,7 @@ fn print_check_json<R: Read, W: Sink, E: Write>(
             let _ = refusal.say(errors);
             match refused_object(alloc, refusal.fault) {
                 Ok(object) => print_made(writer, object, ExitStatus::Refused),
-                Err(_) => print_no_memory(Form::Json, writer),
+                Err(_) => print_no_memory(Form::Json, writer, errors),
             }
         }
     }

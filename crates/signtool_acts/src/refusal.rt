@@ -59,7 +59,7 @@ impl Refusal {
         let mut line = Vec::new(alloc);
         match self.print(&mut line) {
             Ok(()) => print_made(writer, line, ExitStatus::Refused),
-            Err(_) => print_memory(writer),
+            Err(_) => print_memory(writer, errors),
         }
     }
 

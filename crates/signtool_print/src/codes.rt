@@ -47,7 +47,7 @@ fn print_code<W: Sink, E: Write>(
     if words.text.len() > MAX_TEXT {
         print_too_long(words.text.len(), writer, errors)
     } else {
-        print_code_lines(alloc, words, address, writer)
+        print_code_lines(alloc, words, address, writer, errors)
     }
 }
 
@@ -68,18 +68,19 @@ fn print_too_long<W: Sink, E: Write>(
     print_text(writer, b"text too long\n", ExitStatus::Refused)
 }
 
-fn print_code_lines<W: Sink>(
+fn print_code_lines<W: Sink, E: Write>(
     alloc: Global,
     words: &CodeWords<'_>,
     address: [u8; 4],
     writer: &mut W,
+    errors: &mut E,
 ) -> Result<ExitStatus, Failed>
     ensures { PrintsOrMemory (W.contents writer.old) (W.contents writer.new) (W.failed writer.old)
         (W.failed writer.new) result (answer Done (code_lines words.now address)) }
 {
     match code_lines(alloc, words, address) {
         Ok(lines) => print_made(writer, lines, ExitStatus::Done),
-        Err(_) => print_memory(writer),
+        Err(_) => print_memory(writer, errors),
     }
 }
 
@@ -169,7 +170,7 @@ fn print_activation<W: Sink, E: Write>(
         (Some(_), None) => print_bad_address(&words.terms, writer, errors),
         (Some(crc), Some(address)) => match activation_line(alloc, words, crc, address) {
             Ok(line) => print_made(writer, line, ExitStatus::Done),
-            Err(_) => print_memory(writer),
+            Err(_) => print_memory(writer, errors),
         },
     }
 }

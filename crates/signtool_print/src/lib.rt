@@ -21,5 +21,5 @@ mod texts;
 
 pub use codes::{activation, code};
 pub use reading::{decode, list_items, print_hex_fault, print_no_memory, say_why_dropped};
-pub use statuses::{ExitStatus, print, print_made, print_memory, print_text, status};
+pub use statuses::{ExitStatus, print, print_made, print_memory, print_text, say_memory, status};
 pub use texts::{print_count, print_pages};

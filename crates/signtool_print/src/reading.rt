@@ -16,7 +16,7 @@ ghost use Rattle.signtool_print.specs.ItemLines.{items_answer, status_by};
 use crate::fields::write_message;
 use crate::item_lines::write_items;
 use crate::json::{put_items, put_message};
-use crate::statuses::{ExitStatus, print, print_made, print_memory, print_text};
+use crate::statuses::{ExitStatus, print, print_made, print_memory, print_text, say_memory};
 use dms_multi::SyntaxFault;
 use dms_text_streams::{Failed, Sink};
 use dms_wire::{Message, WireFault, read};
@@ -100,19 +100,20 @@ fn print_datagram<W: Sink, E: Write>(
         (W.contents writer.new) (W.failed writer.old) (W.failed writer.new) result (read_answer (message_at wanted)) }
 {
     match read(datagram) {
-        Ok(message) => print_message(alloc, message, form, writer),
+        Ok(message) => print_message(alloc, message, form, writer, errors),
         Err(fault) => {
             let _ = writeln!(errors, "{fault}");
-            print_wire_fault(alloc, form, fault, writer)
+            print_wire_fault(alloc, form, fault, writer, errors)
         }
     }
 }
 
-fn print_message<W: Sink>(
+fn print_message<W: Sink, E: Write>(
     alloc: Global,
     message: Message<'_>,
     form: Form,
     writer: &mut W,
+    errors: &mut E,
 ) -> Result<ExitStatus, Failed>
     ensures { form ≡ Lines → (wanted : Result SnmpMessage WireFault) → Ok (snmp_message message.entry) ≡ wanted
         → PrintsOrMemory (W.contents writer.old) (W.contents writer.new) (W.failed writer.old) (W.failed writer.new)
@@ -125,7 +126,7 @@ fn print_message<W: Sink>(
     };
     match made {
         Ok(()) => print_made(writer, fields, ExitStatus::Done),
-        Err(_) => print_no_memory(form, writer),
+        Err(_) => print_no_memory(form, writer, errors),
     }
 }
 
@@ -159,7 +160,7 @@ fn print_items<W: Sink, E: Write>(
     let mut lines = Vec::new(alloc);
     match write_items(text.as_bytes(), &mut lines) {
         Ok(fault) => print_listed(writer, lines, say_items_fault(fault, errors)),
-        Err(_) => print_memory(writer),
+        Err(_) => print_memory(writer, errors),
     }
 }
 
@@ -173,7 +174,7 @@ fn print_items_json<W: Sink, E: Write>(
     let mut object = Vec::new(alloc);
     match put_items(text.as_bytes(), &mut object) {
         Ok(fault) => print_made(writer, object, say_items_fault(fault, errors)),
-        Err(_) => print_no_memory(Form::Json, writer),
+        Err(_) => print_no_memory(Form::Json, writer, errors),
     }
 }
 
@@ -243,7 +244,7 @@ pub fn print_hex_fault<W: Sink, E: Write>(
 {
     let (digits, fault) = words;
     match fault {
-        FromHexError::OutOfMemory => print_no_memory(form, writer),
+        FromHexError::OutOfMemory => print_no_memory(form, writer, errors),
         FromHexError::InvalidHexCharacter { c: _, index } => {
             say_no_digit(digits, index, errors);
             print_not_hex(form, writer)
@@ -298,11 +299,12 @@ pub fn say_why_dropped<E: Write>(datagram: &[u8], errors: &mut E) {
 }
 
 /// Prints why octets spell no message, and where.
-fn print_wire_fault<W: Sink>(
+fn print_wire_fault<W: Sink, E: Write>(
     alloc: Global,
     form: Form,
     fault: WireFault,
     writer: &mut W,
+    errors: &mut E,
 ) -> Result<ExitStatus, Failed>
     ensures { form ≡ Lines → (wanted : Result SnmpMessage WireFault) → Err fault ≡ wanted
         → PrintsOrMemory (W.contents writer.old) (W.contents writer.new) (W.failed writer.old) (W.failed writer.new)
@@ -319,17 +321,24 @@ fn print_wire_fault<W: Sink>(
     };
     match made {
         Ok(()) => print_made(writer, text, ExitStatus::Refused),
-        Err(_) => print_no_memory(form, writer),
+        Err(_) => print_no_memory(form, writer, errors),
     }
 }
 
-/// Prints that there is no memory.
-pub fn print_no_memory<W: Sink>(form: Form, writer: &mut W) -> Result<ExitStatus, Failed>
+/// Prints that there is no memory, and says so in words too.
+pub fn print_no_memory<W: Sink, E: Write>(
+    form: Form,
+    writer: &mut W,
+    errors: &mut E,
+) -> Result<ExitStatus, Failed>
     ensures { form ≡ Lines → (wanted : Answer) → PrintsOrMemory (W.contents writer.old) (W.contents writer.new)
         (W.failed writer.old) (W.failed writer.new) result wanted }
 {
     match form {
-        Form::Lines => print_memory(writer),
-        Form::Json => print(writer, b"{\"refused\":\"memory\"}\n", ExitStatus::Refused),
+        Form::Lines => print_memory(writer, errors),
+        Form::Json => {
+            say_memory(errors);
+            print(writer, b"{\"refused\":\"memory\"}\n", ExitStatus::Refused)
+        }
     }
 }

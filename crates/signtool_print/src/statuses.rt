@@ -5,6 +5,7 @@ ghost use Rattle.signtool_print.specs.ExitNumbers.{exit_number};
 ghost use Rattle.signtool_print.specs.Printed.{Answer, answer, status_of, Prints, PrintsOrMemory};
 
 use dms_text_streams::{Failed, Sink, write_whole};
+use std::io::Write;
 
 /// How a call of the program ends.
 #[derive(Clone, Copy, Debug, PartialEq, Eq)]
@@ -75,10 +76,16 @@ pub fn print_made<W: Sink>(
     print(writer, text.as_slice(), status)
 }
 
-/// Prints that there is no memory for an answer, whichever that is.
-pub fn print_memory<W: Sink>(writer: &mut W) -> Result<ExitStatus, Failed>
+/// Prints that there is no memory for an answer, whichever that is, and says so in words too.
+pub fn print_memory<W: Sink, E: Write>(writer: &mut W, errors: &mut E) -> Result<ExitStatus, Failed>
     ensures { (wanted : Answer) → PrintsOrMemory (W.contents writer.old) (W.contents writer.new) (W.failed writer.old)
         (W.failed writer.new) result wanted }
 {
+    say_memory(errors);
     print(writer, b"memory\n", ExitStatus::Refused)
+}
+
+/// Says in words that there is no memory. It takes none.
+pub fn say_memory<E: Write>(errors: &mut E) {
+    let _ = errors.write_all(b"there is not enough memory\n");
 }

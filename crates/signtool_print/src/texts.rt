@@ -37,16 +37,17 @@ pub fn print_count<W: Sink, E: Write>(
         say_fault(alloc, text, face, fault, errors);
     }
     match form {
-        Form::Lines => print_checked(alloc, checked, writer),
-        Form::Json => print_checked_json(alloc, checked, writer),
+        Form::Lines => print_checked(alloc, checked, writer, errors),
+        Form::Json => print_checked_json(alloc, checked, writer, errors),
     }
 }
 
 /// Prints the number of pages, or the fault, as a line.
-fn print_checked<W: Sink>(
+fn print_checked<W: Sink, E: Write>(
     alloc: Global,
     checked: Result<usize, MultiFault>,
     writer: &mut W,
+    errors: &mut E,
 ) -> Result<ExitStatus, Failed>
     ensures { PrintsOrMemory (W.contents writer.old) (W.contents writer.new) (W.failed writer.old)
         (W.failed writer.new) result (count_answer checked) }
@@ -54,24 +55,25 @@ fn print_checked<W: Sink>(
     match checked {
         Ok(pages) => match count_line(alloc, pages) {
             Ok(line) => print_made(writer, line, ExitStatus::Done),
-            Err(_) => print_memory(writer),
+            Err(_) => print_memory(writer, errors),
         },
-        Err(fault) => print_fault(alloc, fault, writer),
+        Err(fault) => print_fault(alloc, fault, writer, errors),
     }
 }
 
 /// Prints the fault of a text, as a line.
-fn print_fault<W: Sink>(
+fn print_fault<W: Sink, E: Write>(
     alloc: Global,
     fault: MultiFault,
     writer: &mut W,
+    errors: &mut E,
 ) -> Result<ExitStatus, Failed>
     ensures { PrintsOrMemory (W.contents writer.old) (W.contents writer.new) (W.failed writer.old)
         (W.failed writer.new) result (fault_answer fault) }
 {
     match fault_line(alloc, fault.code.number(), fault.place) {
         Ok(line) => print_made(writer, line, ExitStatus::Refused),
-        Err(_) => print_memory(writer),
+        Err(_) => print_memory(writer, errors),
     }
 }
 
@@ -93,10 +95,11 @@ pub(crate) fn fault_line(alloc: Global, number: u8, place: usize) -> Result<Vec<
 }
 
 /// Prints the number of pages, or the fault, as an object of JSON.
-fn print_checked_json<W: Sink>(
+fn print_checked_json<W: Sink, E: Write>(
     alloc: Global,
     checked: Result<usize, MultiFault>,
     writer: &mut W,
+    errors: &mut E,
 ) -> Result<ExitStatus, Failed> {
     let mut object = Vec::new(alloc);
     let (made, status) = match checked {
@@ -111,7 +114,7 @@ fn print_checked_json<W: Sink>(
     };
     match made {
         Ok(()) => print_made(writer, object, status),
-        Err(_) => print_no_memory(Form::Json, writer),
+        Err(_) => print_no_memory(Form::Json, writer, errors),
     }
 }
 
@@ -131,9 +134,9 @@ pub fn print_pages<W: Sink, E: Write>(
         Ok(pages) => print_drawn(alloc, face, pages.as_slice(), drawing, writer, errors),
         Err(PagesFault::Multi(fault)) => {
             say_fault(alloc, text, face, fault, errors);
-            print_fault(alloc, fault, writer)
+            print_fault(alloc, fault, writer, errors)
         }
-        Err(PagesFault::Memory) => print_memory(writer),
+        Err(PagesFault::Memory) => print_memory(writer, errors),
     }
 }
 
@@ -150,17 +153,18 @@ fn print_drawn<W: Sink, E: Write>(
         (W.failed writer.new) result (wanted_answer drawing.svg face.now pages.now drawing.page) }
 {
     match drawing.page {
-        None => print_all(alloc, face, pages, drawing.svg, writer),
+        None => print_all(alloc, face, pages, drawing.svg, writer, errors),
         Some(number) => print_one(alloc, pages, (number, drawing.svg), writer, errors),
     }
 }
 
-fn print_all<W: Sink>(
+fn print_all<W: Sink, E: Write>(
     alloc: Global,
     face: &Face,
     pages: &[Page],
     svg: bool,
     writer: &mut W,
+    errors: &mut E,
 ) -> Result<ExitStatus, Failed>
     ensures { PrintsOrMemory (W.contents writer.old) (W.contents writer.new) (W.failed writer.old)
         (W.failed writer.new) result (all_answer svg face.now pages.now) }
@@ -168,12 +172,12 @@ fn print_all<W: Sink>(
     if svg {
         match picture_on(alloc, face, pages) {
             Ok(document) => print_made(writer, document, ExitStatus::Done),
-            Err(_) => print_memory(writer),
+            Err(_) => print_memory(writer, errors),
         }
     } else {
         match pages_text(alloc, pages) {
             Ok(document) => print_made(writer, document, ExitStatus::Done),
-            Err(_) => print_memory(writer),
+            Err(_) => print_memory(writer, errors),
         }
     }
 }
@@ -202,7 +206,7 @@ fn print_one<W: Sink, E: Write>(
     let (number, svg) = wanted;
     let number = usize::from(number);
     match pages.get(number.saturating_sub(1)) {
-        Some(page) => print_page(alloc, page, number, svg, writer),
+        Some(page) => print_page(alloc, page, number, svg, writer, errors),
         None => {
             let count = pages.len();
             let _ = writeln!(
@@ -214,12 +218,13 @@ fn print_one<W: Sink, E: Write>(
     }
 }
 
-fn print_page<W: Sink>(
+fn print_page<W: Sink, E: Write>(
     alloc: Global,
     page: &Page,
     number: usize,
     svg: bool,
     writer: &mut W,
+    errors: &mut E,
 ) -> Result<ExitStatus, Failed>
     ensures { PrintsOrMemory (W.contents writer.old) (W.contents writer.new) (W.failed writer.old)
         (W.failed writer.new) result (page_answer svg number page.now) }
@@ -227,12 +232,12 @@ fn print_page<W: Sink>(
     if svg {
         match still(alloc, page) {
             Ok(document) => print_made(writer, document, ExitStatus::Done),
-            Err(_) => print_memory(writer),
+            Err(_) => print_memory(writer, errors),
         }
     } else {
         match numbered_page(alloc, number, page) {
             Ok(document) => print_made(writer, document, ExitStatus::Done),
-            Err(_) => print_memory(writer),
+            Err(_) => print_memory(writer, errors),
         }
     }
 }

@@ -363,23 +363,25 @@ fn full_after_each_octet(rt: HostRuntime) {
     }
 }
 
-/// The status of a call, and whether this is printed, or that there is no memory.
+/// The status of a call, and whether this is printed, or that there is no memory, which is said too.
 fn acted_or_memory(alloc: Global, call: &Call<'_>, input: &str, printed: &str) -> (u8, bool, bool) {
-    let mut buffer = [0_u8; 256];
-    let mut output: &mut [u8] = &mut buffer;
+    let (mut printing, mut saying) = ([0_u8; 256], [0_u8; 256]);
+    let mut output: &mut [u8] = &mut printing;
+    let mut errors: &mut [u8] = &mut saying;
     let mut input = input.as_bytes();
-    let status = act(alloc, call, &mut input, &mut output);
+    let status = act_saying(alloc, call, &mut input, &mut output, &mut errors);
     let written = 256_usize.saturating_sub(output.len());
-    let text = &buffer[..written];
+    let said = 256_usize.saturating_sub(errors.len());
+    let text = &printing[..written];
     (
-        status,
+        status.number(),
         text == printed.as_bytes(),
-        text == b"memory\n".as_slice(),
+        text == b"memory\n".as_slice() && saying[..said].ends_with(b"there is not enough memory\n"),
     )
 }
 
 /// Where memory is refused once, as `rt try --test --fail-alloc N` refuses it, each call prints what it prints without,
-/// or `memory` with status 1. Done again, it prints that.
+/// or `memory` with status 1, and says in words that there is none. Done again, it prints that.
 #[test]
 fn printed_or_out_of_memory(rt: HostRuntime) {
     for (call, input, printed, status) in cases::ALLOCATING {
