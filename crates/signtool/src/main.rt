@@ -135,7 +135,7 @@
 //! refused or a datagram is dropped is said in words on standard error.
 #![tactic(auto)]
 
-use signtool_acts::{ExitStatus, act_saying};
+use signtool_acts::{Counted, ExitStatus, act_saying};
 use signtool_cli::asked;
 use std::env::{Env, FillError};
 use std::io;
@@ -160,7 +160,7 @@ fn main(rt: HostRuntime) -> ExitCode {
             rt.alloc(),
             &call,
             &mut rt.stdin(),
-            &mut rt.stdout(),
+            &mut Counted::new(rt.stdout()),
             &mut rt.stderr(),
         ),
         Err(usage) => {

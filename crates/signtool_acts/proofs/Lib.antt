@@ -1,3 +1,4 @@
 pub mod Parts
 pub mod Carried
 pub mod Calls
+pub mod Ends

@@ -19,7 +19,8 @@ ghost use Rattle.dms_sign_text.specs.Description.{Description, SpellsDescription
 ghost use Rattle.dms_sign_text.specs.Setups.{IsMade};
 ghost use Rattle.dms_sign.specs.Reply.{received};
 ghost use Rattle.dms_sign.specs.ReplyView.{sent};
-ghost use Rattle.signtool_print.specs.Printed.{answer, PrintsOrMemory};
+ghost use Rattle.signtool_print.specs.ExitNumbers.{exit_number};
+ghost use Rattle.signtool_print.specs.Printed.{answer, EndsOrMemory, PrintsOrMemory};
 ghost use Rattle.signtool_acts.specs.CallAnswers.{reply_answer, answer_to, CarriesOut, IsWanted, IsInputFault};
 ghost use Rattle.signtool_acts.specs.CallAnswers.{IsRefused};
 ghost use Rattle.signtool_acts.specs.CallAnswers.{OfSign, OfDigits, OfScript};
@@ -46,25 +47,26 @@ const VERSION: &[u8] = b"signtool 1.0.0\n";
 
 /// Carries out the call over the program's standard input and output, and gives the exit status: 0 where it was done, 1
 /// where it was refused or the output failed, 2 where the words are at fault.
-pub fn act<R: Read, W: Write>(
-    alloc: Global,
-    call: &Call<'_>,
-    reader: &mut R,
-    writer: &mut W,
-) -> u8 {
+pub fn act<R: Read, W: Sink>(alloc: Global, call: &Call<'_>, reader: &mut R, writer: &mut W) -> u8
+    ensures { (status : ExitStatus) × (result ≡ exit_number status)
+        × CarriesOut call.now (R.remaining reader.old) (EndsOrMemory (W.contents writer.old) (W.contents writer.new)
+        (W.failed writer.old) (W.failed writer.new) status) }
+{
     act_saying(alloc, call, reader, writer, &mut Vec::new(alloc)).number()
 }
 
 /// Carries out the call as `act` does, and says in words on the standard error why something was refused or dropped.
-pub fn act_saying<R: Read, W: Write, E: Write>(
+pub fn act_saying<R: Read, W: Sink, E: Write>(
     alloc: Global,
     call: &Call<'_>,
     reader: &mut R,
     writer: &mut W,
     errors: &mut E,
-) -> ExitStatus {
-    let mut sink = Counted::new(&mut *writer);
-    status(carry_out(alloc, call, reader, &mut sink, errors))
+) -> ExitStatus
+    ensures { CarriesOut call.now (R.remaining reader.old) (EndsOrMemory (W.contents writer.old)
+        (W.contents writer.new) (W.failed writer.old) (W.failed writer.new) result) }
+{
+    status(carry_out(alloc, call, reader, writer, errors))
 }
 
 /// Carries out the call over an output that counts its failures: the status of the call, or that a call of the output

@@ -3,10 +3,10 @@
 //!
 //! ```
 //! let mut input: &[u8] = b"bench\nlisten\n";
-//! let mut printed = Vec::new(alloc);
+//! let mut printed = Gathered::new(alloc);
 //! let mut errors = Vec::new(alloc);
 //! let status = act_saying(alloc, &Call::Replay, &mut input, &mut printed, &mut errors);
-//! assert_eq!(rt; (status, printed.as_slice()), (ExitStatus::Refused, b"line 2\n".as_slice()));
+//! assert_eq!(rt; (status, printed.bytes()), (ExitStatus::Refused, b"line 2\n".as_slice()));
 //! assert_eq!(rt; errors.as_slice(), b"line 2: no event begins with this word\n".as_slice());
 //! ```
 #![tactic(auto)]
@@ -16,6 +16,7 @@ mod inputs;
 mod refusal;
 
 pub use act::act_saying;
+pub use dms_text_streams::Counted;
 pub use inputs::{described_before, described_whole, replayed};
 pub use refusal::Refusal;
 pub use signtool_print::ExitStatus;

@@ -35,3 +35,15 @@ PrintsOrMemory old new before after result it =
 abbrev pub status_of : Result ExitStatus Failed → ExitStatus
 status_of (Ok status) = status
 status_of (Err failed) = Refused
+
+-- The whole text was written, the program's status is that of the answer, and no call of the output failed. Or a call
+-- failed, the last one: a front of the text was written, and the program's status is 1.
+abbrev pub Ends : (old new : Option (List ℕ)) → (before after : ℕ) → ExitStatus → Answer → Type 0
+Ends old new before after status it =
+    (Appends old new it.text × (status ≡ it.status) × (after ≡ before))
+    ⊎ (AppendsPrefix old new it.text × (status ≡ Refused) × (after ≡ one_more before))
+
+-- so of this answer, or of `memory` where there was none
+abbrev pub EndsOrMemory : (old new : Option (List ℕ)) → (before after : ℕ) → ExitStatus → Answer → Type 0
+EndsOrMemory old new before after status it =
+    Ends old new before after status it ⊎ Ends old new before after status no_memory

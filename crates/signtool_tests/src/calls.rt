@@ -2,6 +2,7 @@
 
 mod cases;
 
+use signtool_acts::Counted;
 use signtool_acts::act::{act, act_saying};
 use signtool_calls::{Call, Drawing, Form, SignWanted};
 use signtool_cli::asked;
@@ -34,7 +35,7 @@ fn words_of(alloc: Global, line: &str) -> Result<Vec<&str>, AllocError> {
 /// The status of a call over this standard input, and whether this is printed.
 fn acted(alloc: Global, call: &Call<'_>, mut input: impl Read + Drop, printed: &str) -> (u8, bool) {
     let mut output = Vec::new(alloc);
-    let status = act(alloc, call, &mut input, &mut output);
+    let status = act(alloc, call, &mut input, &mut Counted::new(&mut output));
     (status, output.as_slice() == printed.as_bytes())
 }
 
@@ -107,7 +108,13 @@ fn called_saying(alloc: Global, line: &str, printed: &str, said: &str) -> Option
     let mut output = Vec::new(alloc);
     let mut errors = Vec::new(alloc);
     let mut input: &[u8] = &[];
-    let status = act_saying(alloc, &call, &mut input, &mut output, &mut errors);
+    let status = act_saying(
+        alloc,
+        &call,
+        &mut input,
+        &mut Counted::new(&mut output),
+        &mut errors,
+    );
     Some((
         status.number(),
         output.as_slice() == printed.as_bytes(),
@@ -273,7 +280,7 @@ fn status_where_full(alloc: Global, line: &str) -> Option<u8> {
     let call = call_of(alloc, &words)?;
     let mut input: &[u8] = &[];
     let mut output: &mut [u8] = &mut [];
-    Some(act(alloc, &call, &mut input, &mut output))
+    Some(act(alloc, &call, &mut input, &mut Counted::new(&mut output)))
 }
 
 /// Where the output takes nothing, the status says so, whatever was to be printed.
@@ -356,7 +363,12 @@ fn full_after_each_octet(rt: HostRuntime) {
             let mut buffer = [0_u8; 128];
             let mut output: &mut [u8] = &mut buffer[..room];
             let mut input = input.as_bytes();
-            let found = act(rt.alloc(), &call, &mut input, &mut output);
+            let found = act(
+                rt.alloc(),
+                &call,
+                &mut input,
+                &mut Counted::new(&mut output),
+            );
             assert_eq!(rt; found, u8::from(room < printed.len()));
             assert!(rt; buffer[..room] == printed[..room]);
         }
@@ -369,7 +381,8 @@ fn acted_or_memory(alloc: Global, call: &Call<'_>, input: &str, printed: &str) -
     let mut output: &mut [u8] = &mut printing;
     let mut errors: &mut [u8] = &mut saying;
     let mut input = input.as_bytes();
-    let status = act_saying(alloc, call, &mut input, &mut output, &mut errors);
+    let mut counted = Counted::new(&mut output);
+    let status = act_saying(alloc, call, &mut input, &mut counted, &mut errors);
     let written = 256_usize.saturating_sub(output.len());
     let said = 256_usize.saturating_sub(errors.len());
     let text = &printing[..written];
@@ -404,7 +417,7 @@ fn drawn(alloc: Global, drawing: Drawing) -> (u8, bool, bool, usize) {
     };
     let mut output = Vec::new(alloc);
     let mut input: &[u8] = &[];
-    let status = act(alloc, &call, &mut input, &mut output);
+    let status = act(alloc, &call, &mut input, &mut Counted::new(&mut output));
     let text = output.as_slice();
     (
         status,

@@ -1,0 +1,4 @@
+use Rattle.signtool_acts.proofs.act.act.Goals as goal
+
+pub returns : goal.returns
+returns g c = (c.act_saying.result, c.number.ensures, c.act_saying.ensures)
