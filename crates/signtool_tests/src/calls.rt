@@ -123,7 +123,7 @@ fn called_saying(alloc: Global, line: &str, printed: &str, said: &str) -> Option
 }
 
 #[test]
-fn each_reading_call_prints_and_says_its_lines(rt: HostRuntime) {
+fn readers_print_lines(rt: HostRuntime) {
     for cases in [
         cases::DECODED.as_slice(),
         cases::ITEMS.as_slice(),
