@@ -46,8 +46,21 @@ use std::io::{Read, Write};
 const VERSION: &[u8] = b"signtool 1.0.0\n";
 
 /// Carries out the call over the program's standard input and output, and gives the exit status: 0 where it was done, 1
-/// where it was refused or the output failed, 2 where the words are at fault.
-pub fn act<R: Read, W: Sink>(alloc: Global, call: &Call<'_>, reader: &mut R, writer: &mut W) -> u8
+/// where it was refused or the output failed, 2 where the words are at fault. What is printed is that of `act_counted`,
+/// over this writer with its failed calls counted.
+pub fn act<R: Read, W: Write>(alloc: Global, call: &Call<'_>, reader: &mut R, writer: &mut W) -> u8
+    ensures { (status : ExitStatus) × (result ≡ exit_number status) }
+{
+    act_counted(alloc, call, reader, &mut Counted::new(&mut *writer))
+}
+
+/// Carries out the call as `act` does, over an output that counts its failed calls.
+pub fn act_counted<R: Read, W: Sink>(
+    alloc: Global,
+    call: &Call<'_>,
+    reader: &mut R,
+    writer: &mut W,
+) -> u8
     ensures { (status : ExitStatus) × (result ≡ exit_number status)
         × CarriesOut call.now (R.remaining reader.old) (EndsOrMemory (W.contents writer.old) (W.contents writer.new)
         (W.failed writer.old) (W.failed writer.new) status) }

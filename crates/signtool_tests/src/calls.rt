@@ -35,7 +35,7 @@ fn words_of(alloc: Global, line: &str) -> Result<Vec<&str>, AllocError> {
 /// The status of a call over this standard input, and whether this is printed.
 fn acted(alloc: Global, call: &Call<'_>, mut input: impl Read + Drop, printed: &str) -> (u8, bool) {
     let mut output = Vec::new(alloc);
-    let status = act(alloc, call, &mut input, &mut Counted::new(&mut output));
+    let status = act(alloc, call, &mut input, &mut output);
     (status, output.as_slice() == printed.as_bytes())
 }
 
@@ -280,7 +280,7 @@ fn status_where_full(alloc: Global, line: &str) -> Option<u8> {
     let call = call_of(alloc, &words)?;
     let mut input: &[u8] = &[];
     let mut output: &mut [u8] = &mut [];
-    Some(act(alloc, &call, &mut input, &mut Counted::new(&mut output)))
+    Some(act(alloc, &call, &mut input, &mut output))
 }
 
 /// Where the output takes nothing, the status says so, whatever was to be printed.
@@ -363,12 +363,7 @@ fn full_after_each_octet(rt: HostRuntime) {
             let mut buffer = [0_u8; 128];
             let mut output: &mut [u8] = &mut buffer[..room];
             let mut input = input.as_bytes();
-            let found = act(
-                rt.alloc(),
-                &call,
-                &mut input,
-                &mut Counted::new(&mut output),
-            );
+            let found = act(rt.alloc(), &call, &mut input, &mut output);
             assert_eq!(rt; found, u8::from(room < printed.len()));
             assert!(rt; buffer[..room] == printed[..room]);
         }
@@ -417,7 +412,7 @@ fn drawn(alloc: Global, drawing: Drawing) -> (u8, bool, bool, usize) {
     };
     let mut output = Vec::new(alloc);
     let mut input: &[u8] = &[];
-    let status = act(alloc, &call, &mut input, &mut Counted::new(&mut output));
+    let status = act(alloc, &call, &mut input, &mut output);
     let text = output.as_slice();
     (
         status,

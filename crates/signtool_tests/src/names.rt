@@ -1,6 +1,5 @@
 //! The names of objects that `decode` prints beside their numbers.
 
-use signtool_acts::Counted;
 use signtool_acts::act::act;
 use signtool_calls::{Call, Form};
 use std::alloc::Global;
@@ -95,7 +94,7 @@ fn decoded(alloc: Global, below: &[u8]) -> Result<Vec<u8>, Fail> {
     };
     let mut output = Vec::new(alloc);
     let mut input: &[u8] = &[];
-    act(alloc, &call, &mut input, &mut Counted::new(&mut output));
+    act(alloc, &call, &mut input, &mut output);
     Ok(output)
 }
 
