@@ -43,4 +43,11 @@ pub found_at : (styles : List Cell) (lit : Cell) (place : ℕ) → lit.lit ≡ t
     → IsLitStyle styles place × (style styles place ≡ lit)
 found_at styles lit place bright dark below same = grind (arith, same_cell_is)
 
+-- the one lit style
+pub single : (styles : List Cell) (lit : Cell) → lit.lit ≡ true → (style styles 0).lit ≡ false → length styles ≡ 2 → is_style styles lit ≡ true → style styles 1 ≡ lit
+single [] lit bright unlit_first two is = absurd (omega arith)
+single (dark ∷ []) lit bright unlit_first two is = absurd (omega arith)
+single (dark ∷ other ∷ []) lit bright unlit_first two is = grind (arith, cases_Bool, same_cell_is)
+single (dark ∷ other ∷ third ∷ styles) lit bright unlit_first two is = absurd (omega arith)
+
 pub ruleset finding = (found, found_at, not_found)

