@@ -16,8 +16,8 @@ from wisangub.endpoint.sockets import interface
 
 AGAIN = 60.0  # seconds from one lookup of a name to the next
 PATIENCE = 5.0  # seconds in which the names of a fleet are looked up at the start
-THREADS = 8
-Place = tuple[str, int]  # a host as the fleet says it, and a port
+_THREADS = 8
+_Place = tuple[str, int]  # a host as the fleet says it, and a port
 
 
 @dataclass(frozen=True)
@@ -29,7 +29,7 @@ class Found:
     fault: str = ""
 
 
-def spelled(address: tuple[Any, ...]) -> str:
+def _spelled(address: tuple[Any, ...]) -> str:
     """An address with its port in the one way that it is compared by. The address of no machine is this machine's, and
     one of IPv4 within IPv6 is that of IPv4."""
     ip: ipaddress.IPv4Address | ipaddress.IPv6Address = ipaddress.ip_address(str(address[0]).partition("%")[0])
@@ -43,7 +43,7 @@ def spelled(address: tuple[Any, ...]) -> str:
     return f"[{ip}{of}]:{address[1]}"
 
 
-def looked_up(place: Place, flags: int = 0) -> Found:
+def looked_up(place: _Place, flags: int = 0) -> Found:
     """What a host stands for now. Of many addresses the first by IPv4 and by its digits is spoken to, in whatever order
     they come."""
     try:
@@ -51,7 +51,7 @@ def looked_up(place: Place, flags: int = 0) -> Found:
     except (OSError, UnicodeError) as fault:
         return Found(fault=f"{place[0]}: {getattr(fault, 'strerror', None) or 'no such host'}")
     ordered = sorted((one[0] != socket.AF_INET, str(one[4][0])) for one in found)
-    return Found(ordered[0][1], frozenset(spelled(one[4]) for one in found))
+    return Found(ordered[0][1], frozenset(_spelled(one[4]) for one in found))
 
 
 @dataclass
@@ -59,9 +59,9 @@ class Addresses:
     """Hosts and what they stand for, as far as it is known. A name that stood for something and is not found any more
     stands for what it stood for."""
 
-    places: Iterable[Place]
+    places: Iterable[_Place]
     again: float = AGAIN
-    found: dict[Place, Found] = field(default_factory=dict)
+    found: dict[_Place, Found] = field(default_factory=dict)
     is_done: bool = False
 
     def __post_init__(self) -> None:
@@ -72,12 +72,12 @@ class Addresses:
                 names.append(place)
             else:
                 self.found[place] = found
-        slices = [names[at::THREADS] for at in range(THREADS) if names[at::THREADS]]
+        slices = [names[at::_THREADS] for at in range(_THREADS) if names[at::_THREADS]]
         self.first = [threading.Event() for _ in slices]
         for places, first in zip(slices, self.first):
             threading.Thread(target=self.look, args=(places, first), name="addresses", daemon=True).start()
 
-    def look(self, places: list[Place], first: threading.Event) -> None:
+    def look(self, places: list[_Place], first: threading.Event) -> None:
         """A thread's names, again and again."""
         while not self.is_done:
             for place in places:
@@ -89,7 +89,7 @@ class Addresses:
             first.set()
             time.sleep(self.again)
 
-    def of(self, place: Place) -> Found:
+    def of(self, place: _Place) -> Found:
         return self.found.get(place, Found(fault=f"{place[0]}: it is being looked up"))
 
     def wait(self, seconds: float = PATIENCE) -> "Addresses":
@@ -104,7 +104,7 @@ class Addresses:
         self.is_done = True
 
 
-def of_places(places: Iterable[Place]) -> dict[Place, Found]:
+def of_places(places: Iterable[_Place]) -> dict[_Place, Found]:
     """What hosts stand for now, as far as it is found in time."""
     held = Addresses(list(places)).wait()
     held.close()

@@ -26,10 +26,10 @@ from . import start
 from .store import database
 
 LOOK = 0.1  # seconds from one look for the end to the next
-PATIENCE = 3.0  # seconds that are waited for what a sign says of its row
+_PATIENCE = 3.0  # seconds that are waited for what a sign says of its row
 
 
-def line_of(words: str) -> str:
+def _line_of(words: str) -> str:
     """The centre's line for an operator's."""
     line = published(words) if words.split(" ")[0] == "publish-text" else words
     if not is_command(line):
@@ -51,7 +51,7 @@ def waited(store: Store, command: int, wait: float) -> str | None:
 
 def explain(store: Store, command: int, how: str) -> None:
     """Says of a command that failed at which step that was, and what the sign said of it or what may be the cause."""
-    said, ends = "", time.monotonic() + PATIENCE
+    said, ends = "", time.monotonic() + _PATIENCE
     with contextlib.suppress(Failed):
         while is_in_error(how) and not (said := store.commands.why(command)) and time.monotonic() < ends:
             time.sleep(LOOK)
@@ -73,7 +73,7 @@ def main() -> int:
     asked = parser.parse_args()
     if database.is_url(asked.database):
         start.needed("wisangub.room.command", "psycopg")
-    line = line_of(asked.line)
+    line = _line_of(asked.line)
     store = Store(database.opened(asked.database, may_create=False))
     try:
         command = store.commands.ask(store.signs.row_of(asked.sign), asked.who, line)

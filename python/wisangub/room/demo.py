@@ -26,11 +26,11 @@ from . import fleet, start
 from .serve import LISTEN
 from .store import database, users
 
-FLEET = TOP / "signs/fleet.toml"
-SILENCE = 2.0  # seconds in which a sign that cannot begin ends
+_FLEET = TOP / "signs/fleet.toml"
+_SILENCE = 2.0  # seconds in which a sign that cannot begin ends
 
 
-def entries(path: pathlib.Path) -> list[tuple[str, int, pathlib.Path]]:
+def _entries(path: pathlib.Path) -> list[tuple[str, int, pathlib.Path]]:
     """The name, the port and the description of each sign of a fleet."""
     fleet.read(path)  # which says what is not in order
     held = tomllib.loads(path.read_text(encoding="utf-8"))["sign"]
@@ -38,7 +38,7 @@ def entries(path: pathlib.Path) -> list[tuple[str, int, pathlib.Path]]:
 
 
 @contextlib.contextmanager
-def ended(processes: list[subprocess.Popen[bytes]]) -> Iterator[None]:
+def _ended(processes: list[subprocess.Popen[bytes]]) -> Iterator[None]:
     """Whatever happens, the processes end."""
     try:
         yield
@@ -53,19 +53,19 @@ def ended(processes: list[subprocess.Popen[bytes]]) -> Iterator[None]:
                 process.wait()
 
 
-def begun(words: list[str]) -> subprocess.Popen[bytes]:
+def _begun(words: list[str]) -> subprocess.Popen[bytes]:
     """A process of this Python, in a group of its own, so that an interrupt comes to this one alone."""
     return subprocess.Popen(
         [sys.executable, "-m", *words], env=environment(), cwd=TOP, stdin=subprocess.DEVNULL, process_group=0
     )
 
 
-def begin_signs(path: pathlib.Path, program: str, running: list[subprocess.Popen[bytes]]) -> None:
+def _begin_signs(path: pathlib.Path, program: str, running: list[subprocess.Popen[bytes]]) -> None:
     """The signs are among what runs; refused where one does not stand."""
-    found = entries(path)
+    found = _entries(path)
     for _, port, description in found:
         running.append(
-            begun(
+            _begun(
                 [
                     "wisangub.endpoint.sign",
                     "--signtool",
@@ -79,13 +79,13 @@ def begin_signs(path: pathlib.Path, program: str, running: list[subprocess.Popen
             )
         )
     with contextlib.suppress(subprocess.TimeoutExpired):
-        running[-1].wait(SILENCE)
+        running[-1].wait(_SILENCE)
     dead = [entry[0] for entry, process in zip(found, running) if process.poll() is not None]
     if dead:
         raise Refusal(f"no sign stands for {', '.join(dead)}: is its port in use?", 1)
 
 
-def enter(where: str) -> None:
+def _enter(where: str) -> None:
     """A user of each role, with a password that is printed."""
     held = database.opened(where)
     for role in Role:
@@ -102,7 +102,7 @@ def main() -> int:
         formatter_class=argparse.RawDescriptionHelpFormatter,
     )
     parser.add_argument("--listen", default=LISTEN, metavar="HOST:PORT")
-    parser.add_argument("--fleet", type=pathlib.Path, default=FLEET, metavar="FILE")
+    parser.add_argument("--fleet", type=pathlib.Path, default=_FLEET, metavar="FILE")
     parser.add_argument("--signtool", default=str(SIGNTOOL), metavar="PATH")
     asked = parser.parse_args()
     start.needed("wisangub.room.demo", "aiohttp", "jinja2")
@@ -110,11 +110,11 @@ def main() -> int:
     path, running = asked.fleet.resolve(), list[subprocess.Popen[bytes]]()
     with tempfile.TemporaryDirectory(prefix="control-") as folder:
         where = str(pathlib.Path(folder) / "room.sqlite")
-        with contextlib.suppress(KeyboardInterrupt), ended(running):
-            begin_signs(path, asked.signtool, running)
-            enter(where)
+        with contextlib.suppress(KeyboardInterrupt), _ended(running):
+            _begin_signs(path, asked.signtool, running)
+            _enter(where)
             running.append(
-                begun(
+                _begun(
                     [
                         "wisangub.room",
                         "--fleet",

@@ -14,7 +14,7 @@ from wisangub.room.output import LOG
 
 from .addresses import of_places
 
-TYPES: dict[str, tuple[type, ...]] = {
+_TYPES: dict[str, tuple[type, ...]] = {
     "name": (str,),
     "place": (str,),
     "address": (str,),
@@ -23,15 +23,15 @@ TYPES: dict[str, tuple[type, ...]] = {
     "poll": (int, float),
     "first": (int,),
 }
-NEEDED = ("name", "address", "description")
-MOST_NAME = 64
-MOST_NAMED = 5  # files in one line
-NAMES = f"a name has 1 to {MOST_NAME} printable characters"
+_NEEDED = ("name", "address", "description")
+_MOST_NAME = 64
+_MOST_NAMED = 5  # files in one line
+NAMES = f"a name has 1 to {_MOST_NAME} printable characters"
 LAST_NUMBER = 2**31 - 1
-EVERY = 10.0  # seconds between polls where the fleet does not say it
-ORDER = re.compile(rb"^order (?:high|swapped)(?=\r?$)", re.MULTILINE)
-COMMUNITIES = re.compile(rb"^communities ([^ \r\n]+) ([^ \r\n]+)\r?$", re.MULTILINE)
-PLACE = re.compile(r" \(at (?:line (\d+), column \d+|end of document)\)$")
+_EVERY = 10.0  # seconds between polls where the fleet does not say it
+_ORDER = re.compile(rb"^order (?:high|swapped)(?=\r?$)", re.MULTILINE)
+_COMMUNITIES = re.compile(rb"^communities ([^ \r\n]+) ([^ \r\n]+)\r?$", re.MULTILINE)
+_PLACE = re.compile(r" \(at (?:line (\d+), column \d+|end of document)\)$")
 
 
 @dataclass(frozen=True)
@@ -62,7 +62,7 @@ class Sign:
 
 def is_name(word: str) -> bool:
     """Whether a sign may have this name."""
-    return 1 <= len(word) <= MOST_NAME and word.isprintable()
+    return 1 <= len(word) <= _MOST_NAME and word.isprintable()
 
 
 class Source:
@@ -86,7 +86,7 @@ class Source:
             return tomllib.loads(self.text)
         except tomllib.TOMLDecodeError as fault:
             words = str(fault)
-            found = PLACE.search(words)
+            found = _PLACE.search(words)
             line = int(found[1]) if found and found[1] else len(self.text.splitlines()) or 1
             self.refuse(line, words[: found.start()] if found else words)
 
@@ -115,11 +115,11 @@ class Entry:
     def check(self) -> None:
         """Refuses keys that are unknown, missing or of another type."""
         for key, value in self.held.items():
-            if key not in TYPES:
-                self.refuse(key, f"a sign has no {key!r}: it has {', '.join(TYPES)}")
-            if not isinstance(value, TYPES[key]) or isinstance(value, bool):
-                self.refuse(key, f"{key} wants {'a text' if TYPES[key] == (str,) else 'a number'}")
-        for key in NEEDED:
+            if key not in _TYPES:
+                self.refuse(key, f"a sign has no {key!r}: it has {', '.join(_TYPES)}")
+            if not isinstance(value, _TYPES[key]) or isinstance(value, bool):
+                self.refuse(key, f"{key} wants {'a text' if _TYPES[key] == (str,) else 'a number'}")
+        for key in _NEEDED:
             if key not in self.held:
                 self.refuse(None, f"this sign has no {key}")
 
@@ -139,7 +139,7 @@ class Entry:
             self.refuse("address", str(refused))
 
     def poll(self) -> float:
-        poll = self.held.get("poll", EVERY)
+        poll = self.held.get("poll", _EVERY)
         assert isinstance(poll, (int, float))
         if not 1 <= poll <= 86_400:
             self.refuse("poll", f"{poll} is no time between polls: 1 to 86400 seconds")
@@ -155,7 +155,7 @@ class Entry:
         if order not in (None, "high", "swapped"):
             self.refuse("order", f"{order!r} is no order of checksums: high or swapped")
         assert text is not None
-        return text if order is None else ORDER.sub(b"order " + str(order).encode(), text, count=1)
+        return text if order is None else _ORDER.sub(b"order " + str(order).encode(), text, count=1)
 
     def first(self, text: bytes) -> int:
         first = self.held.get("first", description.first_of(text))
@@ -168,7 +168,7 @@ class Entry:
         self.check()
         host, port = self.address()
         text = self.text()
-        found = COMMUNITIES.search(text)
+        found = _COMMUNITIES.search(text)
         if found is None:
             self.refuse("description", "the description has no line `communities READER WRITER`")
         return Sign(
@@ -184,7 +184,7 @@ class Entry:
         )
 
 
-def is_open(path: str) -> bool:
+def _is_open(path: str) -> bool:
     """Whether others than its owner and its group can read a file: the file and each folder above it let them."""
     place = pathlib.Path(path).resolve()
     try:
@@ -197,15 +197,14 @@ def is_open(path: str) -> bool:
 
 def tell_open(signs: list[Sign]) -> None:
     """Names descriptions that others can read, since communities stand in them."""
-    found = [path for path in sorted({sign.path for sign in signs}) if is_open(path)]
+    found = [path for path in sorted({sign.path for sign in signs}) if _is_open(path)]
     if found:
-        more = f" and {len(found) - MOST_NAMED} more" if len(found) > MOST_NAMED else ""
-        LOG.warning(
-            f"others on this machine can read {', '.join(found[:MOST_NAMED])}{more}, where communities stand: chmod o-r"
-        )
+        more = f" and {len(found) - _MOST_NAMED} more" if len(found) > _MOST_NAMED else ""
+        words = f"{', '.join(found[:_MOST_NAMED])}{more}"
+        LOG.warning(f"others on this machine can read {words}, where communities stand: chmod o-r")
 
 
-def entries(source: Source) -> list[Entry]:
+def _entries(source: Source) -> list[Entry]:
     """The tables of the signs; nothing else stands in the file."""
     tables = source.tables()
     for key in tables:
@@ -220,7 +219,7 @@ def entries(source: Source) -> list[Entry]:
 def read(path: str | pathlib.Path) -> list[Sign]:
     """The signs of a file. No two have one name, and no two one address, however it is spelled: two centres would send
     one sign the same numbers."""
-    found = [(entry, entry.sign()) for entry in entries(Source(pathlib.Path(path)))]
+    found = [(entry, entry.sign()) for entry in _entries(Source(pathlib.Path(path)))]
     known = of_places((sign.host, sign.port) for _, sign in found)
     names: set[str] = set()
     owners: dict[str, str] = {}

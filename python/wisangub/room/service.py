@@ -19,7 +19,7 @@ from .fleet import Sign
 from .store import database
 from .waits import waited
 
-PATIENCE = 20.0  # seconds until the pages stand, or have ended
+_PATIENCE = 20.0  # seconds until the pages stand, or have ended
 
 
 @dataclass
@@ -39,7 +39,7 @@ class Pages:
         self.is_up = threading.Event()
         self.thread = threading.Thread(target=self.serve, name="pages", daemon=True)
         self.thread.start()
-        self.is_up.wait(PATIENCE)
+        self.is_up.wait(_PATIENCE)
         if self.fault is not None or not self.is_up.is_set():
             fault: Exception | None = self.fault
             words = reason(fault) if isinstance(fault, OSError) else str(fault or "no pages in time")
@@ -74,7 +74,7 @@ class Pages:
     def stop(self) -> None:
         """Ends what is under way, and waits for it."""
         self.loop.call_soon_threadsafe(self.loop.stop)
-        self.thread.join(PATIENCE)
+        self.thread.join(_PATIENCE)
         if self.thread.is_alive():
             LOG.warning("the pages did not end in time")
         self.service.close()

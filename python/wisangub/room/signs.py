@@ -22,7 +22,7 @@ from . import start
 from .store import database
 
 
-def arguments() -> argparse.ArgumentParser:
+def _arguments() -> argparse.ArgumentParser:
     parser = argparse.ArgumentParser(
         prog=called("wisangub-control signs"),
         description=__doc__,
@@ -38,7 +38,7 @@ def arguments() -> argparse.ArgumentParser:
 
 
 def main() -> int:
-    asked = arguments().parse_args()
+    asked = _arguments().parse_args()
     if database.is_url(asked.database):
         start.needed("wisangub.room.signs", "psycopg")
     held = database.opened(asked.database, may_create=False)

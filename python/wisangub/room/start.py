@@ -21,7 +21,7 @@ PACKAGES = {
     "selenium": "python3-selenium",
 }
 SEEN = "CONTROL_PYTHON"  # set for the Python that was looked for, so that it does not look again
-PLACES = ("/usr/bin", "/usr/local/bin")
+_PLACES = ("/usr/bin", "/usr/local/bin")
 
 
 def lacking(modules: tuple[str, ...]) -> list[str]:
@@ -31,12 +31,12 @@ def lacking(modules: tuple[str, ...]) -> list[str]:
 
 def pythons() -> list[str]:
     """Other programs named python3: Debian's first."""
-    folders = [*PLACES, *os.get_exec_path()]
+    folders = [*_PLACES, *os.get_exec_path()]
     found = [path for folder in folders if (path := shutil.which("python3", path=folder))]
     return [path for path in dict.fromkeys(found) if os.path.realpath(path) != os.path.realpath(sys.executable)]
 
 
-def sees(python: str, modules: tuple[str, ...]) -> bool:
+def _sees(python: str, modules: tuple[str, ...]) -> bool:
     """Whether this Python is 3.11 or newer and sees them all."""
     asked = f"import sys, {', '.join(modules)}; sys.exit(sys.version_info < (3, 11))"
     try:
@@ -58,7 +58,7 @@ def seeing(modules: tuple[str, ...]) -> str | None:
     """A python3 that sees these modules: this one, where it does."""
     if not lacking(modules):
         return sys.executable
-    return next((python for python in pythons() if sees(python, modules)), None)
+    return next((python for python in pythons() if _sees(python, modules)), None)
 
 
 def needed(program: str, *modules: str) -> None:

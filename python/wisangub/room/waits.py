@@ -7,11 +7,11 @@ from wisangub.refusal import Refusal
 from wisangub.room.output import LOG
 from wisangub.room.store.database import Away, Failed, NotYet, Taken
 
-AGAIN = 1.0  # seconds from one try to the next
-Answer = TypeVar("Answer")
+_AGAIN = 1.0  # seconds from one try to the next
+_Answer = TypeVar("_Answer")
 
 
-def waited(waiting: Waiting, begin: Callable[[], Answer]) -> Answer | None:
+def waited(waiting: Waiting, begin: Callable[[], _Answer]) -> _Answer | None:
     """What begins over a database, as soon as that can be had; None where it was stopped before. A database that is not
     in order is not waited for."""
     said = ""
@@ -22,7 +22,7 @@ def waited(waiting: Waiting, begin: Callable[[], Answer]) -> Answer | None:
             if str(away) != said:
                 said = str(away)
                 LOG.warning(f"{said}: it is waited for")
-            waiting.until([], AGAIN)
+            waiting.until([], _AGAIN)
         except (Failed, Taken) as fault:
             raise Refusal(f"the database: {fault}", 1) from fault
         else:

@@ -6,7 +6,7 @@ from .lines import Lines
 from .values import LEAST_NUMBER, places, whole
 
 MARGIN = 100_000  # numbers that are left out beside those that are known to be used
-Wanted = dict[int, tuple[frozenset[str], str]]  # by signs: all spellings of their addresses, or why there are none
+_Wanted = dict[int, tuple[frozenset[str], str]]  # by signs: all spellings of their addresses, or why there are none
 
 
 class Addresses:
@@ -16,13 +16,13 @@ class Addresses:
         self.database, self._lines = database, lines
         self._run = database.run
 
-    def placed(self, wanted: Wanted) -> dict[int, str]:
+    def placed(self, wanted: _Wanted) -> dict[int, str]:
         """Each of the signs takes the addresses that it has now, or says why they are not known: by the signs that
         stand still from now on, why they do. A transaction that is alone."""
         with self.database.transaction(is_alone=True):
             return self._placed(wanted)
 
-    def _placed(self, wanted: Wanted) -> dict[int, str]:
+    def _placed(self, wanted: _Wanted) -> dict[int, str]:
         held: dict[int, set[str]] = {}
         for address, sign in self._run("SELECT address, sign FROM addresses WHERE now = 1"):
             held.setdefault(whole(sign), set()).add(str(address))

@@ -18,7 +18,7 @@ from .values import CLOCK, LEAST_NUMBER, whole
 
 LINES_A_SECOND = round(1 / PACE)
 LEAST_STEP = 1_000_000  # numbers that are left out at least
-TIMES = (
+_TIMES = (
     "at FROM lines",
     "asked_at FROM commands",
     "ended FROM commands",
@@ -61,7 +61,7 @@ class Step:
 def newest(store: Store) -> float:
     """The time of the newest entry, by the clock of the database that was copied."""
     times = [
-        store.database.run(f"SELECT max({column.split(' ')[0]}) FROM {column.split(' ')[2]}")[0][0] for column in TIMES
+        store.database.run(f"SELECT max({column.split(' ')[0]}) FROM {column.split(' ')[2]}")[0][0] for column in _TIMES
     ]
     return max((float(time) for time in times if time is not None), default=0.0)
 
@@ -82,7 +82,7 @@ def advance(store: Store, who: str, first: int | None) -> Step:
         known = {whole(row[0]): store.lines.used(whole(row[0])) for row in store.database.run("SELECT id FROM signs")}
         seconds, step = left_out(store, since) if first is None else (0.0, LEAST_STEP)
         begins = {sign: number + step if first is None else first for sign, number in known.items()}
-        check(known, begins)
+        _check(known, begins)
         for sign, number in begins.items():
             store.database.run(
                 "UPDATE signs SET first_number = ?, leased_by = NULL, read_at = 0, table_wanted = 1 WHERE id = ?",
@@ -97,14 +97,14 @@ def advance(store: Store, who: str, first: int | None) -> Step:
         )
         if len(lowered) < len(known):
             raise Refusal("a sign has too few numbers of readings left below 0")
-        ended = end_all(store)
+        ended = _end_all(store)
         numbers = begins.values()
         found = Step(len(known), since, seconds, step, min(numbers, default=0), max(numbers, default=0), ended)
         note(store.database, who, "restored from a copy: " + found.told().replace("\n", " "))
         return found
 
 
-def check(known: dict[int, int], begins: dict[int, int]) -> None:
+def _check(known: dict[int, int], begins: dict[int, int]) -> None:
     """Refuses numbers that were used, and those that there are not."""
     for sign, number in begins.items():
         if number < known[sign]:
@@ -116,7 +116,7 @@ def check(known: dict[int, int], begins: dict[int, int]) -> None:
             )
 
 
-def end_all(store: Store) -> int:
+def _end_all(store: Store) -> int:
     """Ends what had not ended when the copy was made, log-ins too; how many commands."""
     begun = store.database.run(
         f"UPDATE commands SET outcome = ?, ended = {CLOCK} WHERE line_number IS NOT NULL AND outcome IS NULL"

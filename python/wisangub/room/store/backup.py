@@ -35,7 +35,7 @@ from .store import Store
 
 
 @contextlib.contextmanager
-def faults_told() -> Iterator[None]:
+def _faults_told() -> Iterator[None]:
     """Faults of files and of SQLite in words."""
     try:
         yield
@@ -45,11 +45,11 @@ def faults_told() -> Iterator[None]:
         raise Refusal(f"SQLite: {fault}") from fault
 
 
-def copied(source: str, target: pathlib.Path) -> None:
+def _copied(source: str, target: pathlib.Path) -> None:
     """A whole and consistent copy of a database of SQLite at a path where nothing is, though others write meanwhile."""
     if not pathlib.Path(source).is_file():
         raise Refusal(f"{source}: there is no database")
-    with faults_told():
+    with _faults_told():
         os.close(os.open(target, os.O_RDWR | os.O_CREAT | os.O_EXCL, MODE))
         try:
             with contextlib.closing(sqlite3.connect(address_of(source, "ro"), uri=True)) as old, contextlib.closing(
@@ -86,7 +86,7 @@ def environment(url: str) -> dict[str, str]:
     return {**os.environ, **held}
 
 
-def called(url: str, name: str, *words: str) -> None:
+def _called(url: str, name: str, *words: str) -> None:
     """Runs one of PostgreSQL's programs to its end."""
     try:
         done = subprocess.run(
@@ -108,17 +108,17 @@ def copy(where: str, target: pathlib.Path) -> None:
     if target.exists() or part.exists():
         raise Refusal(f"{target if target.exists() else part} is there already")
     if not database.is_url(where):
-        copied(where, part)
+        _copied(where, part)
     else:
-        with faults_told():
+        with _faults_told():
             os.close(os.open(part, os.O_RDWR | os.O_CREAT | os.O_EXCL, MODE))
-        called(where, "pg_dump", "--format=custom", f"--file={part}")
-    named(part, target)
+        _called(where, "pg_dump", "--format=custom", f"--file={part}")
+    _named(part, target)
 
 
-def named(part: pathlib.Path, target: pathlib.Path) -> None:
+def _named(part: pathlib.Path, target: pathlib.Path) -> None:
     """Gives a whole file its name, on the disk."""
-    with faults_told():
+    with _faults_told():
         part.rename(target)
         synced_folder(str(target))
 
@@ -126,35 +126,35 @@ def named(part: pathlib.Path, target: pathlib.Path) -> None:
 def restore(where: str, source: pathlib.Path, who: str, first: int | None) -> str:
     """A database from a copy, with numbers above all that may have been used since: in words, what was done."""
     return (
-        restored_server(where, source, who, first)
+        _restored_server(where, source, who, first)
         if database.is_url(where)
-        else restored_file(pathlib.Path(where), source, who, first)
+        else _restored_file(pathlib.Path(where), source, who, first)
     )
 
 
-def restored_file(target: pathlib.Path, source: pathlib.Path, who: str, first: int | None) -> str:
+def _restored_file(target: pathlib.Path, source: pathlib.Path, who: str, first: int | None) -> str:
     part = target.with_name(target.name + ".part")
     for path in (target, part, *(target.with_name(target.name + end) for end in ("-wal", "-shm"))):
         if path.exists():
             raise Refusal(f"{path} is there already: a database is restored where there is none")
-    copied(str(source), part)
+    _copied(str(source), part)
     try:
-        told = advanced(str(part), who, first)
+        told = _advanced(str(part), who, first)
     except BaseException:
         part.unlink()
         raise
-    named(part, target)
+    _named(part, target)
     return told
 
 
-def restored_server(url: str, source: pathlib.Path, who: str, first: int | None) -> str:
+def _restored_server(url: str, source: pathlib.Path, who: str, first: int | None) -> str:
     """Between the restore and the new numbers a table keeps workers out; it stays where something fails."""
     held = database.connected(url)
     try:
         if any(map(held.has_table, ("signs", database.RESTORING))):
             raise Refusal("the database is not empty: a database is restored where there is none")
         held.run(f"CREATE TABLE {database.RESTORING} (at DOUBLE PRECISION)")
-        called(
+        _called(
             url,
             "pg_restore",
             "--exit-on-error",
@@ -172,7 +172,7 @@ def restored_server(url: str, source: pathlib.Path, who: str, first: int | None)
         held.close()
 
 
-def advanced(where: str, who: str, first: int | None) -> str:
+def _advanced(where: str, who: str, first: int | None) -> str:
     """Numbers above all that may have been used: in words, what was done."""
     held = database.opened(where, may_create=False)
     try:
@@ -181,7 +181,7 @@ def advanced(where: str, who: str, first: int | None) -> str:
         held.close()
 
 
-def arguments() -> argparse.ArgumentParser:
+def _arguments() -> argparse.ArgumentParser:
     parser = argparse.ArgumentParser(
         prog=places.called("wisangub-control backup"),
         description=__doc__,
@@ -197,7 +197,7 @@ def arguments() -> argparse.ArgumentParser:
 
 
 def main() -> int:
-    parser = arguments()
+    parser = _arguments()
     asked = parser.parse_args()
     if (asked.what == "copy") != bool(asked.to) or (asked.what == "restore") != bool(asked.source):
         parser.error("copy wants --to FILE, restore wants --from FILE")
@@ -209,7 +209,7 @@ def main() -> int:
         elif asked.what == "restore":
             print_line(restore(asked.database, asked.source, asked.who, asked.first))
         else:
-            print_line(advanced(asked.database, asked.who, asked.first))
+            print_line(_advanced(asked.database, asked.who, asked.first))
     except Failed as fault:
         raise Refusal(f"the database: {fault}") from fault
     return 0

@@ -22,34 +22,33 @@ __all__ = [
     "is_url",
     "migrate",
     "migrations",
-    "named",
     "opened",
 ]
-MIGRATIONS = pathlib.Path(__file__).resolve().parent / "migrations"
+_MIGRATIONS = pathlib.Path(__file__).resolve().parent / "migrations"
 RESTORING = (
     "restoring"  # a table of this name keeps all out of a database that python/wisangub/room/store/backup.py restores
 )
-URLS = ("postgresql://", "postgres://")
+_URLS = ("postgresql://", "postgres://")
 WHERE = "a file of SQLite, or postgresql://USER@HOST/NAME"  # for the help of a program
-CARRIED = (
+_CARRIED = (
     f"From now on an earlier program refuses it: that one takes a copy that {called('wisangub-control backup copy')}"
     " made before"
 )
 CREATE = "make the database, where there is none: without it another name is no new database"
 
 
-def migrations(folder: pathlib.Path = MIGRATIONS) -> list[tuple[int, str]]:
+def migrations(folder: pathlib.Path = _MIGRATIONS) -> list[tuple[int, str]]:
     """Each migration's number and text, in their order."""
     return sorted((int(path.name.split("_")[0]), path.read_text(encoding="utf-8")) for path in folder.glob("*.sql"))
 
 
-def statements(text: str) -> list[str]:
+def _statements(text: str) -> list[str]:
     """The statements of a migration: comments are lines of their own, and a statement ends with a line's end."""
     lines = [line for line in text.splitlines() if not line.startswith("--")]
     return [one.strip() for one in "\n".join(lines).split(";\n") if one.strip(" ;\n")]
 
 
-def numbers_of(database: Database) -> set[int]:
+def _numbers_of(database: Database) -> set[int]:
     """The migrations that were run."""
     return {int(row[0] or 0) for row in database.run("SELECT number FROM migrations")}
 
@@ -57,18 +56,18 @@ def numbers_of(database: Database) -> set[int]:
 def migrate(database: Database, known: list[tuple[int, str]]) -> list[int]:
     """Runs the migrations that are missing: the numbers of those that were run. A newer database is refused."""
     done: list[int] = []
-    if database.has_table("migrations") and numbers_of(database) == {number for number, _ in known}:
+    if database.has_table("migrations") and _numbers_of(database) == {number for number, _ in known}:
         return done
     with database.transaction(is_alone=True):
         database.run("CREATE TABLE IF NOT EXISTS migrations (number BIGINT PRIMARY KEY, at DOUBLE PRECISION NOT NULL)")
-        found = numbers_of(database)
+        found = _numbers_of(database)
         newer = found - {number for number, _ in known}
         if newer:
             raise Refusal(f"the database is of a newer program: it has migration {max(newer)}")
         for number, text in known:
             if number in found:
                 continue
-            for statement in statements(text):
+            for statement in _statements(text):
                 database.run(statement.replace("{key}", database.key))
             database.run("INSERT INTO migrations (number, at) VALUES (?, {clock})", number)
             done.append(number)
@@ -77,7 +76,7 @@ def migrate(database: Database, known: list[tuple[int, str]]) -> list[int]:
 
 def is_url(where: str) -> bool:
     """Whether it is a database of PostgreSQL."""
-    return where.startswith(URLS)
+    return where.startswith(_URLS)
 
 
 def connected(where: str) -> Database:
@@ -97,20 +96,22 @@ def opened(where: str, may_create: bool = True) -> Database:
     database = connected(where)
     try:
         if not may_create and not any(map(database.has_table, ("migrations", RESTORING))):
-            raise Refusal(f"{named(where)} is empty, or no control room's: --create makes its tables")
+            raise Refusal(f"{_named(where)} is empty, or no control room's: --create makes its tables")
         if database.has_table(RESTORING):
             raise Refusal("the database is being restored, or its restore failed: it wants an empty one")
         is_old = database.has_table("migrations")
         done = migrate(database, migrations())
         if is_old and done:
-            LOG.info(f"{named(where)}: its tables are carried over by migration {', '.join(map(str, done))}. {CARRIED}")
+            LOG.info(
+                f"{_named(where)}: its tables are carried over by migration {', '.join(map(str, done))}. {_CARRIED}"
+            )
     except Away as away:
-        raise NotYet(f"{named(where)}: {away}", 1) from away
+        raise NotYet(f"{_named(where)}: {away}", 1) from away
     except Failed as fault:
-        raise Refusal(f"{named(where)}: {fault}") from fault
+        raise Refusal(f"{_named(where)}: {fault}") from fault
     return database
 
 
-def named(where: str) -> str:
+def _named(where: str) -> str:
     """The database without a password, for messages."""
     return "the database" if is_url(where) else where

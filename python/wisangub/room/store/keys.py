@@ -5,10 +5,10 @@ import secrets
 
 from .connection import Database, Taken
 
-COOKIES = "cookies"  # of the signatures of the pages' cookies
+_COOKIES = "cookies"  # of the signatures of the pages' cookies
 
 
-def key_of(database: Database, name: str = COOKIES) -> bytes:
+def key_of(database: Database, name: str = _COOKIES) -> bytes:
     """The key of this name, of 32 octets: the same for all processes of the database."""
     ask = "SELECT value FROM keys WHERE name = ?"
     if not (rows := database.run(ask, name)):

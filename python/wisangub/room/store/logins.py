@@ -11,8 +11,8 @@ from .values import SLACK, whole
 
 LASTS = 12 * 3600  # seconds of a log-in: a shift
 WINDOW = 300  # seconds in which failed log-ins are counted
-MOST_OF_BOTH, MOST_OF_ADDRESS, MOST_OF_NAME = 5, 30, 50
-KEPT = 86_400  # seconds that a failed log-in is kept
+MOST_OF_BOTH, MOST_OF_ADDRESS, _MOST_OF_NAME = 5, 30, 50
+_KEPT = 86_400  # seconds that a failed log-in is kept
 
 
 @dataclass(frozen=True)
@@ -44,11 +44,11 @@ def attempt(database: Database, name: str, address: str) -> int | None:
     counts = (
         ("name = ? AND address = ?", (_hidden(name), address), MOST_OF_BOTH),
         ("address = ?", (address,), MOST_OF_ADDRESS),
-        ("name = ?", (_hidden(name),), MOST_OF_NAME),
+        ("name = ?", (_hidden(name),), _MOST_OF_NAME),
     )
     with database.transaction(is_alone=True):
         database.run(
-            "DELETE FROM failed_logins WHERE at < {clock} - ? OR at > {clock} + ?", KEPT, SLACK
+            "DELETE FROM failed_logins WHERE at < {clock} - ? OR at > {clock} + ?", _KEPT, SLACK
         )  # the clock jumped
         for where, values, most in counts:
             found = database.run(f"SELECT count(*) FROM failed_logins WHERE {where} AND {since}", *values, WINDOW)

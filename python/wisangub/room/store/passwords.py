@@ -5,19 +5,19 @@ import hashlib
 import hmac
 import secrets
 
-COST, BLOCK, LANES = 2**15, 8, 3  # 32 MiB, and some tenths of a second
-MEMORY = 64 * 2**20
-LEAST, MOST = 10, 200  # characters of a password
+COST, _BLOCK, _LANES = 2**15, 8, 3  # 32 MiB, and some tenths of a second
+_MEMORY = 64 * 2**20
+_LEAST, _MOST = 10, 200  # characters of a password
 
 
-def digest(password: str, salt: bytes, cost: int, block: int, lanes: int) -> bytes:
-    return hashlib.scrypt(password.encode(), salt=salt, n=cost, r=block, p=lanes, maxmem=MEMORY, dklen=32)
+def _digest(password: str, salt: bytes, cost: int, block: int, lanes: int) -> bytes:
+    return hashlib.scrypt(password.encode(), salt=salt, n=cost, r=block, p=lanes, maxmem=_MEMORY, dklen=32)
 
 
 def secret_of(password: str) -> str:
     """What is kept of a password."""
     salt = secrets.token_bytes(16)
-    return f"scrypt {COST} {BLOCK} {LANES} {salt.hex()} {digest(password, salt, COST, BLOCK, LANES).hex()}"
+    return f"scrypt {COST} {_BLOCK} {_LANES} {salt.hex()} {_digest(password, salt, COST, _BLOCK, _LANES).hex()}"
 
 
 @functools.cache
@@ -29,17 +29,17 @@ def nobody() -> str:
 def is_password(password: str, secret: str) -> bool:
     """Whether the secret was made of this password."""
     kind, cost, block, lanes, salt, kept = secret.split(" ")
-    if kind != "scrypt" or len(password) > MOST:
+    if kind != "scrypt" or len(password) > _MOST:
         return False
     return hmac.compare_digest(
-        digest(password, bytes.fromhex(salt), int(cost), int(block), int(lanes)), bytes.fromhex(kept)
+        _digest(password, bytes.fromhex(salt), int(cost), int(block), int(lanes)), bytes.fromhex(kept)
     )
 
 
 def fault_of(password: str) -> str | None:
     """Why it is no password that is taken."""
-    if not LEAST <= len(password) <= MOST:
-        return f"a password has {LEAST} to {MOST} characters"
+    if not _LEAST <= len(password) <= _MOST:
+        return f"a password has {_LEAST} to {_MOST} characters"
     if len(set(password)) < 4:
         return "a password has at least four different characters"
     return None

@@ -13,20 +13,20 @@ from wisangub.refusal import Refusal  # noqa: E402
 
 from .connection import PATIENCE, Away, Database, Failed, NotYet, Row, Taken  # noqa: E402
 
-SETTINGS = {
+_SETTINGS = {
     "default_transaction_isolation": "read committed",
     "synchronous_commit": "on",  # what a COMMIT answered is on the disk
     "lock_timeout": f"{PATIENCE:g}s",
     "idle_in_transaction_session_timeout": "5s",  # a process that is stopped within one keeps nobody waiting for ever
 }
-NEEDED = {  # as the server says it, once connected: a pooler may drop what was asked for
-    **{name: (value,) for name, value in SETTINGS.items()},
+_NEEDED = {  # as the server says it, once connected: a pooler may drop what was asked for
+    **{name: (value,) for name, value in _SETTINGS.items()},
     "synchronous_commit": ("on", "remote_apply"),
     "fsync": ("on",),  # without these two a committed line can be lost
     "full_page_writes": ("on",),
     "transaction_read_only": ("off",),  # a standby takes no lines
 }
-LASTING = (
+_LASTING = (
     "authentication failed",
     "does not exist",
     "pg_hba.conf",
@@ -34,8 +34,8 @@ LASTING = (
     "certificate",
     "not support SSL",
 )  # what a server says that does so again
-ALONE = 0x5163_6E73  # the advisory lock of those transactions of which one is under way at a time
-SILENCE: dict[str, Any] = {  # after which a server that does not answer is given up
+_ALONE = 0x5163_6E73  # the advisory lock of those transactions of which one is under way at a time
+_SILENCE: dict[str, Any] = {  # after which a server that does not answer is given up
     "connect_timeout": 10,
     "tcp_user_timeout": 10_000,
     "keepalives_idle": 5,
@@ -60,18 +60,18 @@ class Postgresql(Database):
         try:
             self.connect()
         except (psycopg.Error, Failed) as fault:
-            words = f"the database: {worded(fault)}"
-            raise (NotYet(words, 1) if may_pass(fault) else Refusal(words)) from fault
+            words = f"the database: {_worded(fault)}"
+            raise (NotYet(words, 1) if _may_pass(fault) else Refusal(words)) from fault
 
     def connect(self) -> psycopg.Connection[Row]:
         """The connection that stands, or a new one."""
         if self.connection is None:
             options = " ".join(
-                f"-c {name}={value}".replace(" ", "\\ ").replace("-c\\ ", "-c ") for name, value in SETTINGS.items()
+                f"-c {name}={value}".replace(" ", "\\ ").replace("-c\\ ", "-c ") for name, value in _SETTINGS.items()
             )
-            made = psycopg.connect(self.url, autocommit=True, options=options, application_name="control", **SILENCE)
+            made = psycopg.connect(self.url, autocommit=True, options=options, application_name="control", **_SILENCE)
             try:
-                check(made)
+                _check(made)
             except BaseException:
                 made.close()
                 raise
@@ -86,14 +86,14 @@ class Postgresql(Database):
         try:
             yield self.connect()
         except psycopg.IntegrityError as fault:
-            raise Taken(worded(fault)) from fault
+            raise Taken(_worded(fault)) from fault
         except psycopg.Error as fault:
             self.let_go()
-            raise (Away if self.connection is None else Failed)(worded(fault)) from fault
+            raise (Away if self.connection is None else Failed)(_worded(fault)) from fault
 
     def rows(self, sql: str, values: Row) -> list[Row]:
         with self.told() as connection:
-            cursor = connection.execute(spelled(sql), values)
+            cursor = connection.execute(_spelled(sql), values)
             return cursor.fetchall() if cursor.description else []
 
     def changed(self, sql: str, values: Sequence[Row]) -> int:
@@ -101,7 +101,7 @@ class Postgresql(Database):
             return 0
         with self.told() as connection:
             cursor = connection.cursor()
-            cursor.executemany(spelled(sql), values)
+            cursor.executemany(_spelled(sql), values)
             return cursor.rowcount
 
     def let_go(self) -> None:
@@ -113,7 +113,7 @@ class Postgresql(Database):
         self.rows("BEGIN", ())
         if is_alone:
             try:
-                self.rows("SELECT pg_advisory_xact_lock(?)", (ALONE,))
+                self.rows("SELECT pg_advisory_xact_lock(?)", (_ALONE,))
             except BaseException:
                 self.roll_back()
                 raise
@@ -140,11 +140,11 @@ class Postgresql(Database):
             self.connection = None
 
 
-def check(connection: "psycopg.Connection[Row]") -> None:
+def _check(connection: "psycopg.Connection[Row]") -> None:
     """Refuses a connection, new or made anew, over which a line that was committed may be lost."""
-    asked = ", ".join(f"current_setting('{name}')" for name in NEEDED)
+    asked = ", ".join(f"current_setting('{name}')" for name in _NEEDED)
     found = connection.execute(f"SELECT {asked}").fetchone()
-    for (name, wanted), value in zip(NEEDED.items(), found or ()):
+    for (name, wanted), value in zip(_NEEDED.items(), found or ()):
         if value not in wanted:
             raise Failed(
                 f"the server has {name} {value} for this connection, and not {wanted[0]}: what it commits may be"
@@ -152,16 +152,16 @@ def check(connection: "psycopg.Connection[Row]") -> None:
             )
 
 
-def may_pass(fault: Exception) -> bool:
+def _may_pass(fault: Exception) -> bool:
     """Whether a server that took no connection may take one later: it starts, or is away."""
-    return isinstance(fault, psycopg.OperationalError) and not any(words in str(fault) for words in LASTING)
+    return isinstance(fault, psycopg.OperationalError) and not any(words in str(fault) for words in _LASTING)
 
 
-def spelled(sql: str) -> str:
+def _spelled(sql: str) -> str:
     """The statement with psycopg's places for values."""
     return sql.replace("%", "%%").replace("?", "%s")
 
 
-def worded(fault: BaseException) -> str:
+def _worded(fault: BaseException) -> str:
     """A fault in one line."""
     return " ".join(str(fault).split()) or type(fault).__name__

@@ -7,7 +7,7 @@ from dataclasses import dataclass
 from .database import Database, Row, Value
 from .values import SLACK, text_or_none, time_of, time_or_none, whole, whole_or_none
 
-SIGNS = """
+_SIGNS = """
 SELECT signs.id, signs.name, signs.place, signs.address, signs.poll,
        last.at, last.heard, last.fault, said.shown, said.minutes, said.at, said.heard, signs.still
 FROM signs
@@ -23,13 +23,13 @@ COMMANDS = (
 )
 
 
-def number_of(held: dict[str, object], word: str) -> int | None:
+def _number_of(held: dict[str, object], word: str) -> int | None:
     """A number that a sign said; None for whatever else it said."""
     found = held.get(word)
     return found if isinstance(found, int) else None
 
 
-def octets_of(held: dict[str, object], word: str) -> bytes:
+def _octets_of(held: dict[str, object], word: str) -> bytes:
     """Octets that a sign said, which are kept as digits; none for whatever else it said."""
     found = held.get(word)
     try:
@@ -56,14 +56,14 @@ class Shown:
     def of(words: str) -> "Shown":
         held = json.loads(words)
         return Shown(
-            number_of(held, "mode"),
-            octets_of(held, "source"),
-            octets_of(held, "requester"),
-            octets_of(held, "text"),
-            octets_of(held, "owner"),
-            number_of(held, "beacon"),
-            number_of(held, "pixel"),
-            number_of(held, "priority"),
+            _number_of(held, "mode"),
+            _octets_of(held, "source"),
+            _octets_of(held, "requester"),
+            _octets_of(held, "text"),
+            _octets_of(held, "owner"),
+            _number_of(held, "beacon"),
+            _number_of(held, "pixel"),
+            _number_of(held, "priority"),
         )
 
 
@@ -91,7 +91,7 @@ class SignView:
         return self.heard is None or now - self.heard > max(15.0, 3 * self.poll + 5) or self.heard > now + SLACK
 
 
-def sign_view(row: Row) -> SignView:
+def _sign_view(row: Row) -> SignView:
     fault = text_or_none(row[7])
     return SignView(
         whole(row[0]),
@@ -111,12 +111,12 @@ def sign_view(row: Row) -> SignView:
 
 def signs(database: Database) -> list[SignView]:
     """All signs in the order of their numbers."""
-    return [sign_view(row) for row in database.run(f"{SIGNS} ORDER BY signs.id")]
+    return [_sign_view(row) for row in database.run(f"{_SIGNS} ORDER BY signs.id")]
 
 
 def sign(database: Database, number: int) -> SignView | None:
-    rows = database.run(f"{SIGNS} WHERE signs.id = ?", number)
-    return sign_view(rows[0]) if rows else None
+    rows = database.run(f"{_SIGNS} WHERE signs.id = ?", number)
+    return _sign_view(rows[0]) if rows else None
 
 
 @dataclass(frozen=True)
@@ -244,10 +244,10 @@ def table(database: Database, number: int) -> TableView:
                 whole(at),
                 whole(status),
                 time_of(heard),
-                octets_of(cells, "text"),
-                octets_of(cells, "owner"),
-                number_of(cells, "checksum") or 0,
-                number_of(cells, "priority") or 0,
+                _octets_of(cells, "text"),
+                _octets_of(cells, "owner"),
+                _number_of(cells, "checksum") or 0,
+                _number_of(cells, "priority") or 0,
             )
         )
     asked, wanted = database.run("SELECT table_read_at, table_wanted FROM signs WHERE id = ?", number)[0]

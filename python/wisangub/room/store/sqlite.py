@@ -17,14 +17,14 @@ from wisangub.refusal import Refusal, reason
 
 from .connection import PATIENCE, Away, Database, Failed, NotYet, Row, Taken
 
-MAKING = threading.Lock()
-Mark = tuple[int, int] | None
+_MAKING = threading.Lock()
+_Mark = tuple[int, int] | None
 
 
-def make(path: str) -> None:
+def _make(path: str) -> None:
     """The file, where there is none; datagrams hold the writing community. One that is there is let be. Who connects
     waits until the descriptor is closed."""
-    with MAKING, contextlib.suppress(FileExistsError):
+    with _MAKING, contextlib.suppress(FileExistsError):
         os.close(os.open(path, os.O_RDWR | os.O_CREAT | os.O_EXCL | os.O_CLOEXEC, MODE))
 
 
@@ -33,7 +33,7 @@ def address_of(path: str, mode: str) -> str:
     return f"{pathlib.Path(path).absolute().as_uri()}?mode={mode}"
 
 
-def mark_of(path: str) -> Mark:
+def _mark_of(path: str) -> _Mark:
     """Which file a name stands for."""
     try:
         found = os.stat(path)
@@ -51,9 +51,9 @@ class Sqlite(Database):
     def __init__(self, path: str) -> None:
         super().__init__()
         self.path = os.path.abspath(path)
-        self.marks: list[Mark] = []
+        self.marks: list[_Mark] = []
         try:
-            make(path)
+            _make(path)
             self.connection = sqlite3.connect(
                 address_of(path, "rw"), uri=True, timeout=PATIENCE, isolation_level=None, check_same_thread=False
             )
@@ -71,9 +71,9 @@ class Sqlite(Database):
         except (sqlite3.Error, Failed) as fault:
             raise Refusal(f"{path}: {fault}") from fault
 
-    def found(self) -> list[Mark]:
+    def found(self) -> list[_Mark]:
         """Which files the names of the database and of its log stand for."""
-        return [mark_of(self.path), mark_of(f"{self.path}-wal")]
+        return [_mark_of(self.path), _mark_of(f"{self.path}-wal")]
 
     def look(self) -> None:
         """Raises where somebody took a file away, or put another one in its place: what is written then is lost."""

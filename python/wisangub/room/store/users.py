@@ -25,8 +25,8 @@ from . import database, passwords
 from .audit import note
 from .database import Database, Failed, Taken
 
-NAME = re.compile(r"[a-z][a-z0-9._-]{0,31}")
-NAMES = "a name has 1 to 32 small letters, digits, dots, lines and underlines, and begins with a letter"
+_NAME = re.compile(r"[a-z][a-z0-9._-]{0,31}")
+_NAMES = "a name has 1 to 32 small letters, digits, dots, lines and underlines, and begins with a letter"
 
 
 class Role(enum.IntEnum):
@@ -67,7 +67,7 @@ def secret(database: Database, name: str) -> str | None:
     return str(rows[0][0]) if rows else None
 
 
-def checked(password: str) -> str:
+def _checked(password: str) -> str:
     """What is kept of a password that is taken."""
     fault = passwords.fault_of(password)
     if fault is not None:
@@ -76,9 +76,9 @@ def checked(password: str) -> str:
 
 
 def add(database: Database, name: str, role: Role, password: str, who: str) -> None:
-    if not NAME.fullmatch(name):
-        raise Refusal(NAMES)
-    kept = checked(password)
+    if not _NAME.fullmatch(name):
+        raise Refusal(_NAMES)
+    kept = _checked(password)
     try:
         with database.transaction():
             database.run("INSERT INTO users (name, role, secret) VALUES (?, ?, ?)", name, role.word, kept)
@@ -87,7 +87,7 @@ def add(database: Database, name: str, role: Role, password: str, who: str) -> N
         raise Refusal(f"there is a user {name} already") from None
 
 
-def change(database: Database, name: str, column: str, value: str | int, who: str, what: str) -> None:
+def _change(database: Database, name: str, column: str, value: str | int, who: str, what: str) -> None:
     """Changes a column of a user, and ends what he is logged in with. One administrator at least is left."""
     with database.transaction(is_alone=True):
         if not database.run(f"UPDATE users SET {column} = ? WHERE name = ? RETURNING name", value, name):
@@ -101,15 +101,15 @@ def change(database: Database, name: str, column: str, value: str | int, who: st
 
 
 def change_password(database: Database, name: str, password: str, who: str) -> None:
-    change(database, name, "secret", checked(password), who, f"user {name} has another password")
+    _change(database, name, "secret", _checked(password), who, f"user {name} has another password")
 
 
 def change_role(database: Database, name: str, role: Role, who: str) -> None:
-    change(database, name, "role", role.word, who, f"user {name} is {role.word}")
+    _change(database, name, "role", role.word, who, f"user {name} is {role.word}")
 
 
 def disable(database: Database, name: str, is_disabled: bool, who: str) -> None:
-    change(
+    _change(
         database, name, "disabled", int(is_disabled), who, f"user {name} is {'disabled' if is_disabled else 'enabled'}"
     )
 
@@ -124,7 +124,7 @@ def asked_password() -> str:
     return first
 
 
-def arguments() -> argparse.ArgumentParser:
+def _arguments() -> argparse.ArgumentParser:
     parser = argparse.ArgumentParser(
         prog=called("wisangub-control users"),
         description=__doc__,
@@ -142,7 +142,7 @@ def arguments() -> argparse.ArgumentParser:
     return parser
 
 
-def done(asked: argparse.Namespace, database: Database) -> None:
+def _done(asked: argparse.Namespace, database: Database) -> None:
     """Does what was asked for."""
     who = f"{getpass.getuser()} at the machine"
     if asked.call == "list":
@@ -159,12 +159,12 @@ def done(asked: argparse.Namespace, database: Database) -> None:
 
 
 def main() -> int:
-    asked = arguments().parse_args()
+    asked = _arguments().parse_args()
     if database.is_url(asked.database):
         start.needed("wisangub.room.store.users", "psycopg")
     held = database.opened(asked.database, asked.create)
     try:
-        done(asked, held)
+        _done(asked, held)
     except Failed as fault:
         raise Refusal(f"the database: {fault}", 1) from fault
     finally:

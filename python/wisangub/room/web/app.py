@@ -18,9 +18,9 @@ from .events import Hub, events
 from .security import prepare
 from .service import HERE, SERVICE, Service, service_of
 
-Handler = Callable[[web.Request], Awaitable[web.StreamResponse]]
-MOST_BODY = 64 * 1024
-READER, OPERATOR, ADMINISTRATOR = Role.READER, Role.OPERATOR, Role.ADMINISTRATOR
+_Handler = Callable[[web.Request], Awaitable[web.StreamResponse]]
+_MOST_BODY = 64 * 1024
+_READER, _OPERATOR, _ADMINISTRATOR = Role.READER, Role.OPERATOR, Role.ADMINISTRATOR
 
 
 @dataclass(frozen=True)
@@ -29,8 +29,8 @@ class Route:
 
     method: str
     path: str
-    handler: Handler
-    role: Role | None = READER
+    handler: _Handler
+    role: Role | None = _READER
 
 
 ROUTES = (
@@ -50,20 +50,20 @@ ROUTES = (
     Route("GET", r"/signs/{sign:\d{1,9}}/log", log_pages.log),
     Route("GET", "/history", record_pages.history_page),
     Route("GET", r"/batches/{batch:\d{1,9}}", send.batch),
-    Route("GET", "/compose", compose.form, OPERATOR),
-    Route("POST", "/compose", compose.confirm, OPERATOR),
-    Route("POST", "/look", compose.look, OPERATOR),
-    Route("GET", "/blank", compose.blank, OPERATOR),
-    Route("GET", "/show", compose.row, OPERATOR),
-    Route("POST", "/send", send.send, OPERATOR),
-    Route("POST", r"/commands/{command:\d{1,9}}/withdraw", send.withdraw, OPERATOR),
-    Route("GET", "/users", people.users_page, ADMINISTRATOR),
-    Route("POST", "/users", people.change, ADMINISTRATOR),
-    Route("GET", "/audit", record_pages.audit, ADMINISTRATOR),
+    Route("GET", "/compose", compose.form, _OPERATOR),
+    Route("POST", "/compose", compose.confirm, _OPERATOR),
+    Route("POST", "/look", compose.look, _OPERATOR),
+    Route("GET", "/blank", compose.blank, _OPERATOR),
+    Route("GET", "/show", compose.row, _OPERATOR),
+    Route("POST", "/send", send.send, _OPERATOR),
+    Route("POST", r"/commands/{command:\d{1,9}}/withdraw", send.withdraw, _OPERATOR),
+    Route("GET", "/users", people.users_page, _ADMINISTRATOR),
+    Route("POST", "/users", people.change, _ADMINISTRATOR),
+    Route("GET", "/audit", record_pages.audit, _ADMINISTRATOR),
 )
 
 
-def refused(request: web.Request, status: int, words: str) -> web.Response:
+def _refused(request: web.Request, status: int, words: str) -> web.Response:
     """A page that says why there is no other."""
     if request.path == "/look":
         return web.json_response({"error": words}, status=status)
@@ -71,7 +71,7 @@ def refused(request: web.Request, status: int, words: str) -> web.Response:
 
 
 @web.middleware
-async def faults(request: web.Request, handler: Handler) -> web.StreamResponse:
+async def _faults(request: web.Request, handler: _Handler) -> web.StreamResponse:
     """What went wrong, in words."""
     try:
         return await handler(request)
@@ -79,18 +79,18 @@ async def faults(request: web.Request, handler: Handler) -> web.StreamResponse:
         raise
     except web.HTTPException as fault:
         words = fault.text if fault.text and not fault.text.startswith(str(fault.status)) else fault.reason
-        return refused(request, fault.status, words)
+        return _refused(request, fault.status, words)
     except (Failed, Taken):
-        return refused(request, 503, "The database does not answer. What was asked for may not have been done.")
+        return _refused(request, 503, "The database does not answer. What was asked for may not have been done.")
     except Exception:
         LOG.exception("a page failed: %s %s", request.method, request.match_info.route.resource)
-        return refused(request, 500, "Something went wrong here. The service's log says what.")
+        return _refused(request, 500, "Something went wrong here. The service's log says what.")
 
 
 @web.middleware
-async def guard(request: web.Request, handler: Handler) -> web.StreamResponse:
+async def _guard(request: web.Request, handler: _Handler) -> web.StreamResponse:
     """Lets through who may; a request that changes something has to come from a page of ours."""
-    roles: dict[Handler, Role | None] = request.app["roles"]
+    roles: dict[_Handler, Role | None] = request.app["roles"]
     role = roles.get(request.match_info.handler)
     if request.match_info.handler not in roles or role is None:
         return await handler(request)
@@ -109,7 +109,7 @@ async def guard(request: web.Request, handler: Handler) -> web.StreamResponse:
     return await handler(request)
 
 
-async def hub_running(app: web.Application) -> AsyncIterator[None]:
+async def _hub_running(app: web.Application) -> AsyncIterator[None]:
     """The hub looks for changes as long as the application stands."""
     task = asyncio.create_task(app["hub"].run())
     yield
@@ -119,20 +119,20 @@ async def hub_running(app: web.Application) -> AsyncIterator[None]:
     app["hub"].close()
 
 
-async def end_streams(app: web.Application) -> None:
+async def _end_streams(app: web.Application) -> None:
     """Ends what would keep the service from ending."""
     app["hub"].end_streams()
 
 
 def application(service: Service) -> web.Application:
     """The pages of a service."""
-    app = web.Application(middlewares=[faults, guard], client_max_size=MOST_BODY)
+    app = web.Application(middlewares=[_faults, _guard], client_max_size=_MOST_BODY)
     app[SERVICE], app["hub"] = service, Hub(service)
     app["roles"] = {route.handler: route.role for route in ROUTES}
     for route in ROUTES:
         app.router.add_route(route.method, route.path, route.handler)
     app.router.add_static("/static", HERE / "static")
     app.on_response_prepare.append(prepare)
-    app.on_shutdown.append(end_streams)
-    app.cleanup_ctx.append(hub_running)
+    app.on_shutdown.append(_end_streams)
+    app.cleanup_ctx.append(_hub_running)
     return app

@@ -22,7 +22,7 @@ from .record_pages import number_of
 from .service import Service, service_of
 from .words import asked, text_of
 
-MOST_SIGNS = 1000
+_MOST_SIGNS = 1000
 
 
 @dataclass(frozen=True)
@@ -72,7 +72,7 @@ async def look(request: web.Request) -> web.Response:
     try:
         held: Any = json.loads(await request.text())
         text = drafts.joined(str(held["text"]))[:4096]
-        signs = tuple(sign_id for sign_id in map(int, held["signs"][:MOST_SIGNS]) if sign_id in service.signs)
+        signs = tuple(sign_id for sign_id in map(int, held["signs"][:_MOST_SIGNS]) if sign_id in service.signs)
     except (ValueError, KeyError, TypeError):
         raise web.HTTPBadRequest(text="This is no text and list of signs.") from None
     found = await looks(service, signs, text)
@@ -97,7 +97,7 @@ async def look(request: web.Request) -> web.Response:
     )
 
 
-def choice(service: Service) -> list[tuple[str, int]]:
+def _choice(service: Service) -> list[tuple[str, int]]:
     return [(sign.name, sign_id) for sign_id, sign in service.signs.items()]
 
 
@@ -113,7 +113,7 @@ async def answer(request: web.Request, draft: Draft, status: int = 200) -> web.R
         status=status,
         draft=draft,
         looks=found,
-        signs=choice(service),
+        signs=_choice(service),
         now=now,
         most={memory: min(face.most(memory) for face in faces) for memory in (3, 4)},
         has_beacon=all(face.has_beacon for face in faces),

@@ -10,7 +10,7 @@ from wisangub.refusal import Refusal
 from wisangub.room.store import database
 from wisangub.room.store.database import Away, Database, Failed, NotYet
 
-Answer = TypeVar("Answer")
+_Answer = TypeVar("_Answer")
 
 
 class Connections:
@@ -45,18 +45,18 @@ class Connections:
             with contextlib.suppress(Exception):
                 found.close()
 
-    def answered(self, ask: Callable[[Database], Answer]) -> Answer:
+    def answered(self, ask: Callable[[Database], _Answer]) -> _Answer:
         try:
             return ask(self.held())
         except Failed:
             self.let_go()
             raise
 
-    async def run(self, ask: Callable[[Database], Answer]) -> Answer:
+    async def run(self, ask: Callable[[Database], _Answer]) -> _Answer:
         """What the question is answered in a thread."""
         return await asyncio.get_running_loop().run_in_executor(self.pool, self.answered, ask)
 
-    async def work(self, do: Callable[[], Answer]) -> Answer:
+    async def work(self, do: Callable[[], _Answer]) -> _Answer:
         """Other work that would keep the pages waiting, in a thread."""
         return await asyncio.get_running_loop().run_in_executor(self.pool, do)
 

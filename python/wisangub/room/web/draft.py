@@ -7,9 +7,9 @@ from typing import Any, Mapping
 from .faces import CHANGEABLE, VOLATILE, Face
 from .words import NO_END
 
-NUMBER = re.compile(r"[0-9]{1,5}")
+_NUMBER = re.compile(r"[0-9]{1,5}")
 KINDS = ("publish", "blank", "activate")
-MOST_TEXT = 512
+_MOST_TEXT = 512
 
 
 @dataclass(frozen=True)
@@ -69,7 +69,7 @@ class Form:
         word = self.word(key).strip()
         if not word and key not in self.fields:
             return default
-        if NUMBER.fullmatch(word) and least <= int(word) <= most:
+        if _NUMBER.fullmatch(word) and least <= int(word) <= most:
             return int(word)
         self.faults[key] = f"{what} is a number from {least} to {most}."
         return default
@@ -77,7 +77,7 @@ class Form:
     def signs(self, known: Mapping[int, Face]) -> tuple[int, ...]:
         """The signs that were chosen, each once."""
         words = self.many("sign", []) if self.many else []
-        found = [int(word) for word in dict.fromkeys(words) if isinstance(word, str) and NUMBER.fullmatch(word)]
+        found = [int(word) for word in dict.fromkeys(words) if isinstance(word, str) and _NUMBER.fullmatch(word)]
         found = [sign_id for sign_id in found if sign_id in known]
         if not found:
             self.faults["sign"] = "Choose at least one sign."
@@ -123,11 +123,11 @@ def read(fields: Any, faces: Mapping[int, Face], kind: str = "publish") -> Draft
         form.number("checksum", 0, 65535, 0, "A checksum"),
     )
     if kind == "publish":
-        check(draft, of, form.faults)
+        _check(draft, of, form.faults)
     return replace(draft, faults=form.faults)
 
 
-def check(draft: Draft, of: list[Face], faults: dict[str, str]) -> None:
+def _check(draft: Draft, of: list[Face], faults: dict[str, str]) -> None:
     """What a publication's fields are refused for beside their ranges."""
     if draft.beacon and not all(face.has_beacon for face in of):
         faults["beacon"] = "Not all of these signs have a beacon."

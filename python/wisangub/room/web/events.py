@@ -15,14 +15,14 @@ from . import send, sign_pages, wall
 from .connections import Connections
 from .service import Service, service_of, visitor_of
 
-VIEW = re.compile(r"wall|(sign|table|batch)/(\d{1,9})")
-MOST_STREAMS, MOST_OF_ONE = 400, 12
+_VIEW = re.compile(r"wall|(sign|table|batch)/(\d{1,9})")
+_MOST_STREAMS, MOST_OF_ONE = 400, 12
 SILENCE = 15.0  # seconds after which a line says that the stream is there, and the log-in is looked at
 AGES = 5.0  # seconds after which what was said may be too old, though nothing was written
-JUMP = 2.0  # seconds by which the database's clock has to be elsewhere
-MOST_WAITING = 20  # events that a browser has not taken; then it has to begin anew
-Parts = dict[str, str]
-OF = {"sign": sign_pages.parts, "table": sign_pages.table_parts, "batch": send.parts}
+_JUMP = 2.0  # seconds by which the database's clock has to be elsewhere
+_MOST_WAITING = 20  # events that a browser has not taken; then it has to begin anew
+_Parts = dict[str, str]
+_OF = {"sign": sign_pages.parts, "table": sign_pages.table_parts, "batch": send.parts}
 
 
 class Stream:
@@ -31,14 +31,14 @@ class Stream:
     def __init__(self, view: str, request: web.Request) -> None:
         self.view, self.request, self.login = view, request, visitor_of(request).login
         self.looked = time.monotonic()  # when the log-in was found to stand
-        self.queue: asyncio.Queue[Parts | None] = asyncio.Queue(MOST_WAITING)
+        self.queue: asyncio.Queue[_Parts | None] = asyncio.Queue(_MOST_WAITING)
 
     @property
     def is_gone(self) -> bool:
         """Whether the browser has let go; what waits for an event does not know it yet."""
         return self.request.transport is None
 
-    def put(self, parts: Parts | None) -> None:
+    def put(self, parts: _Parts | None) -> None:
         """Hands an event over; a browser that takes none is let go."""
         if self.queue.full():
             while not self.queue.empty():
@@ -54,17 +54,17 @@ class Hub:
         self.service = service
         self.streams: set[Stream] = set()
         self.connections = Connections(service.settings.database, 1)  # a mark is of one connection
-        self.last: dict[str, Parts] = {}
+        self.last: dict[str, _Parts] = {}
         self.mark, self.looked = "", 0.0
         self.clock: float | None = None  # the database's time, less this machine's since it was started
 
-    def made(self, view: str) -> Callable[[Database], Parts]:
+    def made(self, view: str) -> Callable[[Database], _Parts]:
         """How the parts of a view are made."""
-        found = VIEW.fullmatch(view)
+        found = _VIEW.fullmatch(view)
         assert found is not None
         if found[1] is None:
             return lambda database: wall.parts(self.service, database)
-        of, sign_id = OF[found[1]], int(found[2])
+        of, sign_id = _OF[found[1]], int(found[2])
         return lambda database: of(self.service, database, sign_id)
 
     async def run(self) -> None:
@@ -77,18 +77,18 @@ class Hub:
                 except (Failed, Taken):
                     self.mark = ""
 
-    async def tell_time(self) -> None:
+    async def _tell_time(self) -> None:
         """Tells all pages the database's time where its clock has jumped: ages are by it."""
         now = await self.connections.run(queries.now)
         clock, before = now - time.monotonic(), self.clock
-        if before is None or abs(clock - before) > JUMP:
+        if before is None or abs(clock - before) > _JUMP:
             self.clock = clock
             for stream in self.streams if before is not None else ():
                 stream.put({"now": str(now)})
 
     async def look(self) -> None:
         """What has changed goes to those who listen to it."""
-        await self.tell_time()
+        await self._tell_time()
         mark, now = await self.connections.run(lambda database: database.mark()), time.monotonic()
         watched = {stream.view for stream in self.streams}
         is_new = mark != self.mark or now - self.looked > AGES
@@ -109,7 +109,7 @@ class Hub:
         """A new stream; it is told all that is known of its view first."""
         self.streams = {one for one in self.streams if not one.is_gone}
         of_one = sum(one.login == stream.login for one in self.streams)
-        if len(self.streams) >= MOST_STREAMS or of_one >= MOST_OF_ONE:
+        if len(self.streams) >= _MOST_STREAMS or of_one >= MOST_OF_ONE:
             raise web.HTTPServiceUnavailable(text="Too many pages listen.")
         if stream.view in self.last:
             stream.put(self.last[stream.view])
@@ -124,7 +124,7 @@ class Hub:
         self.connections.close()
 
 
-def hub_of(request: web.Request) -> Hub:
+def _hub_of(request: web.Request) -> Hub:
     found: Hub = request.app["hub"]
     return found
 
@@ -132,25 +132,25 @@ def hub_of(request: web.Request) -> Hub:
 async def events(request: web.Request) -> web.StreamResponse:
     """A stream of a view, as long as the log-in stands."""
     service, view = service_of(request), request.query.get("view", "")
-    found = VIEW.fullmatch(view)
+    found = _VIEW.fullmatch(view)
     if found is None or found[1] in ("sign", "table") and int(found[2]) not in service.signs:
         raise web.HTTPNotFound(text="There is no such view.")
     stream = Stream(view, request)
-    hub_of(request).enter(stream)
+    _hub_of(request).enter(stream)
     answer = web.StreamResponse(headers={"Content-Type": "text/event-stream", "X-Accel-Buffering": "no"})
     try:
         await answer.prepare(request)
         await answer.write(b"retry: 3000\n\n")
-        while (words := await told(service, stream)) is not None:
+        while (words := await _told(service, stream)) is not None:
             await answer.write(words)
     except (ConnectionError, Failed, Taken):
         pass  # where the database does not answer the stream ends: the browser asks for another one
     finally:
-        hub_of(request).streams.discard(stream)
+        _hub_of(request).streams.discard(stream)
     return answer
 
 
-async def told(service: Service, stream: Stream) -> bytes | None:
+async def _told(service: Service, stream: Stream) -> bytes | None:
     """The next event, or after a silence a line that says nothing; None where the stream ends. Whatever happens on the
     view, the log-in is looked at again before it was taken for granted for longer than a silence."""
     try:

@@ -8,7 +8,7 @@ from dataclasses import dataclass
 from wisangub.process.coprocess import CoProcess
 from wisangub.room.fleet import Sign
 
-OWN = re.compile(rb"^(communities|order|first) .*\n", re.MULTILINE)  # of a sign, and not of how it looks
+_OWN = re.compile(rb"^(communities|order|first) .*\n", re.MULTILINE)  # of a sign, and not of how it looks
 CHANGEABLE, VOLATILE = 3, 4
 
 
@@ -42,12 +42,12 @@ class Face:
         return self.rows[0] if memory == CHANGEABLE else self.rows[1] if memory == VOLATILE else 0
 
 
-def octets_of(word: bytes) -> bytes:
+def _octets_of(word: bytes) -> bytes:
     """Octets as a description has them: pairs of digits, or `-` for none."""
     return b"" if word == b"-" else bytes.fromhex(word.decode())
 
 
-def lines_of(text: bytes) -> dict[bytes, list[list[bytes]]]:
+def _lines_of(text: bytes) -> dict[bytes, list[list[bytes]]]:
     """The words of a description's lines, by their first word; comments are none."""
     found: dict[bytes, list[list[bytes]]] = {}
     for line in text.replace(b"\r\n", b"\n").split(b"\n"):
@@ -58,18 +58,18 @@ def lines_of(text: bytes) -> dict[bytes, list[list[bytes]]]:
 
 
 @functools.lru_cache(maxsize=256)
-def face_of_text(text: bytes) -> Face:
+def _face_of_text(text: bytes) -> Face:
     """The face of a description that is in order."""
-    lines = lines_of(text)
+    lines = _lines_of(text)
     width, height = map(int, lines[b"size"][0])
     beacons, pixels = lines[b"has"][0]
     changeable, volatile = map(int, lines[b"rows"][0])
     permanent = tuple(
-        Permanent(number, octets_of(words[0]), octets_of(words[1]), int(words[4]))
+        Permanent(number, _octets_of(words[0]), _octets_of(words[1]), int(words[4]))
         for number, words in enumerate(lines.get(b"permanent", []), 1)
     )
     return Face(
-        hashlib.sha256(OWN.sub(b"", text)).hexdigest()[:16],
+        hashlib.sha256(_OWN.sub(b"", text)).hexdigest()[:16],
         text,
         width,
         height,
@@ -84,7 +84,7 @@ def face_of_text(text: bytes) -> Face:
 
 def face_of(sign: Sign) -> Face:
     """A sign's face."""
-    return face_of_text(sign.text)
+    return _face_of_text(sign.text)
 
 
 def check(sign: Sign, program: str) -> None:

@@ -20,8 +20,8 @@ from .replay import Handed, replayed
 from .service import Service, service_of, sign_of
 from .words import Asked, asked
 
-MOST = 60  # lines of a page
-HIDDEN = "(a community)"
+_MOST = 60  # lines of a page
+_HIDDEN = "(a community)"
 
 
 @dataclass(frozen=True)
@@ -36,7 +36,7 @@ class Entry:
     size: int = 0
 
 
-def told(mib: Mib, octets: bytes, communities: tuple[bytes, ...]) -> dict[str, Any]:
+def _told(mib: Mib, octets: bytes, communities: tuple[bytes, ...]) -> dict[str, Any]:
     """What a datagram says; its community, and whatever else spells one, is left out."""
     fields = fields_of(mib, octets)
     fields.pop("community", None)
@@ -45,7 +45,7 @@ def told(mib: Mib, octets: bytes, communities: tuple[bytes, ...]) -> dict[str, A
     if isinstance(bindings, list):
         for one in bindings:
             if any(word in str(one["value"]) for word in words):
-                one["value"] = HIDDEN
+                one["value"] = _HIDDEN
     return fields
 
 
@@ -56,24 +56,24 @@ def entries(service: Service, sign_id: int, lines: list[Line]) -> list[Entry]:
         handed = replayed(service.settings.program, sign, lines)
     except (Refusal, OSError) as fault:
         raise web.HTTPServiceUnavailable(text=f"What went out cannot be told now: {fault}") from fault
-    return [one for line in handed[-MOST:] for one in events_of(service.mib, sign, service.faces[sign_id], line)]
+    return [one for line in handed[-_MOST:] for one in _events_of(service.mib, sign, service.faces[sign_id], line)]
 
 
-def events_of(mib: Mib, sign: Sign, face: Face, handed: Handed) -> list[Entry]:
+def _events_of(mib: Mib, sign: Sign, face: Face, handed: Handed) -> list[Entry]:
     """The events of a line."""
     words = handed.line.split(" ")
     communities = (sign.reader, face.writer)
     made = []
     if words[0] == "datagram":
         octets = bytes.fromhex(words[1]) if words[1] != "-" else b""
-        made.append(Entry(handed.number, handed.at, "from", fields=told(mib, octets, communities), size=len(octets)))
+        made.append(Entry(handed.number, handed.at, "from", fields=_told(mib, octets, communities), size=len(octets)))
     elif words[0] in ("tick", "journal"):
         made.append(Entry(handed.number, handed.at, words[0]))
     else:
         made.append(Entry(handed.number, handed.at, "command", asked=asked(handed.line)))
     if handed.sent is not None:
         made.append(
-            Entry(handed.number, handed.at, "to", fields=told(mib, handed.sent, communities), size=len(handed.sent))
+            Entry(handed.number, handed.at, "to", fields=_told(mib, handed.sent, communities), size=len(handed.sent))
         )
     return made
 

@@ -13,14 +13,14 @@ from . import sign_in
 from .service import service_of, visitor_of
 
 
-async def shown(request: web.Request, said: str = "", status: int = 200) -> web.Response:
+async def _shown(request: web.Request, said: str = "", status: int = 200) -> web.Response:
     service = service_of(request)
     found = await service.connections.run(users.users)
     return service.page(request, "users.html", status=status, users=found, roles=list(Role), said=said)
 
 
 async def users_page(request: web.Request) -> web.Response:
-    return await shown(request)
+    return await _shown(request)
 
 
 async def change(request: web.Request) -> web.Response:
@@ -45,17 +45,17 @@ async def change(request: web.Request) -> web.Response:
         raise Refusal("nothing was asked for")
 
     try:
-        return await shown(request, await service.connections.run(done))
+        return await _shown(request, await service.connections.run(done))
     except Refusal as refused:
-        return await shown(request, f"Nothing was changed: {refused}.", 422)
+        return await _shown(request, f"Nothing was changed: {refused}.", 422)
 
 
-def account_page(request: web.Request, said: str = "", status: int = 200) -> web.Response:
+def _account_page(request: web.Request, said: str = "", status: int = 200) -> web.Response:
     return service_of(request).page(request, "account.html", status=status, said=said)
 
 
 async def account(request: web.Request) -> web.Response:
-    return account_page(request)
+    return _account_page(request)
 
 
 async def own_password(request: web.Request) -> web.StreamResponse:
@@ -65,11 +65,11 @@ async def own_password(request: web.Request) -> web.StreamResponse:
     old, new, again = (str(fields.get(key, "")) for key in ("old", "new", "again"))
     await asyncio.sleep(0.5)  # a guess takes time
     if not await sign_in.is_right(service, visitor.name, old):
-        return account_page(request, "Nothing was changed: the present password is another one.", 403)
+        return _account_page(request, "Nothing was changed: the present password is another one.", 403)
     if new != again:
-        return account_page(request, "Nothing was changed: the two new passwords differ.", 422)
+        return _account_page(request, "Nothing was changed: the two new passwords differ.", 422)
     try:
         await service.connections.run(lambda database: users.change_password(database, visitor.name, new, visitor.name))
     except Refusal as refused:
-        return account_page(request, f"Nothing was changed: {refused}.", 422)
+        return _account_page(request, f"Nothing was changed: {refused}.", 422)
     raise web.HTTPSeeOther("/login")

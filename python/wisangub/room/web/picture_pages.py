@@ -4,8 +4,8 @@ from aiohttp import web
 
 from .service import service_of
 
-PAGES = ("1", "2", "3", "4", "5", "6")
-NONE = (
+_PAGES = ("1", "2", "3", "4", "5", "6")
+_NONE = (
     '<svg xmlns="http://www.w3.org/2000/svg" viewBox="0 0 320 90" width="320" height="90">'
     '<rect width="320" height="90" fill="#202020"/><text x="160" y="50" fill="#e0e0e0" text-anchor="middle"'
     ' font-family="sans-serif" font-size="15">no picture of this text</text></svg>'
@@ -19,10 +19,10 @@ async def picture(request: web.Request) -> web.Response:
         raise web.HTTPNotFound(text="There is no such face in the fleet.")
     word, page = request.match_info["text"], request.query.get("page")
     text = b"" if word == "-" else bytes.fromhex(word)
-    found = await service.pictures.of(face, text, int(page) if page in PAGES else None)
+    found = await service.pictures.of(face, text, int(page) if page in _PAGES else None)
     headers = {"Cache-Control": "private, max-age=86400, immutable", "Vary": "Accept-Encoding"}
     if not found.is_good:
-        return web.Response(text=NONE, content_type="image/svg+xml")
+        return web.Response(text=_NONE, content_type="image/svg+xml")
     if "gzip" in request.headers.get("Accept-Encoding", ""):
         return web.Response(
             body=found.svg, content_type="image/svg+xml", headers={**headers, "Content-Encoding": "gzip"}

@@ -10,12 +10,12 @@ from wisangub.endpoint.lack import FAULT, spelled
 
 from .faces import Face
 
-MOST_KEPT = 24 * 2**20  # octets of pictures, compressed
-MOST_TEXT = 512
-TOO_BIG = 5
-SIDE_BY_SIDE = 2
-WAIT = 20  # seconds for a picture
-WORDS = {
+_MOST_KEPT = 24 * 2**20  # octets of pictures, compressed
+_MOST_TEXT = 512
+_TOO_BIG = 5
+_SIDE_BY_SIDE = 2
+_WAIT = 20  # seconds for a picture
+_WORDS = {
     3: "this is no tag of MULTI, or a bracket that nothing closes",
     4: "the value of this tag is not supported",
     5: "there is no room for this on the sign",
@@ -46,23 +46,23 @@ class Picture:
 
 def drawn(program: str, face: Face, text: bytes, page: int | None) -> Picture:
     """A call of the program."""
-    if len(text) > MOST_TEXT:
-        return Picture(None, f"a text has at most {MOST_TEXT} octets", MOST_TEXT, TOO_BIG)
+    if len(text) > _MOST_TEXT:
+        return Picture(None, f"a text has at most {_MOST_TEXT} octets", _MOST_TEXT, _TOO_BIG)
     word, places = spelled(text)
     alone = [] if page is None else ["--page", str(page)]
     call = [program.encode(), *(word.encode() for word in ("pages", "--sign", "--svg", *alone, "--")), word]
     try:
-        ended = subprocess.run(call, input=face.text, capture_output=True, timeout=WAIT)
+        ended = subprocess.run(call, input=face.text, capture_output=True, timeout=_WAIT)
     except (OSError, subprocess.TimeoutExpired) as fault:
         return Picture(None, f"signtool: {getattr(fault, 'strerror', None) or 'no picture in time'}")
     if ended.returncode == 0:
         return Picture(gzip.compress(ended.stdout, 6))
     said = ended.stdout.decode("latin-1")
     found = FAULT.search(said)
-    if found is None or len(word) > MOST_TEXT:
+    if found is None or len(word) > _MOST_TEXT:
         return Picture(None, "this text cannot be drawn" if found else said.strip() or "signtool made no picture")
     code, offset = int(found[1]), int(found[2])
-    return Picture(None, WORDS.get(code, f"fault {code}"), places[offset], code)
+    return Picture(None, _WORDS.get(code, f"fault {code}"), places[offset], code)
 
 
 class Pictures:
@@ -73,7 +73,7 @@ class Pictures:
         self.kept: collections.OrderedDict[tuple[str, bytes, int | None], Picture] = collections.OrderedDict()
         self.size = 0
         self.drawing: dict[tuple[str, bytes, int | None], asyncio.Future[Picture]] = {}
-        self.turns = asyncio.Semaphore(SIDE_BY_SIDE)
+        self.turns = asyncio.Semaphore(_SIDE_BY_SIDE)
 
     async def of(self, face: Face, text: bytes, page: int | None = None) -> Picture:
         """The picture of a text; one that is being drawn is waited for."""
@@ -98,6 +98,6 @@ class Pictures:
         """Keeps it, and forgets what was not asked for longest."""
         self.kept[key] = found
         self.size += len(found.svg or b"") + len(key[1]) + 200
-        while self.size > MOST_KEPT:
+        while self.size > _MOST_KEPT:
             (_, text, _), old = self.kept.popitem(last=False)
             self.size -= len(old.svg or b"") + len(text) + 200

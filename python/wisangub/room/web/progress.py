@@ -7,7 +7,7 @@ from wisangub.room.store.queries import CommandView
 
 from .words import asked
 
-ACTIVATION, WHY = 7, 8
+_ACTIVATION, _WHY = 7, 8
 
 
 @dataclass(frozen=True)
@@ -21,7 +21,7 @@ class Step:
 
 def states(command: CommandView) -> list[Step]:
     """The eight steps of a command."""
-    first = 1 if asked(command.line).kind == "publish" else ACTIVATION
+    first = 1 if asked(command.line).kind == "publish" else _ACTIVATION
     found = failed(command.how or "")
     at = found[0] if found else command.step if command.number is not None and command.how is None else None
     made = []
@@ -29,14 +29,14 @@ def states(command: CommandView) -> list[Step]:
         if number < first:
             state = "none"
         elif command.how == "accepted":
-            state = "done" if number <= ACTIVATION else "none"
+            state = "done" if number <= _ACTIVATION else "none"
         elif at is None:
-            state = "left" if number < WHY else "none"
+            state = "left" if number < _WHY else "none"
         elif found:
-            state = failed_state(number, at, found[1])
+            state = _failed_state(number, at, found[1])
         else:
-            state = "done" if number < at else "now" if number == at else "left" if number < WHY else "none"
-        made.append(Step(number, word, "failed" if state == "done" and at == WHY and number == ACTIVATION else state))
+            state = "done" if number < at else "now" if number == at else "left" if number < _WHY else "none"
+        made.append(Step(number, word, "failed" if state == "done" and at == _WHY and number == _ACTIVATION else state))
     return made
 
 
@@ -45,10 +45,10 @@ def because(command: CommandView) -> str:
     return command.why or cause(command.how or "", command.address)
 
 
-def failed_state(number: int, at: int, why: str) -> str:
+def _failed_state(number: int, at: int, why: str) -> str:
     """A step's state where the command failed at a step."""
     if number == at:
         return "failed"
-    if number == WHY:
-        return "done" if at == ACTIVATION and "refused the activation" in why else "none"
+    if number == _WHY:
+        return "done" if at == _ACTIVATION and "refused the activation" in why else "none"
     return "done" if number < at else "left"

@@ -10,8 +10,8 @@ from wisangub.room.store.queries import SignView, Wanted
 from . import words
 from .service import Service, service_of, sign_of
 
-OUTCOMES = ("accepted", "failed", "open")
-MOST = 50
+_OUTCOMES = ("accepted", "failed", "open")
+_MOST = 50
 
 
 def number_of(request: web.Request, key: str) -> int | None:
@@ -26,9 +26,9 @@ async def history_page(request: web.Request) -> web.Response:
     wanted = Wanted(
         number_of(request, "sign"),
         who if who.isprintable() else "",
-        outcome if outcome in OUTCOMES else "",
+        outcome if outcome in _OUTCOMES else "",
         number_of(request, "before"),
-        MOST,
+        _MOST,
     )
 
     def found(database: Database) -> tuple[list[queries.CommandView], list[str], float]:
@@ -37,11 +37,18 @@ async def history_page(request: web.Request) -> web.Response:
     rows, people, now = await service.connections.run(found)
     signs = sorted((sign.name, sign_id) for sign_id, sign in service.signs.items())
     return service.page(
-        request, "history.html", rows=rows, people=people, now=now, wanted=wanted, signs=signs, is_last=len(rows) < MOST
+        request,
+        "history.html",
+        rows=rows,
+        people=people,
+        now=now,
+        wanted=wanted,
+        signs=signs,
+        is_last=len(rows) < _MOST,
     )
 
 
-def code_words(code: str) -> dict[str, str]:
+def _code_words(code: str) -> dict[str, str]:
     """What an activation code says."""
     octets = bytes.fromhex(code)
     return {
@@ -52,7 +59,7 @@ def code_words(code: str) -> dict[str, str]:
     }
 
 
-def outcome_word(service: Service, outcome: str) -> str:
+def _outcome_word(service: Service, outcome: str) -> str:
     """An outcome, its error-status with its word."""
     return ended(service.mib, f"ledger 0 - {outcome}").removeprefix("ledger 0 - ")
 
@@ -64,7 +71,7 @@ async def ledger(request: web.Request) -> web.Response:
         return queries.sign(database, sign_id), history.ledger(database, sign_id), queries.now(database)
 
     sign, rows, now = await service.connections.run(found)
-    entries = [(number, code_words(code), outcome_word(service, outcome), at) for number, code, outcome, at in rows]
+    entries = [(number, _code_words(code), _outcome_word(service, outcome), at) for number, code, outcome, at in rows]
     return service.page(request, "ledger.html", sign=sign, entries=entries, now=now, tab="ledger")
 
 

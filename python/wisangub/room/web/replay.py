@@ -8,7 +8,7 @@ from wisangub.process.coprocess import CoProcess
 from wisangub.room.fleet import Sign
 from wisangub.room.store.history import Line
 
-SENT = b"send "
+_SENT = b"send "
 
 
 @dataclass(frozen=True)
@@ -27,11 +27,11 @@ def replayed(program: str, sign: Sign, lines: list[Line]) -> list[Handed]:
     head = Head.of(lines[0][1].encode()) if lines else None
     if head is None or head.first is None:
         return [Handed(*line, None) for line in lines]
-    answers = [b"", *answered(program, sign, head.first, [line.encode() for _, line, _ in lines[1:]])]
-    return [Handed(*line, sent_of(answer)) for line, answer in zip(lines, answers)]
+    answers = [b"", *_answered(program, sign, head.first, [line.encode() for _, line, _ in lines[1:]])]
+    return [Handed(*line, _sent_of(answer)) for line, answer in zip(lines, answers)]
 
 
-def answered(program: str, sign: Sign, first: int, lines: list[bytes]) -> list[bytes]:
+def _answered(program: str, sign: Sign, first: int, lines: list[bytes]) -> list[bytes]:
     """What a centre that begins with this number answers to lines."""
     if not lines:
         return []
@@ -43,6 +43,6 @@ def answered(program: str, sign: Sign, first: int, lines: list[bytes]) -> list[b
         centre.end()
 
 
-def sent_of(answer: bytes) -> bytes | None:
+def _sent_of(answer: bytes) -> bytes | None:
     """The octets that an answer says; none where nothing went out."""
-    return bytes.fromhex(answer.removeprefix(SENT).decode()) if answer.startswith(SENT) else None
+    return bytes.fromhex(answer.removeprefix(_SENT).decode()) if answer.startswith(_SENT) else None

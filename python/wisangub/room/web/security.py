@@ -10,7 +10,7 @@ POLICY = (
     "default-src 'none'; script-src 'self'; style-src 'self'; img-src 'self'; connect-src 'self';"
     " form-action 'self'; frame-ancestors 'none'; base-uri 'none'"
 )
-HEADERS = {
+_HEADERS = {
     "Content-Security-Policy": POLICY,
     "X-Content-Type-Options": "nosniff",
     "X-Frame-Options": "DENY",
@@ -19,12 +19,12 @@ HEADERS = {
     "Cross-Origin-Resource-Policy": "same-origin",
     "Permissions-Policy": "camera=(), microphone=(), geolocation=()",
 }
-FIELD, HEADER = "token", "X-Token"
+_FIELD, _HEADER = "token", "X-Token"
 
 
 async def prepare(_: web.Request, response: web.StreamResponse) -> None:
     """The headers of every answer; what is not said to be kept is kept nowhere."""
-    response.headers.update(HEADERS)
+    response.headers.update(_HEADERS)
     response.headers["Server"] = "control"
     response.headers.setdefault("Cache-Control", "no-store")
 
@@ -36,14 +36,14 @@ class Seal:
         self.key, self.is_secure = key, is_behind_tls
         self.prefix = "__Host-" if is_behind_tls else ""
 
-    def sum(self, use: str, value: str) -> str:
+    def _sum(self, use: str, value: str) -> str:
         return hmac.new(self.key, f"{use} {value}".encode(), hashlib.sha256).hexdigest()
 
     def set(self, response: web.StreamResponse, name: str, value: str, seconds: int) -> None:
         """A cookie with its signature: no script reads it, and no other site sends it."""
         response.set_cookie(
             self.prefix + name,
-            f"{value}.{self.sum(name, value)}",
+            f"{value}.{self._sum(name, value)}",
             max_age=seconds,
             path="/",
             httponly=True,
@@ -54,7 +54,7 @@ class Seal:
     def get(self, request: web.Request, name: str) -> str | None:
         """What a cookie says, if it was signed here."""
         value, dot, found = request.cookies.get(self.prefix + name, "").rpartition(".")
-        is_signed = bool(dot) and hmac.compare_digest(found.encode(), self.sum(name, value).encode())
+        is_signed = bool(dot) and hmac.compare_digest(found.encode(), self._sum(name, value).encode())
         return value if is_signed else None
 
     def drop(self, response: web.StreamResponse, name: str) -> None:
@@ -65,18 +65,18 @@ class Seal:
 
     def token(self, of: str) -> str:
         """The token of the forms of a cookie."""
-        return self.sum("form", of)
+        return self._sum("form", of)
 
     async def is_own(self, request: web.Request, of: str) -> bool:
         """Whether a request comes from a page of ours that this cookie's holder was shown."""
-        found = request.headers.get(HEADER)
+        found = request.headers.get(_HEADER)
         if found is None:
-            held = (await request.post()).get(FIELD, "")
+            held = (await request.post()).get(_FIELD, "")
             found = held if isinstance(held, str) else ""
-        return is_same_site(request) and hmac.compare_digest(found.encode(), self.token(of).encode())
+        return _is_same_site(request) and hmac.compare_digest(found.encode(), self.token(of).encode())
 
 
-def is_same_site(request: web.Request) -> bool:
+def _is_same_site(request: web.Request) -> bool:
     """Whether the browser does not say that another site's page asks."""
     origin = request.headers.get("Origin")
     if origin is not None and urlsplit(origin).netloc != request.host:

@@ -19,20 +19,20 @@ from .draft import KINDS, Draft
 from .service import Service, service_of, visitor_of
 from .words import asked
 
-NOWHERE = "0.0.0.0"
-MOST_CONFIRMATION = 64
+_NOWHERE = "0.0.0.0"
+_MOST_CONFIRMATION = 64
 
 
-def own_address(sign: Sign) -> str:
+def _own_address(sign: Sign) -> str:
     """This machine's address towards a sign, as an activation names it; 0.0.0.0 where it is of IPv6."""
     try:
         with connected(sign.host, sign.port) as door:
-            return str(door.getsockname()[0]) if door.family == socket.AF_INET else NOWHERE
+            return str(door.getsockname()[0]) if door.family == socket.AF_INET else _NOWHERE
     except (Refusal, OSError):
-        return NOWHERE
+        return _NOWHERE
 
 
-async def is_drawn(service: Service, draft: Draft) -> bool:
+async def _is_drawn(service: Service, draft: Draft) -> bool:
     """Whether the text of a publication fits on all its signs."""
     if draft.kind != "publish":
         return True
@@ -43,17 +43,17 @@ async def send(request: web.Request) -> web.StreamResponse:
     service, visitor = service_of(request), visitor_of(request)
     fields = await request.post()
     kind, confirmation = str(fields.get("kind", "")), str(fields.get("confirmation", ""))
-    if kind not in KINDS or not 16 <= len(confirmation) <= MOST_CONFIRMATION:
+    if kind not in KINDS or not 16 <= len(confirmation) <= _MOST_CONFIRMATION:
         raise web.HTTPBadRequest(text="This was not confirmed.")
     draft = drafts.read(fields, service.faces, kind)
     if draft.faults:
         raise web.HTTPUnprocessableEntity(text=" ".join(draft.faults.values()))
-    if not await is_drawn(service, draft):
+    if not await _is_drawn(service, draft):
         return await compose.answer(request, draft, 422)
 
     def done(database: Database) -> int:
         signs = [(sign_id, service.signs[sign_id]) for sign_id in draft.signs]
-        lines = [(sign_id, draft.line(visitor.name, own_address(sign))) for sign_id, sign in signs]
+        lines = [(sign_id, draft.line(visitor.name, _own_address(sign))) for sign_id, sign in signs]
         return Commands(database).ask_all(lines, visitor.name, asked(lines[0][1]).what, confirmation)
 
     raise web.HTTPSeeOther(f"/batches/{await service.connections.run(done)}")
@@ -67,7 +67,7 @@ class Part:
     picture: str | None
 
 
-def parts_of(service: Service, database: Database, number: int) -> tuple[Batch | None, list[Part], float]:
+def _parts_of(service: Service, database: Database, number: int) -> tuple[Batch | None, list[Part], float]:
     found = history.batch(database, number)
     made = []
     for command in found.commands if found else []:
@@ -79,7 +79,7 @@ def parts_of(service: Service, database: Database, number: int) -> tuple[Batch |
 
 async def batch(request: web.Request) -> web.Response:
     service, number = service_of(request), int(request.match_info["batch"])
-    found, made, now = await service.connections.run(lambda database: parts_of(service, database, number))
+    found, made, now = await service.connections.run(lambda database: _parts_of(service, database, number))
     if found is None:
         raise web.HTTPNotFound(text="Nothing of this number was asked for.")
     return service.page(request, "batch.html", batch=found, parts=made, now=now, view=f"batch/{number}")
@@ -87,7 +87,7 @@ async def batch(request: web.Request) -> web.Response:
 
 def parts(service: Service, database: Database, number: int) -> dict[str, str]:
     """What an event may replace."""
-    _, made, _ = parts_of(service, database, number)
+    _, made, _ = _parts_of(service, database, number)
     return {f"command-{one.command.id}": service.part("parts.html", "part", one) for one in made} | {
         "summary": service.part("parts.html", "summary", made)
     }

@@ -25,7 +25,7 @@ from .security import Seal
 from .settings import Settings
 
 HERE = pathlib.Path(__file__).resolve().parent
-MOST_CARDS = 8192  # that are kept as HTML, of 800 octets each
+_MOST_CARDS = 8192  # that are kept as HTML, of 800 octets each
 
 
 class Service:
@@ -45,7 +45,7 @@ class Service:
         self.mib = Mib.read()
         self.clock = words.Clock(settings.zone)
         self.templates = self.environment()
-        self.card = functools.lru_cache(MOST_CARDS)(self.made_card)
+        self.card = functools.lru_cache(_MOST_CARDS)(self._made_card)
 
     def environment(self) -> jinja2.Environment:
         """Templates, which escape all that is put into them."""
@@ -79,7 +79,7 @@ class Service:
         made: str = str(getattr(self.templates.get_template(name).module, macro)(*values)).strip()
         return made
 
-    def made_card(self, card: Hashable, age: str = "") -> Markup:
+    def _made_card(self, card: Hashable, age: str = "") -> Markup:
         """A card of the wall, with its age in words or else the time. `card` keeps it: few change within a second."""
         return Markup(self.part("parts.html", "card", card, age))
 

@@ -11,8 +11,8 @@ from wisangub.room.store import logins, passwords, users
 from .security import address_of
 from .service import Service, service_of, visitor_of
 
-BEFORE = "before"  # the cookie of the form, since its token belongs to no log-in yet
-ONE_AT_A_TIME = asyncio.Semaphore(2)  # a look at a password takes 32 MiB
+_BEFORE = "before"  # the cookie of the form, since its token belongs to no log-in yet
+_ONE_AT_A_TIME = asyncio.Semaphore(2)  # a look at a password takes 32 MiB
 
 
 def address(request: web.Request) -> str:
@@ -26,25 +26,25 @@ def local(path: str) -> str:
     return path if is_own else "/"
 
 
-def shown(request: web.Request, then: str, fault: str = "", status: int = 200, name: str = "") -> web.Response:
+def _shown(request: web.Request, then: str, fault: str = "", status: int = 200, name: str = "") -> web.Response:
     """The form, with a cookie of its own."""
     service = service_of(request)
-    before = service.seal.get(request, BEFORE) or secrets.token_urlsafe(18)
+    before = service.seal.get(request, _BEFORE) or secrets.token_urlsafe(18)
     answer = service.page(
         request, "login.html", status=status, then=then, fault=fault, name=name, form_token=service.seal.token(before)
     )
-    service.seal.set(answer, BEFORE, before, logins.LASTS)
+    service.seal.set(answer, _BEFORE, before, logins.LASTS)
     return answer
 
 
 async def form(request: web.Request) -> web.Response:
-    return shown(request, local(request.query.get("next", "/")))
+    return _shown(request, local(request.query.get("next", "/")))
 
 
 async def is_right(service: Service, name: str, password: str) -> bool:
     """Whether somebody of this name has this password; it takes the same time where there is nobody."""
     kept = await service.connections.run(lambda database: users.secret(database, name))
-    async with ONE_AT_A_TIME:
+    async with _ONE_AT_A_TIME:
         found = await asyncio.to_thread(lambda: passwords.is_password(password, kept or passwords.nobody()))
     return found and kept is not None
 
@@ -54,21 +54,23 @@ async def log_in(request: web.Request) -> web.StreamResponse:
     fields = await request.post()
     name, password, then = (str(fields.get(key, "")) for key in ("name", "password", "next"))
     name, then = name.strip().lower(), local(then)
-    before = service.seal.get(request, BEFORE)
+    before = service.seal.get(request, _BEFORE)
     if before is None or not await service.seal.is_own(request, before):
-        return shown(request, then, "This form was open for too long, or cookies are off. Please try again.", 403, name)
+        return _shown(
+            request, then, "This form was open for too long, or cookies are off. Please try again.", 403, name
+        )
     of = address_of(request, service.settings.is_behind_tls)
     if await service.connections.run(lambda database: logins.attempt(database, name, of)) is None:
-        answer = shown(request, then, "Too many log-ins failed. Please try again in five minutes.", 429, name)
+        answer = _shown(request, then, "Too many log-ins failed. Please try again in five minutes.", 429, name)
         answer.headers["Retry-After"] = str(logins.WINDOW)
         return answer
     if not await is_right(service, name, password):
         await service.connections.run(lambda database: logins.failed(database, name, of))
-        return shown(request, then, "This name and this password do not go together.", 403, name)
+        return _shown(request, then, "This name and this password do not go together.", 403, name)
     cookie = await service.connections.run(lambda database: logins.begin(database, name, of))
     answer = web.Response(status=303, headers={"Location": then})
     service.seal.set(answer, "login", cookie, logins.LASTS)
-    service.seal.drop(answer, BEFORE)
+    service.seal.drop(answer, _BEFORE)
     return answer
 
 

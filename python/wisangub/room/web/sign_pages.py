@@ -11,7 +11,7 @@ from wisangub.room.store.queries import CommandView, SignView, TableView, Wanted
 
 from .service import Service, service_of, sign_of
 
-FEW = 8
+_FEW = 8
 
 
 @dataclass(frozen=True)
@@ -25,18 +25,18 @@ class Overview:
     now: float
 
 
-def overviewed(service: Service, database: Database, sign_id: int) -> Overview:
+def _overviewed(service: Service, database: Database, sign_id: int) -> Overview:
     sign = queries.sign(database, sign_id)
     assert sign is not None
     now = queries.now(database)
-    commands = queries.commands(database, Wanted(sign=sign_id, most=FEW))
+    commands = queries.commands(database, Wanted(sign=sign_id, most=_FEW))
     picture = service.picture(sign_id, sign.shown.text) if sign.shown else None
     return Overview(sign, picture, sign.is_stale(now), commands, now)
 
 
 async def overview(request: web.Request) -> web.Response:
     service, sign_id = service_of(request), sign_of(request)
-    found = await service.connections.run(lambda database: overviewed(service, database, sign_id))
+    found = await service.connections.run(lambda database: _overviewed(service, database, sign_id))
     return service.page(
         request,
         "sign.html",
@@ -51,7 +51,7 @@ async def overview(request: web.Request) -> web.Response:
 
 def parts(service: Service, database: Database, sign_id: int) -> dict[str, str]:
     """What an event may replace."""
-    found = overviewed(service, database, sign_id)
+    found = _overviewed(service, database, sign_id)
     return {
         "shown": service.part("parts.html", "shown", found),
         "commands": service.part("parts.html", "commands", found),

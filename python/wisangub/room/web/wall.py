@@ -11,7 +11,7 @@ from wisangub.room.store.queries import CommandView, SignView
 from .progress import Step, states
 from .service import Service, service_of
 
-WIDE = 160  # columns of a matrix that takes two places
+_WIDE = 160  # columns of a matrix that takes two places
 
 
 @dataclass(frozen=True)
@@ -39,11 +39,11 @@ class Card:
         return "busy" if self.command else "lit" if self.sign.shown and self.sign.shown.text else "blank"
 
 
-def card(service: Service, sign: SignView, now: float, open_: list[CommandView]) -> Card:
+def _card(service: Service, sign: SignView, now: float, open_: list[CommandView]) -> Card:
     picture = service.picture(sign.id, sign.shown.text) if sign.shown else None
     command = next((one for one in open_ if one.number is not None), open_[0] if open_ else None)
     step = next((one for one in states(command) if one.state == "now"), None) if command else None
-    return Card(sign, picture, sign.is_stale(now), command, step, len(open_), service.faces[sign.id].width > WIDE)
+    return Card(sign, picture, sign.is_stale(now), command, step, len(open_), service.faces[sign.id].width > _WIDE)
 
 
 def cards(service: Service, database: Database) -> tuple[list[Card], float]:
@@ -55,7 +55,7 @@ def cards(service: Service, database: Database) -> tuple[list[Card], float]:
     known = {sign.id: sign for sign in queries.signs(database)}
     now = queries.now(database)  # after what it is compared with
     found = [known[sign_id] for sign_id in service.signs if sign_id in known]
-    return [card(service, sign, now, of.get(sign.id, [])) for sign in found], now
+    return [_card(service, sign, now, of.get(sign.id, [])) for sign in found], now
 
 
 async def wall(request: web.Request) -> web.Response:

@@ -7,8 +7,8 @@ from wisangub.room.store.values import SLACK
 
 NO_END = 65535
 STATUSES = {1: "not used", 2: "modifying", 3: "validating", 4: "valid", 5: "error"}
-MEMORIES = {2: "permanent", 3: "changeable", 4: "volatile", 5: "what was shown before", 7: "blank"}
-MODES = {
+_MEMORIES = {2: "permanent", 3: "changeable", 4: "volatile", 5: "what was shown before", 7: "blank"}
+_MODES = {
     8: ("central", "A central system activated it."),
     10: ("power recovery", "Power came back, or the sign was started."),
     12: ("communications loss", "No central system was heard for longer than the sign is to wait."),
@@ -38,18 +38,18 @@ def minutes_word(minutes: int | None) -> str:
 
 
 def mode_word(mode: int | None) -> str:
-    return "not known" if mode is None else MODES.get(mode, (f"mode {mode}", ""))[0]
+    return "not known" if mode is None else _MODES.get(mode, (f"mode {mode}", ""))[0]
 
 
 def mode_why(mode: int | None) -> str:
-    return "" if mode is None else MODES.get(mode, ("", "This mode is none of the profile's."))[1]
+    return "" if mode is None else _MODES.get(mode, ("", "This mode is none of the profile's."))[1]
 
 
 def row_word(memory: int, number: int) -> str:
     """A row of the message table."""
     if memory == 5:
-        return MEMORIES[5]
-    return f"{MEMORIES.get(memory, f'memory {memory}')} {number}"
+        return _MEMORIES[5]
+    return f"{_MEMORIES.get(memory, f'memory {memory}')} {number}"
 
 
 def source_word(code: bytes) -> str:

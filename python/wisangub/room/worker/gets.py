@@ -10,7 +10,7 @@ from wisangub.refusal import Refusal, reason
 from wisangub.room.fleet import Sign
 from wisangub.snmp import wire
 
-SENDS, PATIENCE = 3, 1.0  # how often a Get goes out, and the seconds from one time to the next
+_SENDS, _PATIENCE = 3, 1.0  # how often a Get goes out, and the seconds from one time to the next
 
 
 class Get:
@@ -24,7 +24,7 @@ class Get:
 
     def send(self, now: float) -> None:
         """The same octets each time; one that is lost is sent again later."""
-        self.sends, self.due = self.sends + 1, now + PATIENCE
+        self.sends, self.due = self.sends + 1, now + _PATIENCE
         sent(self.door, self.octets)
 
     def heard(self) -> Values | str | None:
@@ -64,7 +64,7 @@ class Gets:
         for file, get in list(self.waiting.items()):
             if get.due > now:
                 continue
-            if get.sends < SENDS:
+            if get.sends < _SENDS:
                 get.send(now)
             else:
                 self.end(file, "no reply")

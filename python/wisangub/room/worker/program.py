@@ -19,7 +19,7 @@ from wisangub.room.waits import waited
 
 from .rounds import Pace, Worker
 
-__all__ = ["Pace", "Worker", "arguments", "seconds"]
+__all__ = ["Pace", "Worker", "seconds"]
 
 
 def seconds(word: str) -> float:
@@ -30,7 +30,7 @@ def seconds(word: str) -> float:
     return found
 
 
-def arguments() -> argparse.ArgumentParser:
+def _arguments() -> argparse.ArgumentParser:
     parser = argparse.ArgumentParser(
         prog=called("wisangub-control worker"),
         description=__doc__,
@@ -52,7 +52,7 @@ def arguments() -> argparse.ArgumentParser:
 
 
 def main() -> int:
-    asked = arguments().parse_args()
+    asked = _arguments().parse_args()
     if database.is_url(asked.database):
         start.needed("wisangub.room.worker.program", "psycopg")
     signs, waiting = fleet.read(asked.fleet), Waiting()

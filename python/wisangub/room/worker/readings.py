@@ -11,25 +11,25 @@ from wisangub.snmp.mib import Mib
 
 from .gets import Gets
 
-MINUTES = "minutes"
-CELL, SCALAR = (5, 1), (0,)
-OBJECTS = {
-    "source": ("dmsMsgTableSource", SCALAR),
-    "mode": ("dmsMsgSourceMode", SCALAR),
-    "requester": ("dmsMsgRequesterID", SCALAR),
-    MINUTES: ("dmsMessageTimeRemaining", SCALAR),
-    "text": ("dmsMessageMultiString", CELL),
-    "owner": ("dmsMessageOwner", CELL),
-    "beacon": ("dmsMessageBeacon", CELL),
-    "pixel": ("dmsMessagePixelService", CELL),
-    "priority": ("dmsMessageRunTimePriority", CELL),
+_MINUTES = "minutes"
+_CELL, _SCALAR = (5, 1), (0,)
+_OBJECTS = {
+    "source": ("dmsMsgTableSource", _SCALAR),
+    "mode": ("dmsMsgSourceMode", _SCALAR),
+    "requester": ("dmsMsgRequesterID", _SCALAR),
+    _MINUTES: ("dmsMessageTimeRemaining", _SCALAR),
+    "text": ("dmsMessageMultiString", _CELL),
+    "owner": ("dmsMessageOwner", _CELL),
+    "beacon": ("dmsMessageBeacon", _CELL),
+    "pixel": ("dmsMessagePixelService", _CELL),
+    "priority": ("dmsMessageRunTimePriority", _CELL),
 }
 
 
 def names(mib: Mib) -> dict[str, Name]:
     """The names of the objects that are asked for."""
     places = {object_: name for name, object_ in mib.objects.items()}
-    return {word: (*places[object_], *instance) for word, (object_, instance) in OBJECTS.items()}
+    return {word: (*places[object_], *instance) for word, (object_, instance) in _OBJECTS.items()}
 
 
 class Readings:
@@ -53,7 +53,7 @@ class Readings:
             self.said.append(Said(sign_id, number, fault=values))
             return
         held = dict(zip(self.asked, values))
-        minutes = held.pop(MINUTES)
+        minutes = held.pop(_MINUTES)
         self.said.append(Said(sign_id, number, minutes if isinstance(minutes, int) else None, json.dumps(held)))
 
     def keep(self) -> None:

@@ -23,7 +23,7 @@ from .tables import Tables
 from .verdicts import Verdicts
 from .where import Where
 
-BEGUN_AT_ONCE = 16  # sessions that are begun in one round, so that those that stand are not kept waiting
+_BEGUN_AT_ONCE = 16  # sessions that are begun in one round, so that those that stand are not kept waiting
 
 
 @dataclass(frozen=True)
@@ -101,7 +101,7 @@ class Worker:
         self.readings.keep()
         self.tables.keep()
         self.verdicts.keep()
-        self.move()
+        self._move()
         self.readings.begin()
         self.tables.begin()
         self.verdicts.begin()
@@ -135,14 +135,14 @@ class Worker:
             line = session.offer(now >= self.ticks[sign_id])
             if line is not None:
                 offers.append((session, line))
-                self.tick_later(sign_id, line.text, now)
+                self._tick_later(sign_id, line.text, now)
             elif not session.is_busy:
                 self.drop(sign_id)
         if offers:
             self.carried(offers)
         self.release()
 
-    def tick_later(self, sign_id: int, line: bytes, now: float) -> None:
+    def _tick_later(self, sign_id: int, line: bytes, now: float) -> None:
         """The next tick is one after the last, or after the line that a command begins with; ticks that were missed do
         not come in a row."""
         if line == b"tick":
@@ -170,14 +170,14 @@ class Worker:
 
     # ---- leases
 
-    def move(self) -> None:
+    def _move(self) -> None:
         """Lets signs go that stand still from now on, or are at another address: they begin again where they are."""
         for sign_id in self.where.look():
             self.drop(sign_id)
 
     def lease(self) -> None:
         """Takes signs that have work and that nobody drives; looks again soon where there are more of them."""
-        room = min(BEGUN_AT_ONCE, self.pace.most - len(self.sessions))
+        room = min(_BEGUN_AT_ONCE, self.pace.most - len(self.sessions))
         free = [
             sign_id
             for sign_id in self.store.leases.with_work()

@@ -23,7 +23,7 @@ from wisangub.snmp.mib import Mib
 from .steps import Steps
 
 MOST_LINES = 1000  # of a centre; one that is idle after more gives way to a new one
-MOST_LATE = 1000  # datagrams that came while no job was under way and are let go at once
+_MOST_LATE = 1000  # datagrams that came while no job was under way and are let go at once
 PACE = 0.01  # seconds from one line of a sign to the next at least: python/wisangub/room/store/backup.py counts on it
 CHANGED = "failed: the sign's description changed while it was under way"
 RESTORED = (
@@ -76,7 +76,7 @@ class Session:
         first, least, lines = self.store.lines.of(self.sign_id)
         head = Head("centre", self.sign.digest, max(self.sign.first, least))
         if not lines:
-            return self.begun_anew(head, first, "")
+            return self._begun_anew(head, first, "")
         found = Head.of(lines[0])
         if found is None or found.first is None:
             raise Refusal(f"{self.sign.name}: line {first} is no beginning of a centre")
@@ -84,9 +84,9 @@ class Session:
             return found, first, lines[1:]
         number = max(above(found, len(lines) - 1), self.sign.first, least)
         why = RESTORED if found.first < least else CHANGED
-        return self.begun_anew(dataclasses.replace(head, first=number), first + len(lines), why)
+        return self._begun_anew(dataclasses.replace(head, first=number), first + len(lines), why)
 
-    def begun_anew(self, head: Head, number: int, why: str) -> tuple[Head, int, list[bytes]]:
+    def _begun_anew(self, head: Head, number: int, why: str) -> tuple[Head, int, list[bytes]]:
         """A centre without lines; what was under way with one before it is over."""
         if not self.store.lines.replace(Line(self.sign_id, number, head.line(), is_first=True), self.worker, why):
             raise Lost
@@ -124,14 +124,14 @@ class Session:
         way; None where there is none. After a tick a datagram that waits comes before the next one, so that a worker
         that is slow takes no reply for a silence."""
         if not self.is_busy:
-            return self.beginning()
+            return self._beginning()
         heard = received(self.door) if self.is_ticked or not is_due else None
         self.is_ticked = heard is None and is_due
         if heard is not None:
             return Line(self.sign_id, self.number, b"datagram " + (heard[0].hex().encode() or b"-"))
         return Line(self.sign_id, self.number, b"tick") if is_due else None
 
-    def beginning(self) -> Line | None:
+    def _beginning(self) -> Line | None:
         """The next command, or before it a new centre, above all numbers, where the lines of this one grew long."""
         while (command := self.store.commands.next(self.sign_id)) is not None:
             if is_command(command.line):
@@ -142,7 +142,7 @@ class Session:
         if self.count >= MOST_LINES:
             head = dataclasses.replace(self.head, first=above(self.head, self.count))
             return Line(self.sign_id, self.number, head.line(), is_first=True)
-        for _ in range(MOST_LATE):  # what comes while no job is under way answers nothing
+        for _ in range(_MOST_LATE):  # what comes while no job is under way answers nothing
             if received(self.door) is None:
                 break
         self.command = command

@@ -3,8 +3,8 @@
 from wisangub.snmp import wire
 from wisangub.snmp.mib import Mib
 
-MODIFY, VALIDATE = 6, 7  # that are written to dmsMessageStatus
-FIRST_STATUS, SECOND_STATUS = 2, 5  # the steps that ask for it
+_MODIFY, _VALIDATE = 6, 7  # that are written to dmsMessageStatus
+_FIRST_STATUS, _SECOND_STATUS = 2, 5  # the steps that ask for it
 
 
 class Steps:
@@ -30,9 +30,9 @@ class Steps:
         if message.kind == wire.SET and len(message.bindings) > 1:
             return 3
         if object_ == "dmsMessageStatus" and message.kind == wire.SET:
-            return {MODIFY: 1, VALIDATE: 4}.get(message.bindings[0][1][1], self.step)
+            return {_MODIFY: 1, _VALIDATE: 4}.get(message.bindings[0][1][1], self.step)
         if object_ == "dmsMessageStatus" and self.step:
-            return FIRST_STATUS if self.step in (1, FIRST_STATUS) else SECOND_STATUS
+            return _FIRST_STATUS if self.step in (1, _FIRST_STATUS) else _SECOND_STATUS
         return {"dmsMessageCRC": 6, "dmsActivateMessage": 7, "dmsActivateMsgError": 8}.get(object_, self.step)
 
     def taken(self) -> int | None:

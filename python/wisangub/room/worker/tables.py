@@ -13,13 +13,13 @@ from wisangub.snmp.mib import Mib
 
 from .gets import Gets
 
-EVERY = 600.0  # seconds from one reading of a sign's table to the next, where nobody wants it before
-LOOK = 1.0  # seconds from one look for tables that are due to the next
-STATUSES = 30  # rows whose status one Get asks for, so that its reply fits a datagram
-NOT_USED = 1
-MOST = 20  # signs whose tables are read at a time
-STATUS = "dmsMessageStatus"
-CELLS = {
+_EVERY = 600.0  # seconds from one reading of a sign's table to the next, where nobody wants it before
+_LOOK = 1.0  # seconds from one look for tables that are due to the next
+_STATUSES = 30  # rows whose status one Get asks for, so that its reply fits a datagram
+_NOT_USED = 1
+_MOST = 20  # signs whose tables are read at a time
+_STATUS = "dmsMessageStatus"
+_CELLS = {
     "text": "dmsMessageMultiString",
     "owner": "dmsMessageOwner",
     "checksum": "dmsMessageCRC",
@@ -27,16 +27,16 @@ CELLS = {
     "pixel": "dmsMessagePixelService",
     "priority": "dmsMessageRunTimePriority",
 }
-ROWS = re.compile(rb"^rows ([0-9]+) ([0-9]+)\r?$", re.MULTILINE)
-PERMANENT = re.compile(rb"^permanent ", re.MULTILINE)
-Place = tuple[int, int]  # memory and number
+_ROWS = re.compile(rb"^rows ([0-9]+) ([0-9]+)\r?$", re.MULTILINE)
+_PERMANENT = re.compile(rb"^permanent ", re.MULTILINE)
+_Place = tuple[int, int]  # memory and number
 
 
-def places(sign: Sign) -> list[Place]:
+def _places(sign: Sign) -> list[_Place]:
     """The rows that the description gives the sign: permanent (2), changeable (3) and volatile (4) ones."""
-    found = ROWS.search(sign.text)
+    found = _ROWS.search(sign.text)
     changeable, volatile = (int(found[1]), int(found[2])) if found else (0, 0)
-    counts = {2: len(PERMANENT.findall(sign.text)), 3: changeable, 4: volatile}
+    counts = {2: len(_PERMANENT.findall(sign.text)), 3: changeable, 4: volatile}
     return [(memory, number) for memory, count in counts.items() for number in range(1, count + 1)]
 
 
@@ -45,8 +45,8 @@ class Pass:
 
     def __init__(self, tables: "Tables", sign_id: int, sign: Sign) -> None:
         self.tables, self.sign_id, self.sign = tables, sign_id, sign
-        self.to_ask = places(sign)
-        self.used: list[tuple[Place, int]] = []
+        self.to_ask = _places(sign)
+        self.used: list[tuple[_Place, int]] = []
 
     @property
     def is_done(self) -> bool:
@@ -55,7 +55,7 @@ class Pass:
     def go_on(self, number: int) -> None:
         """The next Get: for the statuses first, then for the rows that are in use."""
         if self.to_ask:
-            asked, self.to_ask = self.to_ask[:STATUSES], self.to_ask[STATUSES:]
+            asked, self.to_ask = self.to_ask[:_STATUSES], self.to_ask[_STATUSES:]
             names = [(*self.tables.status, *place) for place in asked]
             self.ask(number, names, partial(self.statuses, asked))
         else:
@@ -74,14 +74,14 @@ class Pass:
         take(number, values)
         self.tables.ready.append(self)
 
-    def statuses(self, asked: list[Place], number: int, values: Values) -> None:
+    def statuses(self, asked: list[_Place], number: int, values: Values) -> None:
         for place, status in zip(asked, values):
-            if isinstance(status, int) and status != NOT_USED:
+            if isinstance(status, int) and status != _NOT_USED:
                 self.used.append((place, status))
             elif isinstance(status, int):
                 self.tables.said.append(RowSaid(self.sign_id, *place, number, status, None))
 
-    def held(self, place: Place, status: int, number: int, values: Values) -> None:
+    def held(self, place: _Place, status: int, number: int, values: Values) -> None:
         cells = json.dumps(dict(zip(self.tables.columns, values)))
         self.tables.said.append(RowSaid(self.sign_id, *place, number, status, cells))
 
@@ -92,8 +92,8 @@ class Tables:
     def __init__(self, store: Store, signs: dict[int, Sign], gets: Gets, mib: Mib) -> None:
         self.store, self.signs, self.gets = store, signs, gets
         named = {object_: name for name, object_ in mib.objects.items()}
-        self.status = named[STATUS]
-        self.columns = {word: named[object_] for word, object_ in CELLS.items()}
+        self.status = named[_STATUS]
+        self.columns = {word: named[object_] for word, object_ in _CELLS.items()}
         self.going: set[int] = set()
         self.ready: list[Pass] = []
         self.said: list[RowSaid] = []
@@ -103,8 +103,8 @@ class Tables:
         """Begins those that are due, and has those go on that heard something."""
         now = time.monotonic()
         free = [sign_id for sign_id in self.signs if sign_id not in self.going] if now >= self.next_look else []
-        self.next_look = now + LOOK if free else self.next_look
-        for sign_id in self.store.messages.due(free, EVERY, MOST - len(self.going)):
+        self.next_look = now + _LOOK if free else self.next_look
+        for sign_id in self.store.messages.due(free, _EVERY, _MOST - len(self.going)):
             self.going.add(sign_id)
             self.ready.append(Pass(self, sign_id, self.signs[sign_id]))
         self.go_on()

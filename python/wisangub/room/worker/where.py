@@ -41,9 +41,9 @@ class Where:
                 for sign_id in to_take
             }
         )
-        return {sign_id for sign_id in to_take if self.is_moved(sign_id, found[sign_id], still.get(sign_id, ""))}
+        return {sign_id for sign_id in to_take if self._is_moved(sign_id, found[sign_id], still.get(sign_id, ""))}
 
-    def is_moved(self, sign_id: int, found: Found, why: str) -> bool:
+    def _is_moved(self, sign_id: int, found: Found, why: str) -> bool:
         """Whether the sign is no more where it was."""
         self.known[sign_id] = found
         before = self.signs.pop(sign_id, None)
