@@ -8,7 +8,6 @@ from wisangub.endpoint import asking
 from wisangub.process.places import TOP
 from wisangub.room.worker import readings
 from wisangub.snmp import wire as shipped
-from wisangub.snmp.mib import Mib
 
 CASES = [json.loads(line) for line in (TOP / "vectors/datagrams.jsonl").read_text().splitlines()]
 MESSAGES = [(case["message"], case["canonical"]) for case in CASES if case.get("message")]
@@ -49,7 +48,7 @@ def test_gets_are_those_of_the_model() -> None:
 
 
 def test_a_get_asks_below_zero_and_is_answered_by_its_response_alone() -> None:
-    asked = list(readings.names(Mib.read()).values())
+    asked = list(readings.ASKED.values())
     octets = shipped.get(b"public", -(2**31), asked)
     message = shipped.spelled(octets)
     assert message is not None and message.number == -(2**31) and [name for name, _ in message.bindings] == asked

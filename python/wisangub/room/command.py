@@ -6,7 +6,6 @@ sign that a worker has entered. A worker carries it out after the sign's earlier
 ended accepted.
 """
 
-import argparse
 import contextlib
 import getpass
 import sys
@@ -14,15 +13,13 @@ import time
 
 from wisangub.endpoint.endings import explained, is_in_error
 from wisangub.endpoint.texts import published
-from wisangub.process.places import called
 from wisangub.refusal import Refusal, status_of
 from wisangub.room.output import LOG, print_line
 from wisangub.room.store.database import Failed
 from wisangub.room.store.store import Store
-from wisangub.room.worker.program import seconds
 from wisangub.room.worker.session import is_command
 
-from . import start
+from . import options
 from .store import database
 
 LOOK = 0.1  # seconds from one look for the end to the next
@@ -60,19 +57,16 @@ def explain(store: Store, command: int, how: str) -> None:
 
 
 def main() -> int:
-    parser = argparse.ArgumentParser(
-        prog=called("wisangub-control command"),
-        description=__doc__,
-        formatter_class=argparse.RawDescriptionHelpFormatter,
-    )
-    parser.add_argument("--database", required=True, metavar="WHERE", help=database.WHERE)
+    parser = options.parser("wisangub-control command", __doc__)
+    options.add_database(parser)
     parser.add_argument("--who", default=getpass.getuser(), metavar="NAME", help="who asks; else the user")
-    parser.add_argument("--wait", type=seconds, default=120.0, metavar="SECONDS", help="how long its end is waited for")
+    parser.add_argument(
+        "--wait", type=options.seconds, default=120.0, metavar="SECONDS", help="how long its end is waited for"
+    )
     parser.add_argument("sign", metavar="SIGN")
     parser.add_argument("line", metavar="LINE")
     asked = parser.parse_args()
-    if database.is_url(asked.database):
-        start.needed("wisangub.room.command", "psycopg")
+    options.need("wisangub.room.command", asked.database)
     line = _line_of(asked.line)
     store = Store(database.opened(asked.database, may_create=False))
     try:

@@ -5,7 +5,6 @@ room over a database in a folder that is made for it, with a user of each role, 
 ends all of it, and the folder goes.
 """
 
-import argparse
 import contextlib
 import pathlib
 import secrets
@@ -17,12 +16,12 @@ import tomllib
 from typing import Iterator
 
 from wisangub.endpoint.sockets import host_and_port
-from wisangub.process.places import SIGNTOOL, TOP, called, environment
+from wisangub.process.places import SIGNTOOL, TOP, environment
 from wisangub.refusal import Refusal, status_of
 from wisangub.room.output import print_line
 from wisangub.room.store.users import Role
 
-from . import fleet, start
+from . import fleet, options, start
 from .serve import LISTEN
 from .store import database, users
 
@@ -64,20 +63,8 @@ def _begin_signs(path: pathlib.Path, program: str, running: list[subprocess.Pope
     """The signs are among what runs; refused where one does not stand."""
     found = _entries(path)
     for _, port, description in found:
-        running.append(
-            _begun(
-                [
-                    "wisangub.endpoint.sign",
-                    "--signtool",
-                    program,
-                    "--sign",
-                    str(description),
-                    "--port",
-                    str(port),
-                    "--quiet",
-                ]
-            )
-        )
+        words = ["--signtool", program, "--sign", str(description), "--port", str(port), "--quiet"]
+        running.append(_begun(["wisangub.endpoint.sign", *words]))
     with contextlib.suppress(subprocess.TimeoutExpired):
         running[-1].wait(_SILENCE)
     dead = [entry[0] for entry, process in zip(found, running) if process.poll() is not None]
@@ -96,11 +83,7 @@ def _enter(where: str) -> None:
 
 
 def main() -> int:
-    parser = argparse.ArgumentParser(
-        prog=called("wisangub-control demo"),
-        description=__doc__,
-        formatter_class=argparse.RawDescriptionHelpFormatter,
-    )
+    parser = options.parser("wisangub-control demo", __doc__)
     parser.add_argument("--listen", default=LISTEN, metavar="HOST:PORT")
     parser.add_argument("--fleet", type=pathlib.Path, default=_FLEET, metavar="FILE")
     parser.add_argument("--signtool", default=str(SIGNTOOL), metavar="PATH")
@@ -110,24 +93,11 @@ def main() -> int:
     path, running = asked.fleet.resolve(), list[subprocess.Popen[bytes]]()
     with tempfile.TemporaryDirectory(prefix="control-") as folder:
         where = str(pathlib.Path(folder) / "room.sqlite")
+        rest = ["--listen", asked.listen, "--signtool", asked.signtool]
         with contextlib.suppress(KeyboardInterrupt), _ended(running):
             _begin_signs(path, asked.signtool, running)
             _enter(where)
-            running.append(
-                _begun(
-                    [
-                        "wisangub.room",
-                        "--fleet",
-                        str(path),
-                        "--database",
-                        where,
-                        "--listen",
-                        asked.listen,
-                        "--signtool",
-                        asked.signtool,
-                    ]
-                )
-            )
+            running.append(_begun(["wisangub.room", "--fleet", str(path), "--database", where, *rest]))
             running[-1].wait()
             raise Refusal("the control room ended by itself", 1)
     return 0

@@ -11,11 +11,11 @@ import argparse
 import sys
 
 from wisangub.endpoint.sockets import Waiting, host_and_port
-from wisangub.process.places import SIGNTOOL, add_version, called
+from wisangub.process.places import add_version, called
 from wisangub.refusal import status_of
 from wisangub.room.output import print_line
 
-from . import fleet, start
+from . import fleet, options
 from .store import database
 from .waits import waited
 
@@ -23,15 +23,10 @@ LISTEN = "127.0.0.1:8080"
 
 
 def arguments() -> argparse.ArgumentParser:
-    parser = argparse.ArgumentParser(
-        prog=called("wisangub-control"),
-        description=__doc__,
-        formatter_class=argparse.RawDescriptionHelpFormatter,
-    )
+    parser = options.parser("wisangub-control", __doc__)
     add_version(parser, "wisangub-control")
-    parser.add_argument("--fleet", required=True, metavar="FILE", help="the signs, as in signs/fleet.toml")
-    parser.add_argument("--database", default="room.sqlite", metavar="WHERE", help=database.WHERE)
-    parser.add_argument("--create", action="store_true", help=database.CREATE)
+    options.add_fleet(parser)
+    options.add_database(parser, "room.sqlite", may_create=True)
     parser.add_argument("--listen", default=LISTEN, metavar="HOST:PORT", help=f"where the pages are; else {LISTEN}")
     parser.add_argument(
         "--behind-tls",
@@ -40,13 +35,12 @@ def arguments() -> argparse.ArgumentParser:
     )
     parser.add_argument("--zone", metavar="NAME", help="the zone that times are shown in; else the machine's")
     parser.add_argument("--no-worker", action="store_true", help="pages alone; workers are other processes")
-    parser.add_argument("--signtool", default=str(SIGNTOOL), metavar="PATH")
     return parser
 
 
 def main() -> int:
     asked = arguments().parse_args()
-    start.needed("wisangub.room.serve", "aiohttp", "jinja2", *(["psycopg"] if database.is_url(asked.database) else []))
+    options.need("wisangub.room.serve", asked.database, "aiohttp", "jinja2")
     from wisangub.room.store.users import users
     from wisangub.room.web.settings import Settings, zone_of
 

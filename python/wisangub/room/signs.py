@@ -12,23 +12,16 @@ import argparse
 import getpass
 import sys
 
-from wisangub.process.places import called
-from wisangub.refusal import Refusal, status_of
+from wisangub.refusal import status_of
 from wisangub.room.output import print_line
-from wisangub.room.store.database import Failed
 from wisangub.room.store.store import Store
 
-from . import start
-from .store import database
+from . import options
 
 
 def _arguments() -> argparse.ArgumentParser:
-    parser = argparse.ArgumentParser(
-        prog=called("wisangub-control signs"),
-        description=__doc__,
-        formatter_class=argparse.RawDescriptionHelpFormatter,
-    )
-    parser.add_argument("--database", required=True, metavar="WHERE", help=database.WHERE)
+    parser = options.parser("wisangub-control signs", __doc__)
+    options.add_database(parser)
     calls = parser.add_subparsers(dest="call", required=True, metavar="CALL")
     calls.add_parser("list")
     call = calls.add_parser("rename")
@@ -39,19 +32,13 @@ def _arguments() -> argparse.ArgumentParser:
 
 def main() -> int:
     asked = _arguments().parse_args()
-    if database.is_url(asked.database):
-        start.needed("wisangub.room.signs", "psycopg")
-    held = database.opened(asked.database, may_create=False)
-    try:
+    with options.over("wisangub.room.signs", asked.database) as held:
+        signs = Store(held).signs
         if asked.call == "rename":
-            Store(held).signs.rename(asked.old, asked.new, f"{getpass.getuser()} at the machine")
+            signs.rename(asked.old, asked.new, f"{getpass.getuser()} at the machine")
         else:
-            for name, address in Store(held).signs.all():
+            for name, address in signs.all():
                 print_line(f"{name} {address}")
-    except Failed as fault:
-        raise Refusal(f"the database: {fault}", 1) from fault
-    finally:
-        held.close()
     return 0
 
 

@@ -21,9 +21,8 @@ import sys
 from typing import Iterator
 
 from wisangub.endpoint.files import MODE, synced_folder
-from wisangub.process import places
 from wisangub.refusal import Refusal, reason, status_of
-from wisangub.room import start
+from wisangub.room import options
 from wisangub.room.output import print_line
 
 from . import database
@@ -182,13 +181,9 @@ def _advanced(where: str, who: str, first: int | None) -> str:
 
 
 def _arguments() -> argparse.ArgumentParser:
-    parser = argparse.ArgumentParser(
-        prog=places.called("wisangub-control backup"),
-        description=__doc__,
-        formatter_class=argparse.RawDescriptionHelpFormatter,
-    )
+    parser = options.parser("wisangub-control backup", __doc__)
     parser.add_argument("what", choices=("copy", "restore", "advance"))
-    parser.add_argument("--database", required=True, metavar="WHERE", help=database.WHERE)
+    options.add_database(parser)
     parser.add_argument("--to", type=pathlib.Path, metavar="FILE", help="where the copy goes")
     parser.add_argument("--from", type=pathlib.Path, metavar="FILE", dest="source", help="the copy")
     parser.add_argument("--first", type=int, metavar="NUMBER", help="the number of each centre's next request")
@@ -201,8 +196,7 @@ def main() -> int:
     asked = parser.parse_args()
     if (asked.what == "copy") != bool(asked.to) or (asked.what == "restore") != bool(asked.source):
         parser.error("copy wants --to FILE, restore wants --from FILE")
-    if database.is_url(asked.database):
-        start.needed("wisangub.room.store.backup", "psycopg")
+    options.need("wisangub.room.store.backup", asked.database)
     try:
         if asked.what == "copy":
             copy(asked.database, asked.to)

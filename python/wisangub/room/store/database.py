@@ -29,12 +29,10 @@ RESTORING = (
     "restoring"  # a table of this name keeps all out of a database that python/wisangub/room/store/backup.py restores
 )
 _URLS = ("postgresql://", "postgres://")
-WHERE = "a file of SQLite, or postgresql://USER@HOST/NAME"  # for the help of a program
 _CARRIED = (
     f"From now on an earlier program refuses it: that one takes a copy that {called('wisangub-control backup copy')}"
     " made before"
 )
-CREATE = "make the database, where there is none: without it another name is no new database"
 
 
 def migrations(folder: pathlib.Path = _MIGRATIONS) -> list[tuple[int, str]]:

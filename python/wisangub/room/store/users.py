@@ -16,14 +16,13 @@ import re
 import sys
 from dataclasses import dataclass
 
-from wisangub.process.places import called
 from wisangub.refusal import Refusal, status_of
-from wisangub.room import start
+from wisangub.room import options
 from wisangub.room.output import print_line
 
-from . import database, passwords
+from . import passwords
 from .audit import note
-from .database import Database, Failed, Taken
+from .database import Database, Taken
 
 _NAME = re.compile(r"[a-z][a-z0-9._-]{0,31}")
 _NAMES = "a name has 1 to 32 small letters, digits, dots, lines and underlines, and begins with a letter"
@@ -125,13 +124,8 @@ def asked_password() -> str:
 
 
 def _arguments() -> argparse.ArgumentParser:
-    parser = argparse.ArgumentParser(
-        prog=called("wisangub-control users"),
-        description=__doc__,
-        formatter_class=argparse.RawDescriptionHelpFormatter,
-    )
-    parser.add_argument("--database", required=True, metavar="WHERE", help=database.WHERE)
-    parser.add_argument("--create", action="store_true", help=database.CREATE)
+    parser = options.parser("wisangub-control users", __doc__)
+    options.add_database(parser, may_create=True)
     calls = parser.add_subparsers(dest="call", required=True, metavar="CALL")
     for name, wanted in (("add", 2), ("password", 1), ("role", 2), ("disable", 1), ("enable", 1), ("list", 0)):
         call = calls.add_parser(name)
@@ -160,15 +154,8 @@ def _done(asked: argparse.Namespace, database: Database) -> None:
 
 def main() -> int:
     asked = _arguments().parse_args()
-    if database.is_url(asked.database):
-        start.needed("wisangub.room.store.users", "psycopg")
-    held = database.opened(asked.database, asked.create)
-    try:
+    with options.over("wisangub.room.store.users", asked.database, asked.create) as held:
         _done(asked, held)
-    except Failed as fault:
-        raise Refusal(f"the database: {fault}", 1) from fault
-    finally:
-        held.close()
     return 0
 
 

@@ -12,6 +12,7 @@ from aiohttp import web
 from wisangub.room.store import queries
 from wisangub.room.store.database import Database
 from wisangub.room.store.queries import SignView
+from wisangub.snmp.names import Memory, RowStatus
 
 from . import draft as drafts
 from .draft import Draft
@@ -115,7 +116,7 @@ async def answer(request: web.Request, draft: Draft, status: int = 200) -> web.R
         looks=found,
         signs=_choice(service),
         now=now,
-        most={memory: min(face.most(memory) for face in faces) for memory in (3, 4)},
+        most={memory: min(face.most(memory) for face in faces) for memory in (Memory.CHANGEABLE, Memory.VOLATILE)},
         has_beacon=all(face.has_beacon for face in faces),
         has_pixel=all(face.has_pixel for face in faces),
         fonts=sorted(set.intersection(*(set(face.fonts) for face in faces))),
@@ -224,7 +225,7 @@ async def row(request: web.Request) -> web.Response:
         raise web.HTTPBadRequest(text="This is no row of one sign.")
     last = await service.connections.run(lambda database: queries.table(database, draft.signs[0]))
     found = [one for one in last.rows if (one.memory, one.number) == (draft.memory, draft.number)]
-    if not found or found[0].status != 4:
+    if not found or found[0].status != RowStatus.VALID:
         raise web.HTTPNotFound(text="The sign's table, as it was last read, has no valid message there.")
     draft = dataclasses.replace(draft, checksum=found[0].checksum)
     return await confirmation(request, draft, found[0].text)

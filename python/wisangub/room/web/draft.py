@@ -4,7 +4,9 @@ import re
 from dataclasses import dataclass, field, replace
 from typing import Any, Mapping
 
-from .faces import CHANGEABLE, VOLATILE, Face
+from wisangub.snmp.names import Memory
+
+from .faces import Face
 from .words import NO_END
 
 _NUMBER = re.compile(r"[0-9]{1,5}")
@@ -19,7 +21,7 @@ class Draft:
     kind: str = "publish"
     signs: tuple[int, ...] = ()
     text: str = ""
-    memory: int = CHANGEABLE
+    memory: int = Memory.CHANGEABLE
     number: int = 1
     beacon: int = 0
     pixel: int = 0
@@ -107,7 +109,8 @@ def read(fields: Any, faces: Mapping[int, Face], kind: str = "publish") -> Draft
     form = Form(fields)
     signs = form.signs(faces)
     of = [faces[sign_id] for sign_id in signs]
-    memory = form.number("memory", 2 if kind == "activate" else CHANGEABLE, VOLATILE, CHANGEABLE, "A memory")
+    least_memory = Memory.PERMANENT if kind == "activate" else Memory.CHANGEABLE
+    memory = form.number("memory", least_memory, Memory.VOLATILE, Memory.CHANGEABLE, "A memory")
     least = min([255 if kind == "blank" else face.most(memory) or 16 for face in of], default=1)
     draft = Draft(
         kind,

@@ -7,9 +7,9 @@ from dataclasses import dataclass
 
 from wisangub.process.coprocess import CoProcess
 from wisangub.room.fleet import Sign
+from wisangub.snmp.names import Memory
 
 _OWN = re.compile(rb"^(communities|order|first) .*\n", re.MULTILINE)  # of a sign, and not of how it looks
-CHANGEABLE, VOLATILE = 3, 4
 
 
 @dataclass(frozen=True)
@@ -39,7 +39,7 @@ class Face:
 
     def most(self, memory: int) -> int:
         """How many rows the memory has."""
-        return self.rows[0] if memory == CHANGEABLE else self.rows[1] if memory == VOLATILE else 0
+        return self.rows[0] if memory == Memory.CHANGEABLE else self.rows[1] if memory == Memory.VOLATILE else 0
 
 
 def _octets_of(word: bytes) -> bytes:

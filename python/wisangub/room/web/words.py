@@ -4,10 +4,17 @@ import datetime
 from dataclasses import dataclass
 
 from wisangub.room.store.values import SLACK
+from wisangub.snmp.names import Memory, RowStatus
 
 NO_END = 65535
-STATUSES = {1: "not used", 2: "modifying", 3: "validating", 4: "valid", 5: "error"}
-_MEMORIES = {2: "permanent", 3: "changeable", 4: "volatile", 5: "what was shown before", 7: "blank"}
+STATUSES = {status.value: status.name.lower().replace("_", " ") for status in RowStatus if status <= RowStatus.ERROR}
+_MEMORIES: dict[int, str] = {
+    Memory.PERMANENT: "permanent",
+    Memory.CHANGEABLE: "changeable",
+    Memory.VOLATILE: "volatile",
+    Memory.CURRENT: "what was shown before",
+    Memory.BLANK: "blank",
+}
 _MODES = {
     8: ("central", "A central system activated it."),
     10: ("power recovery", "Power came back, or the sign was started."),
@@ -47,8 +54,8 @@ def mode_why(mode: int | None) -> str:
 
 def row_word(memory: int, number: int) -> str:
     """A row of the message table."""
-    if memory == 5:
-        return _MEMORIES[5]
+    if memory == Memory.CURRENT:
+        return _MEMORIES[memory]
     return f"{_MEMORIES.get(memory, f'memory {memory}')} {number}"
 
 
@@ -113,7 +120,7 @@ def asked(line: str) -> Asked:
                 "publish", memory, number, octets(words[3]), octets(words[4]), beacon, pixel, run, minutes, priority
             )
         if words[0] == "blank" and len(words) == 5:
-            return Asked("blank", 7, int(words[1]), minutes=int(words[2]), priority=int(words[3]))
+            return Asked("blank", Memory.BLANK, int(words[1]), minutes=int(words[2]), priority=int(words[3]))
         if words[0] == "activate" and len(words) == 2 and len(octets(words[1])) == 12:
             code = octets(words[1])
             return Asked(

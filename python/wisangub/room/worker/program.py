@@ -9,9 +9,8 @@ import argparse
 import sys
 
 from wisangub.endpoint.sockets import Waiting
-from wisangub.process.places import SIGNTOOL, called
 from wisangub.refusal import status_of
-from wisangub.room import fleet, start
+from wisangub.room import fleet, options
 from wisangub.room.output import print_line
 from wisangub.room.store import database
 from wisangub.room.store.store import Store
@@ -19,31 +18,17 @@ from wisangub.room.waits import waited
 
 from .rounds import Pace, Worker
 
-__all__ = ["Pace", "Worker", "seconds"]
-
-
-def seconds(word: str) -> float:
-    """A time above 0."""
-    found = float(word)
-    if not 0 < found < float("inf"):
-        raise ValueError
-    return found
+__all__ = ["Pace", "Worker"]
 
 
 def _arguments() -> argparse.ArgumentParser:
-    parser = argparse.ArgumentParser(
-        prog=called("wisangub-control worker"),
-        description=__doc__,
-        formatter_class=argparse.RawDescriptionHelpFormatter,
-    )
-    parser.add_argument("--fleet", required=True, metavar="FILE", help="the signs, as in signs/fleet.toml")
-    parser.add_argument("--database", required=True, metavar="WHERE", help=database.WHERE)
-    parser.add_argument("--create", action="store_true", help=database.CREATE)
-    parser.add_argument("--signtool", default=str(SIGNTOOL), metavar="PATH")
-    parser.add_argument("--tick", type=seconds, default=Pace.tick, metavar="SECONDS", help="from tick to tick")
+    parser = options.parser("wisangub-control worker", __doc__)
+    options.add_fleet(parser)
+    options.add_database(parser, may_create=True)
+    parser.add_argument("--tick", type=options.seconds, default=Pace.tick, metavar="SECONDS", help="from tick to tick")
     parser.add_argument(
         "--lease",
-        type=seconds,
+        type=options.seconds,
         default=Pace.lease,
         metavar="SECONDS",
         help="after which another worker goes on where this one fell silent",
@@ -53,8 +38,7 @@ def _arguments() -> argparse.ArgumentParser:
 
 def main() -> int:
     asked = _arguments().parse_args()
-    if database.is_url(asked.database):
-        start.needed("wisangub.room.worker.program", "psycopg")
+    options.need("wisangub.room.worker.program", asked.database)
     signs, waiting = fleet.read(asked.fleet), Waiting()
     fleet.tell_open(signs)
 

@@ -7,37 +7,30 @@ from wisangub.endpoint.asking import Name, Values
 from wisangub.room.fleet import Sign
 from wisangub.room.store.readings import Said
 from wisangub.room.store.store import Store
-from wisangub.snmp.mib import Mib
+from wisangub.snmp.names import Memory, cell, scalar
 
 from .gets import Gets
 
 _MINUTES = "minutes"
-_CELL, _SCALAR = (5, 1), (0,)
-_OBJECTS = {
-    "source": ("dmsMsgTableSource", _SCALAR),
-    "mode": ("dmsMsgSourceMode", _SCALAR),
-    "requester": ("dmsMsgRequesterID", _SCALAR),
-    _MINUTES: ("dmsMessageTimeRemaining", _SCALAR),
-    "text": ("dmsMessageMultiString", _CELL),
-    "owner": ("dmsMessageOwner", _CELL),
-    "beacon": ("dmsMessageBeacon", _CELL),
-    "pixel": ("dmsMessagePixelService", _CELL),
-    "priority": ("dmsMessageRunTimePriority", _CELL),
-}
-
-
-def names(mib: Mib) -> dict[str, Name]:
-    """The names of the objects that are asked for."""
-    places = {object_: name for name, object_ in mib.objects.items()}
-    return {word: (*places[object_], *instance) for word, (object_, instance) in _OBJECTS.items()}
+_SHOWN = (Memory.CURRENT, 1)  # the row of what is shown
+ASKED: dict[str, Name] = {
+    "source": scalar("dmsMsgTableSource"),
+    "mode": scalar("dmsMsgSourceMode"),
+    "requester": scalar("dmsMsgRequesterID"),
+    _MINUTES: scalar("dmsMessageTimeRemaining"),
+    "text": cell("dmsMessageMultiString", *_SHOWN),
+    "owner": cell("dmsMessageOwner", *_SHOWN),
+    "beacon": cell("dmsMessageBeacon", *_SHOWN),
+    "pixel": cell("dmsMessagePixelService", *_SHOWN),
+    "priority": cell("dmsMessageRunTimePriority", *_SHOWN),
+}  # the objects of a reading, in the order in which its Get names them
 
 
 class Readings:
     """The Gets for what is shown; at most `most` Gets of all kinds wait at a time."""
 
-    def __init__(self, store: Store, signs: dict[int, Sign], gets: Gets, mib: Mib, most: int) -> None:
+    def __init__(self, store: Store, signs: dict[int, Sign], gets: Gets, most: int) -> None:
         self.store, self.signs, self.gets, self.most = store, signs, gets, most
-        self.asked = names(mib)
         self.said: list[Said] = []
 
     def begin(self) -> None:
@@ -45,14 +38,14 @@ class Readings:
         room = max(0, self.most - len(self.gets.waiting))
         due = [sign_id for sign_id in self.store.readings.to_read() if sign_id in self.signs][:room]
         for sign_id, number in self.store.readings.due(due):
-            self.gets.begin(self.signs[sign_id], number, list(self.asked.values()), partial(self.end, sign_id, number))
+            self.gets.begin(self.signs[sign_id], number, list(ASKED.values()), partial(self.end, sign_id, number))
 
     def end(self, sign_id: int, number: int, values: Values | str) -> None:
         """What came of it: the minutes that are left and what is shown, or why there is none of it."""
         if isinstance(values, str):
             self.said.append(Said(sign_id, number, fault=values))
             return
-        held = dict(zip(self.asked, values))
+        held = dict(zip(ASKED, values))
         minutes = held.pop(_MINUTES)
         self.said.append(Said(sign_id, number, minutes if isinstance(minutes, int) else None, json.dumps(held)))
 

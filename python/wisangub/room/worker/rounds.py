@@ -49,8 +49,8 @@ class Worker:
         self.name = f"{socket.gethostname()}:{os.getpid()}:{secrets.token_hex(4)}"
         self.mib = Mib.read()
         self.gets = Gets()
-        self.readings = Readings(store, self.signs, self.gets, self.mib, pace.most)
-        self.tables = Tables(store, self.signs, self.gets, self.mib)
+        self.readings = Readings(store, self.signs, self.gets, pace.most)
+        self.tables = Tables(store, self.signs, self.gets)
         self.verdicts = Verdicts(store, self.signs, self.gets, self.mib, program)
         self.sessions: dict[int, Session] = {}
         self.ticks: dict[int, float] = {}

@@ -2,8 +2,8 @@
 
 from wisangub.snmp import wire
 from wisangub.snmp.mib import Mib
+from wisangub.snmp.names import RowStatus
 
-_MODIFY, _VALIDATE = 6, 7  # that are written to dmsMessageStatus
 _FIRST_STATUS, _SECOND_STATUS = 2, 5  # the steps that ask for it
 
 
@@ -30,7 +30,7 @@ class Steps:
         if message.kind == wire.SET and len(message.bindings) > 1:
             return 3
         if object_ == "dmsMessageStatus" and message.kind == wire.SET:
-            return {_MODIFY: 1, _VALIDATE: 4}.get(message.bindings[0][1][1], self.step)
+            return {RowStatus.MODIFY_REQ: 1, RowStatus.VALIDATE_REQ: 4}.get(message.bindings[0][1][1], self.step)
         if object_ == "dmsMessageStatus" and self.step:
             return _FIRST_STATUS if self.step in (1, _FIRST_STATUS) else _SECOND_STATUS
         return {"dmsMessageCRC": 6, "dmsActivateMessage": 7, "dmsActivateMsgError": 8}.get(object_, self.step)

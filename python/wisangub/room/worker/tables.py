@@ -9,14 +9,13 @@ from wisangub.endpoint.asking import Name, Values
 from wisangub.room.fleet import Sign
 from wisangub.room.store.messages import RowSaid
 from wisangub.room.store.store import Store
-from wisangub.snmp.mib import Mib
+from wisangub.snmp.names import Memory, RowStatus, cell
 
 from .gets import Gets
 
 _EVERY = 600.0  # seconds from one reading of a sign's table to the next, where nobody wants it before
 _LOOK = 1.0  # seconds from one look for tables that are due to the next
 _STATUSES = 30  # rows whose status one Get asks for, so that its reply fits a datagram
-_NOT_USED = 1
 _MOST = 20  # signs whose tables are read at a time
 _STATUS = "dmsMessageStatus"
 _CELLS = {
@@ -36,7 +35,11 @@ def _places(sign: Sign) -> list[_Place]:
     """The rows that the description gives the sign: permanent (2), changeable (3) and volatile (4) ones."""
     found = _ROWS.search(sign.text)
     changeable, volatile = (int(found[1]), int(found[2])) if found else (0, 0)
-    counts = {2: len(_PERMANENT.findall(sign.text)), 3: changeable, 4: volatile}
+    counts = {
+        Memory.PERMANENT: len(_PERMANENT.findall(sign.text)),
+        Memory.CHANGEABLE: changeable,
+        Memory.VOLATILE: volatile,
+    }
     return [(memory, number) for memory, count in counts.items() for number in range(1, count + 1)]
 
 
@@ -56,11 +59,11 @@ class Pass:
         """The next Get: for the statuses first, then for the rows that are in use."""
         if self.to_ask:
             asked, self.to_ask = self.to_ask[:_STATUSES], self.to_ask[_STATUSES:]
-            names = [(*self.tables.status, *place) for place in asked]
+            names = [cell(_STATUS, *place) for place in asked]
             self.ask(number, names, partial(self.statuses, asked))
         else:
             place, status = self.used.pop(0)
-            names = [(*column, *place) for column in self.tables.columns.values()]
+            names = [cell(column, *place) for column in _CELLS.values()]
             self.ask(number, names, partial(self.held, place, status))
 
     def ask(self, number: int, names: list[Name], take: "partial[None]") -> None:
@@ -76,24 +79,21 @@ class Pass:
 
     def statuses(self, asked: list[_Place], number: int, values: Values) -> None:
         for place, status in zip(asked, values):
-            if isinstance(status, int) and status != _NOT_USED:
+            if isinstance(status, int) and status != RowStatus.NOT_USED:
                 self.used.append((place, status))
             elif isinstance(status, int):
                 self.tables.said.append(RowSaid(self.sign_id, *place, number, status, None))
 
     def held(self, place: _Place, status: int, number: int, values: Values) -> None:
-        cells = json.dumps(dict(zip(self.tables.columns, values)))
+        cells = json.dumps(dict(zip(_CELLS, values)))
         self.tables.said.append(RowSaid(self.sign_id, *place, number, status, cells))
 
 
 class Tables:
     """The tables that are being read."""
 
-    def __init__(self, store: Store, signs: dict[int, Sign], gets: Gets, mib: Mib) -> None:
+    def __init__(self, store: Store, signs: dict[int, Sign], gets: Gets) -> None:
         self.store, self.signs, self.gets = store, signs, gets
-        named = {object_: name for name, object_ in mib.objects.items()}
-        self.status = named[_STATUS]
-        self.columns = {word: named[object_] for word, object_ in _CELLS.items()}
         self.going: set[int] = set()
         self.ready: list[Pass] = []
         self.said: list[RowSaid] = []

@@ -1,0 +1,61 @@
+"""What the commands of the control room have in common: their options, and a database that is closed as they end."""
+
+import argparse
+import contextlib
+from typing import Iterator
+
+from wisangub.process.places import SIGNTOOL, called
+from wisangub.refusal import Refusal
+
+from . import start
+from .store import database
+from .store.database import Database, Failed
+
+_WHERE = "a file of SQLite, or postgresql://USER@HOST/NAME"
+_CREATE = "make the database, where there is none: without it another name is no new database"
+
+
+def parser(command: str, words: str | None) -> argparse.ArgumentParser:
+    """The options of a command, which is explained by the words of its module."""
+    return argparse.ArgumentParser(
+        prog=called(command), description=words, formatter_class=argparse.RawDescriptionHelpFormatter
+    )
+
+
+def add_database(parser: argparse.ArgumentParser, default: str | None = None, may_create: bool = False) -> None:
+    """--database, which is asked for where it has no default; and --create."""
+    parser.add_argument("--database", default=default, required=default is None, metavar="WHERE", help=_WHERE)
+    if may_create:
+        parser.add_argument("--create", action="store_true", help=_CREATE)
+
+
+def add_fleet(parser: argparse.ArgumentParser) -> None:
+    """--fleet and --signtool."""
+    parser.add_argument("--fleet", required=True, metavar="FILE", help="the signs, as in signs/fleet.toml")
+    parser.add_argument("--signtool", default=str(SIGNTOOL), metavar="PATH")
+
+
+def need(program: str, where: str, *modules: str) -> None:
+    """Goes on where this Python sees the modules, and psycopg where the database is PostgreSQL's."""
+    start.needed(program, *modules, *(["psycopg"] if database.is_url(where) else []))
+
+
+@contextlib.contextmanager
+def over(program: str, where: str, may_create: bool = False) -> Iterator[Database]:
+    """A database as long as the block lasts. What fails of it is refused with status 1."""
+    need(program, where)
+    held = database.opened(where, may_create)
+    try:
+        yield held
+    except Failed as fault:
+        raise Refusal(f"the database: {fault}", 1) from fault
+    finally:
+        held.close()
+
+
+def seconds(word: str) -> float:
+    """A time above 0: the type of an option."""
+    found = float(word)
+    if not 0 < found < float("inf"):
+        raise ValueError
+    return found
