@@ -25,7 +25,7 @@ from .sign.port import Port
 from .sign.ticks import Ticks
 
 
-def arguments() -> argparse.ArgumentParser:
+def _arguments() -> argparse.ArgumentParser:
     parser = argparse.ArgumentParser(
         prog=called("wisangub-conform"), description="compares a sign over UDP with the proved one, reply by reply"
     )
@@ -64,7 +64,7 @@ def arguments() -> argparse.ArgumentParser:
     return parser
 
 
-def described_with(path: pathlib.Path, communities: list[str] | None) -> bytes:
+def _described_with(path: pathlib.Path, communities: list[str] | None) -> bytes:
     """The description's octets, with other communities where they are given."""
     octets = path.read_bytes()
     if communities is None:
@@ -78,14 +78,14 @@ def described_with(path: pathlib.Path, communities: list[str] | None) -> bytes:
     return b"\n".join(lines)
 
 
-def address(to: str) -> tuple[str, int]:
+def _address(to: str) -> tuple[str, int]:
     host, _, port = to.rpartition(":")
     if not host or not port.isdigit():
         raise ValueError(f"--to wants HOST:PORT, not {to}")
     return host.strip("[]"), int(port)
 
 
-def write_files(asked: argparse.Namespace, results: Results, about: words.About, not_tested: list[str]) -> None:
+def _write_files(asked: argparse.Namespace, results: Results, about: words.About, not_tested: list[str]) -> None:
     if asked.html:
         asked.html.write_text(page.as_html(results, about, not_tested), encoding="utf-8")
     if asked.junit:
@@ -94,7 +94,7 @@ def write_files(asked: argparse.Namespace, results: Results, about: words.About,
         asked.json.write_text(files.as_json(results, about, not_tested), encoding="utf-8")
 
 
-def about_of(asked: argparse.Namespace) -> words.About:
+def _about_of(asked: argparse.Namespace) -> words.About:
     oracle = "model" if asked.signtool == "model" else asked.signtool
     program = "" if asked.signtool == str(SIGNTOOL) else asked.signtool
     when = datetime.datetime.now().astimezone().isoformat(" ", "seconds")
@@ -104,10 +104,10 @@ def about_of(asked: argparse.Namespace) -> words.About:
     )
 
 
-def test(asked: argparse.Namespace, description: bytes, oracle: Oracle, judge: Judge) -> int:
+def _test(asked: argparse.Namespace, description: bytes, oracle: Oracle, judge: Judge) -> int:
     sign, clock = described(description), RealClock()
     communities = (sign.reader, sign.writer)
-    link = UdpLink(*address(asked.to), clock)
+    link = UdpLink(*_address(asked.to), clock)
     pair = Pair(Port(link, clock, asked.wait), oracle, clock, Ticks(clock), communities)
     context = Context(sign, communities, judge, asked.seed, asked.requests, asked.slow)
     watcher = terminal.watcher()
@@ -121,24 +121,24 @@ def test(asked: argparse.Namespace, description: bytes, oracle: Oracle, judge: J
         link.close()
     for difference in results.differences():
         difference.pictures = pictures(difference, context)
-    about, not_tested = about_of(asked), words.not_tested(context, results, ALL)
+    about, not_tested = _about_of(asked), words.not_tested(context, results, ALL)
     print("\n".join(terminal.ending(results, about, not_tested)), flush=True)
-    write_files(asked, results, about, not_tested)
+    _write_files(asked, results, about, not_tested)
     return 0 if results.is_clean() else 2 if results.is_silent else 1
 
 
 def main() -> int:
-    asked = arguments().parse_args()
+    asked = _arguments().parse_args()
     try:
-        description = described_with(asked.sign, asked.communities)
-        address(asked.to)
+        description = _described_with(asked.sign, asked.communities)
+        _address(asked.to)
         oracle = made(asked.signtool, description)
         judge = SignJudge(asked.signtool, description)
     except (OSError, ValueError, Bad, Refusal) as fault:
         print(f"{asked.sign}: {fault}" if isinstance(fault, Bad) else fault, file=sys.stderr)
         return 2
     try:
-        return test(asked, description, oracle, judge)
+        return _test(asked, description, oracle, judge)
     except KeyboardInterrupt:
         print("interrupted", file=sys.stderr)
         return 2

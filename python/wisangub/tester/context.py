@@ -12,8 +12,8 @@ from .sign.described import Description
 from .sign.judge import Judge
 
 ADDRESS = bytes([192, 0, 2, 1])
-NOBODY = bytes(4)
-NO_END = 65535  # minutes
+_NOBODY = bytes(4)
+_NO_END = 65535  # minutes
 
 
 @dataclass
@@ -83,11 +83,11 @@ class Context:
     def crc(self, text: bytes, beacon: int = 0, pixel: int = 0) -> int:
         return checksum(text, beacon, pixel)
 
-    def code(self, row: Row, crc: int, priority: int = 255, minutes: int = NO_END, address: bytes = ADDRESS) -> bytes:
+    def code(self, row: Row, crc: int, priority: int = 255, minutes: int = _NO_END, address: bytes = ADDRESS) -> bytes:
         return minutes.to_bytes(2, "big") + bytes([priority]) + self.message_code(row, crc) + address
 
     def blank_code(
-        self, number: int = 1, priority: int = 255, minutes: int = NO_END, address: bytes = ADDRESS
+        self, number: int = 1, priority: int = 255, minutes: int = _NO_END, address: bytes = ADDRESS
     ) -> bytes:
         return self.code(Row(Memory.BLANK, number), 0, priority, minutes, address)
 
@@ -117,7 +117,7 @@ class Context:
     @property
     def known_code(self) -> bytes:
         """What is activated in the known state: blank message 1."""
-        return self.blank_code(address=NOBODY)
+        return self.blank_code(address=_NOBODY)
 
     @property
     def refused_code(self) -> bytes:

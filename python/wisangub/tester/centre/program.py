@@ -24,7 +24,7 @@ from wisangub.tester.sign.oracle import made
 
 from .watch import Watch
 
-MOST_RECEIVED = 65_535
+_MOST_RECEIVED = 65_535
 
 
 class Answering(Protocol):
@@ -52,7 +52,7 @@ def serve(door: socket.socket, sign: Answering, clock: Clock, watch: Watch, seco
             due += 1
         elif select.select([door], [], [], left)[0]:
             try:
-                octets, sender = door.recvfrom(MOST_RECEIVED)
+                octets, sender = door.recvfrom(_MOST_RECEIVED)
             except ConnectionRefusedError:  # of a reply that nobody waits for
                 continue
             reply = sign.datagram(octets)
@@ -65,7 +65,7 @@ def stop(_number: int, _frame: FrameType | None) -> None:
     raise Stopped
 
 
-def as_json(watch: Watch) -> str:
+def _as_json(watch: Watch) -> str:
     seen = [
         {"habit": held.habit.value, "moment": round(held.moment, 3), "words": held.words, "octets": held.octets.hex()}
         for held in watch.seen
@@ -74,7 +74,7 @@ def as_json(watch: Watch) -> str:
     return json.dumps({**counts, "seen": seen}, indent=1) + "\n"
 
 
-def arguments() -> argparse.ArgumentParser:
+def _arguments() -> argparse.ArgumentParser:
     parser = argparse.ArgumentParser(
         prog=called("wisangub-conform centre"),
         description="our sign on a port, which watches the central system that speaks to it",
@@ -96,7 +96,7 @@ def arguments() -> argparse.ArgumentParser:
 
 
 def main() -> int:
-    asked = arguments().parse_args()
+    asked = _arguments().parse_args()
     try:
         sign = made(asked.signtool, asked.sign.read_bytes())
     except (OSError, Bad, Refusal) as fault:
@@ -122,7 +122,7 @@ def main() -> int:
         sign.end()
     print("\n".join(watch.lines()), flush=True)
     if asked.json:
-        asked.json.write_text(as_json(watch), encoding="utf-8")
+        asked.json.write_text(_as_json(watch), encoding="utf-8")
     return 1 if watch.seen else 0
 
 

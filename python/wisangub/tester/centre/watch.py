@@ -8,10 +8,10 @@ from wisangub.snmp.names import KINDS, scalar
 from wisangub.tester.requests.messages import spelled
 from wisangub.tester.requests.objects import COMMANDS, Column, Name, column_of, instance, row_of, spoken, word_of
 
-RowName = tuple[int, int]
-ERROR = scalar("dmsActivateMsgError")
-FIELDS = (3, 4, 6, 7, 8)
-SOON = 0.95  # seconds: what comes sooner than this after the same read polls faster than once a second
+_RowName = tuple[int, int]
+_ERROR = scalar("dmsActivateMsgError")
+_FIELDS = (3, 4, 6, 7, 8)
+_SOON = 0.95  # seconds: what comes sooner than this after the same read polls faster than once a second
 
 
 class Habit(Enum):
@@ -53,7 +53,7 @@ class Watch:
     again: int = 0  # the same octets once more
     dropped: int = 0
     numbers: dict[int, bytes] = field(default_factory=dict)
-    rows: dict[RowName, Known] = field(default_factory=dict)
+    rows: dict[_RowName, Known] = field(default_factory=dict)
     reads: dict[tuple[int, tuple[Name, ...]], float] = field(default_factory=dict)
     missing: tuple[Name, ...] | None = None  # what the request before this one was told that there is not
     is_refused: bool = False  # the request before this one was an activation that was refused
@@ -62,7 +62,7 @@ class Watch:
     def note(self, habit: Habit, moment: float, octets: bytes, words: str) -> None:
         self.seen.append(Seen(habit, moment, words, octets))
 
-    def row(self, name: RowName) -> Known:
+    def row(self, name: _RowName) -> Known:
         return self.rows.setdefault(name, Known())
 
     def heard(self, moment: float, octets: bytes, reply: bytes | None) -> None:
@@ -90,14 +90,14 @@ class Watch:
         """What comes after a noSuchName, and after an activation that was refused."""
         if self.missing is not None:
             same = [name for name, _ in message.bindings if name in self.missing]
-            words = f"after noSuchName of {spoken(self.missing[0])}: " + ("the same again" if same else said(message))
+            words = f"after noSuchName of {spoken(self.missing[0])}: " + ("the same again" if same else _said(message))
             self.note(Habit.AFTER, moment, octets, words)
-        if self.is_refused and ERROR not in [name for name, _ in message.bindings]:
+        if self.is_refused and _ERROR not in [name for name, _ in message.bindings]:
             self.note(
                 Habit.IGNORED,
                 moment,
                 octets,
-                f"an activation was refused, and dmsActivateMsgError is not read: {said(message)}",
+                f"an activation was refused, and dmsActivateMsgError is not read: {_said(message)}",
             )
         self.is_refused = False
 
@@ -105,8 +105,8 @@ class Watch:
         key = (message.kind, tuple(name for name, _ in message.bindings))
         before = self.reads.get(key)
         self.reads[key] = moment
-        if before is not None and moment - before < SOON:
-            self.note(Habit.FAST, moment, octets, f"{said(message)} after {moment - before:.2f} s")
+        if before is not None and moment - before < _SOON:
+            self.note(Habit.FAST, moment, octets, f"{_said(message)} after {moment - before:.2f} s")
         if answer.status == wire.NO_ERROR:
             for name, _ in answer.bindings:
                 row = row_of(name)
@@ -118,7 +118,7 @@ class Watch:
         names = [name for name, _ in message.bindings]
         for name, (_, held) in message.bindings:
             row = row_of(name)
-            if row is not None and column_of(name) in FIELDS and not self.row(row).is_asked:
+            if row is not None and column_of(name) in _FIELDS and not self.row(row).is_asked:
                 self.note(Habit.UNASKED, moment, octets, spoken(name))
                 break
         for name, (_, held) in message.bindings:
@@ -130,11 +130,11 @@ class Watch:
         settings = {name for name in names if word_of(name) not in ("", *COMMANDS)}
         self.refused = self.refused - settings if is_taken else self.refused | settings
         for row in {row for name in names if (row := row_of(name)) is not None}:
-            written = {name for name in names if row_of(name) == row and column_of(name) in FIELDS}
+            written = {name for name in names if row_of(name) == row and column_of(name) in _FIELDS}
             refused = self.row(row).refused
             self.row(row).refused = refused - written if is_taken else refused | written
 
-    def asked(self, moment: float, octets: bytes, row: RowName, asked: int, is_taken: bool) -> None:
+    def asked(self, moment: float, octets: bytes, row: _RowName, asked: int, is_taken: bool) -> None:
         """A row is asked to modify, to validate or to be not used."""
         known = self.row(row)
         if asked == 7 and known.refused:
@@ -191,7 +191,7 @@ def missing(message: wire.Message, answer: wire.Message) -> tuple[Name, ...] | N
     return (message.bindings[answer.index - 1][0],)
 
 
-def said(message: wire.Message) -> str:
+def _said(message: wire.Message) -> str:
     """A request in few words."""
     names = ", ".join(spoken(name) for name, _ in message.bindings[:3])
     return f"{KINDS[message.kind]} {names}" + (" .." if len(message.bindings) > 3 else "")

@@ -14,14 +14,14 @@ from .ber_contents import integers, names, values
 from .ber_forms import BAD_TAGS, of_kind, raw, whole_changed
 from .block import Block, Chapter
 
-INSIDE = ("message", "pdu", "list", "binding")
-WRITE: dict[str, object] = {
+_INSIDE = ("message", "pdu", "list", "binding")
+_WRITE: dict[str, object] = {
     "kind": wire.SET,
     "name": wire.name_content(scalar("defaultPageOnTime")),
     "value": b"\7",
     "tag": wire.INTEGER,
 }
-FITTING = {
+_FITTING = {
     "message": (0x30,),
     "version": (0x02,),
     "community": (0x04,),
@@ -35,13 +35,13 @@ FITTING = {
 }
 
 
-def accepted_lengths() -> Iterator[Block]:
+def _accepted_lengths() -> Iterator[Block]:
     for place in PLACES:
         for octets in (1, 2, 3, 4):
             yield Block("lengths that are accepted", "", [raw("needless octets", {place: spelling.length_of(octets)})])
     everywhere = {place: spelling.length_of(4) for place in PLACES}
     yield Block("lengths that are accepted", "", [raw("needless octets", everywhere)])
-    kinds: list[dict[str, object]] = [{"kind": wire.GET_NEXT}, WRITE]
+    kinds: list[dict[str, object]] = [{"kind": wire.GET_NEXT}, _WRITE]
     for more in kinds:
         steps = [raw("needless octets", {place: spelling.length_of(2)}, **more) for place in PLACES]
         yield Block("lengths that are accepted", "", [*steps, raw("needless octets", everywhere, **more)])
@@ -58,7 +58,7 @@ def accepted_lengths() -> Iterator[Block]:
         )
 
 
-def refused_lengths() -> Iterator[Block]:
+def _refused_lengths() -> Iterator[Block]:
     forms = [
         spelling.first_octet(0x80),
         spelling.first_octet(0x80, b"\0\0"),
@@ -72,7 +72,7 @@ def refused_lengths() -> Iterator[Block]:
         yield Block("lengths that are refused", "refused lengths", [raw("", {place: form}) for form in [*forms, five]])
         offs = [raw("", {place: spelling.longer(1)}), raw("", {place: spelling.longer(120)})]
         yield Block("lengths that are off", "sequences", offs)
-    for place in INSIDE + ("community", "name"):
+    for place in _INSIDE + ("community", "name"):
         yield Block("lengths that are off", "sequences", [raw("", {place: spelling.longer(-1)})])
     another = wire.binding((HEIGHT, NULL))
     past = [{"value": spelling.longer(by), "list": spelling.followed(another)} for by in (1, 2, len(another))]
@@ -80,12 +80,12 @@ def refused_lengths() -> Iterator[Block]:
     yield Block("a value that goes on in the next binding", "sequences", steps)
 
 
-def tags() -> Iterator[Block]:
-    for place in FITTING:
+def _tags() -> Iterator[Block]:
+    for place in _FITTING:
         bad = [
             tag
             for tag in BAD_TAGS + bytes([0x02, 0x04, 0x05, 0x06, 0x30, 0xA1 if place != "pdu" else 0x60])
-            if tag not in FITTING[place]
+            if tag not in _FITTING[place]
         ]
         yield Block(
             "other tags",
@@ -106,8 +106,8 @@ def tags() -> Iterator[Block]:
     yield Block("traps", "kinds", [of_kind(kind) for kind in (0xA4, 0xA5)])
 
 
-def trailing() -> Iterator[Block]:
-    for place in INSIDE:
+def _trailing() -> Iterator[Block]:
+    for place in _INSIDE:
         for more in (b"\0", b"\5\0", b"\x30\0"):
             yield Block("octets after the last member", "sequences", [raw("", {place: spelling.followed(more)})])
     after: list[Callable[[bytes], bytes]] = [
@@ -118,7 +118,7 @@ def trailing() -> Iterator[Block]:
     yield Block("octets after the message", "datagrams", [whole_changed(change) for change in after])
 
 
-def cut() -> Iterator[Block]:
+def _cut() -> Iterator[Block]:
     def front(size: int) -> Raw:
         return whole_changed(lambda whole: whole[:size] if size < len(whole) else b"\x30")
 
@@ -126,7 +126,7 @@ def cut() -> Iterator[Block]:
         yield Block("datagrams that are cut", "sequences", [front(size) for size in range(begun, begun + 8)])
 
 
-def sizes() -> Iterator[Block]:
+def _sizes() -> Iterator[Block]:
     def padded(size: int) -> Raw:
         """A Get of no instance whose value makes it this long; its answer repeats it."""
 
@@ -147,10 +147,10 @@ def sizes() -> Iterator[Block]:
     yield Block("many bindings", "datagrams", [get(*[HEIGHT] * 70), get_next(*[(0, 0)] * 200)])
 
 
-def blocks(context: Context) -> Iterator[Block]:
-    for part in (accepted_lengths, refused_lengths, integers, values, names, tags, trailing, cut, sizes):
+def _blocks(context: Context) -> Iterator[Block]:
+    for part in (_accepted_lengths, _refused_lengths, integers, values, names, _tags, _trailing, _cut, _sizes):
         yield from part()
     yield Block("after all that", "get", [get(HEIGHT)])
 
 
-CHAPTER = Chapter("ber", "BER forms", blocks)
+CHAPTER = Chapter("ber", "BER forms", _blocks)

@@ -10,7 +10,7 @@ from wisangub.tester.requests.steps import Raw
 from .ber_forms import BAD_TAGS, raw
 from .block import Block
 
-INTEGERS = ("version", "number", "status", "index")
+_INTEGERS = ("version", "number", "status", "index")
 
 
 def integers() -> Iterator[Block]:
@@ -40,7 +40,7 @@ def integers() -> Iterator[Block]:
     yield Block(
         "request numbers", "not looked at", [raw("", {"number": spelling.holding(content)}) for content in good]
     )
-    for place in INTEGERS:
+    for place in _INTEGERS:
         yield Block(
             "forms of integers", "integers", [raw("", {place: spelling.holding(content)}) for content in needless]
         )
@@ -53,7 +53,7 @@ def integers() -> Iterator[Block]:
     yield Block("versions", "messages", [raw("", {"version": spelling.holding(content)}) for content in versions])
 
 
-def value(rule: str, tag: int, content: bytes) -> Raw:
+def _value(rule: str, tag: int, content: bytes) -> Raw:
     """A Get of no instance with this value."""
     return raw(rule, {}, name=wire.name_content(NOWHERE), value=content, tag=tag)
 
@@ -64,37 +64,37 @@ def values() -> Iterator[Block]:
         "integers as values",
         "",
         [
-            value("integers", wire.INTEGER, content)
+            _value("integers", wire.INTEGER, content)
             for content in (b"\0", b"\x80", b"\0\xff\xff\xff\xff", b"\x80\0\0\0")
         ],
     )
     yield Block(
-        "integers as values", "", [value("integers", wire.INTEGER, content) for content in (b"", b"\0\0", b"\xff\xff")]
+        "integers as values", "", [_value("integers", wire.INTEGER, content) for content in (b"", b"\0\0", b"\xff\xff")]
     )
     yield Block(
         "integers as values",
         "",
-        [value("integer range", wire.INTEGER, content) for content in (b"\1\0\0\0\0", b"\xff\x7f\xff\xff\xff")],
+        [_value("integer range", wire.INTEGER, content) for content in (b"\1\0\0\0\0", b"\xff\x7f\xff\xff\xff")],
     )
     for tag in (wire.COUNTER, wire.GAUGE, wire.TICKS):
         good, bad = (b"\0", b"\x7f", b"\0\xff\xff\xff\xff"), (b"\xff", b"\x80\0\0\0", b"\1\0\0\0\0", b"\0\0", b"")
-        yield Block("counters", "counters", [value("", tag, content) for content in good + bad])
-    yield Block("NULL", "null", [value("", wire.NULL, content) for content in (b"", b"\0", b"\5\0")])
-    yield Block("addresses", "addresses", [value("", wire.ADDRESS, bytes(size)) for size in (4, 0, 3, 5, 8)])
+        yield Block("counters", "counters", [_value("", tag, content) for content in good + bad])
+    yield Block("NULL", "null", [_value("", wire.NULL, content) for content in (b"", b"\0", b"\5\0")])
+    yield Block("addresses", "addresses", [_value("", wire.ADDRESS, bytes(size)) for size in (4, 0, 3, 5, 8)])
     yield Block(
         "octets",
         "long lengths",
-        [value("", tag, bytes(range(size))) for tag in (wire.OCTETS, wire.OPAQUE) for size in (0, 1, 200)],
+        [_value("", tag, bytes(range(size))) for tag in (wire.OCTETS, wire.OPAQUE) for size in (0, 1, 200)],
     )
     yield Block(
         "other types",
         "bindings",
-        [value("", tag, content) for tag in BAD_TAGS + bytes([0x30, 0xA0, 0xA2]) for content in (b"", b"\0")],
+        [_value("", tag, content) for tag in BAD_TAGS + bytes([0x30, 0xA0, 0xA2]) for content in (b"", b"\0")],
     )
     yield Block(
         "names as values",
         "names",
-        [value("", wire.NAME, content) for content in (b"\x2b", b"", b"\x80\1", b"\x2b\x81")],
+        [_value("", wire.NAME, content) for content in (b"\x2b", b"", b"\x80\1", b"\x2b\x81")],
     )
 
 

@@ -12,7 +12,7 @@ from wisangub.tester.requests.steps import Ask, get, get_next, put
 from .block import Block, Chapter, look
 
 
-def strangers(communities: tuple[bytes, bytes]) -> list[bytes]:
+def _strangers(communities: tuple[bytes, bytes]) -> list[bytes]:
     """Communities that are neither, many of them by one octet."""
     found = [b"", b"\0", b"x", b"private", b"x" * 32, b"x" * 33, b"x" * 300]
     for known in communities:
@@ -30,7 +30,7 @@ def strangers(communities: tuple[bytes, bytes]) -> list[bytes]:
     return [name for name in dict.fromkeys(found) if name not in communities]
 
 
-def blocks(context: Context) -> Iterator[Block]:
+def _blocks(context: Context) -> Iterator[Block]:
     reads = [
         get(scalar("vmsSignHeightPixels")),
         get_next(scalar("vmsSignHeightPixels")),
@@ -57,7 +57,7 @@ def blocks(context: Context) -> Iterator[Block]:
     yield Block("the reader writes", "reader writes", [replace(step, is_writer=False) for step in refusals])
     yield Block("nothing was written", "reader writes", look())
     yield Block("the reader writes nothing", "set", [replace(put(), is_writer=False), put()])
-    for community in strangers(context.communities):
+    for community in _strangers(context.communities):
         asks = [
             Ask(wire.GET, ((scalar("vmsSignHeightPixels"), NULL),), community=community),
             Ask(wire.GET_NEXT, ((scalar("vmsSignHeightPixels"), NULL),), community=community),
@@ -67,4 +67,4 @@ def blocks(context: Context) -> Iterator[Block]:
     yield Block("nothing was written", "no community", look())
 
 
-CHAPTER = Chapter("communities", "Communities", blocks)
+CHAPTER = Chapter("communities", "Communities", _blocks)

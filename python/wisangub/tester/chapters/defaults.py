@@ -13,7 +13,7 @@ from .telling import Telling, default, spoiling, telling
 from .validation import judged
 
 
-def decide(context: Context, row: Row) -> Iterator[Block]:
+def _decide(context: Context, row: Row) -> Iterator[Block]:
     """A text is judged under the defaults of now, at its validation and at its activation."""
     for at, held in enumerate(telling(context)):
         yield Block(
@@ -30,10 +30,10 @@ def decide(context: Context, row: Row) -> Iterator[Block]:
         ]
         yield Block(f"an activation under default {held.member}", "fits now", steps, True)
         if at == 0 or context.is_slow:
-            yield from itertools.islice(while_validating(row, held), 2 if context.is_slow else 1)
+            yield from itertools.islice(_while_validating(row, held), 2 if context.is_slow else 1)
 
 
-def last_row(context: Context, row: Row) -> Iterator[Block]:
+def _last_row(context: Context, row: Row) -> Iterator[Block]:
     """The last row, of the other memory where there is one, a tick after the default has changed."""
     for held in telling(context)[:1]:
         code = activate(context.code(row, context.crc(held.text)))
@@ -42,7 +42,7 @@ def last_row(context: Context, row: Row) -> Iterator[Block]:
         yield Block("the last row under a default", "fits now", steps, True)
 
 
-def permanent(context: Context) -> Iterator[Block]:
+def _permanent(context: Context) -> Iterator[Block]:
     """Permanent messages are judged under the defaults of now too."""
     for row, held in zip(context.permanent, context.described.permanent):
         code = activate(context.code(row, context.crc(held.text, held.beacon, held.pixel)))
@@ -50,14 +50,14 @@ def permanent(context: Context) -> Iterator[Block]:
             yield Block("a permanent message under a default", "fits now", [spoils, code, *look()], True)
 
 
-def while_validating(row: Row, held: Telling) -> Iterator[Block]:
+def _while_validating(row: Row, held: Telling) -> Iterator[Block]:
     """The defaults at the tick decide, not those at the request."""
     for before, then in ((held.good, held.bad), (held.bad, held.good)):
         begun: list[Step] = [before, modify(row), fill(row, held.text), Wait(0), validate(row), then]
         yield Block("a default while a row validates", "missing values", [*begun, Wait(1), *look(row)], True)
 
 
-def copied(context: Context, row: Row) -> Iterator[Block]:
+def _copied(context: Context, row: Row) -> Iterator[Block]:
     text = context.character()
     changes: list[Step] = [
         put(*[default(member, value) for member, value in ((1, 3), (2, 4), (3, 7), (4, 8), (8, 9), (9, 10))]),
@@ -77,7 +77,7 @@ def copied(context: Context, row: Row) -> Iterator[Block]:
     yield Block("what was copied", "copied", [*begun, *changes, *after], True)
 
 
-def kept(context: Context) -> Iterator[Block]:
+def _kept(context: Context) -> Iterator[Block]:
     """Each default is its own object."""
     for member in range(1, 10):
         value = {5: context.described.face.fonts[-1].number, 6: 4, 7: 2}.get(member, 6)
@@ -90,14 +90,14 @@ def kept(context: Context) -> Iterator[Block]:
     )
 
 
-def blocks(context: Context) -> Iterator[Block]:
-    yield from kept(context)
-    yield from permanent(context)
+def _blocks(context: Context) -> Iterator[Block]:
+    yield from _kept(context)
+    yield from _permanent(context)
     for row in context.rows[1:][-1:]:
-        yield from last_row(context, row)
+        yield from _last_row(context, row)
     for row in context.rows[:1]:
-        yield from decide(context, row)
-        yield from copied(context, row)
+        yield from _decide(context, row)
+        yield from _copied(context, row)
 
 
-CHAPTER = Chapter("defaults", "Defaults", blocks)
+CHAPTER = Chapter("defaults", "Defaults", _blocks)

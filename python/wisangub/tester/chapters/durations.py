@@ -10,14 +10,14 @@ from wisangub.tester.requests.steps import Step, Wait, get, put
 from .block import Block, Chapter, fill, look, message, modify, reports, validate
 from .telling import telling
 
-REMAINING = scalar("dmsMessageTimeRemaining")
+_REMAINING = scalar("dmsMessageTimeRemaining")
 
 
-def end_code(code: bytes) -> Binding:
+def _end_code(code: bytes) -> Binding:
     return scalar("dmsEndDurationMessage"), octets(code)
 
 
-def at_end(context: Context) -> list[tuple[str, str, bytes]]:
+def _at_end(context: Context) -> list[tuple[str, str, bytes]]:
     """End-duration codes, each with its rule."""
     codes = [
         ("blank message 7", "own activation", context.message_code(Row(Memory.BLANK, 7), 0)),
@@ -38,33 +38,33 @@ def at_end(context: Context) -> list[tuple[str, str, bytes]]:
     return codes
 
 
-def at_once(context: Context) -> Iterator[Block]:
+def _at_once(context: Context) -> Iterator[Block]:
     shown = activate(context.blank_code(200, 255, 30, bytes([10, 9, 8, 7])))
-    for name, rule, code in at_end(context):
-        yield Block(f"0 minutes: {name}", rule, [put(end_code(code)), shown, put(remaining(0)), *look()], True)
+    for name, rule, code in _at_end(context):
+        yield Block(f"0 minutes: {name}", rule, [put(_end_code(code)), shown, put(remaining(0)), *look()], True)
     after = [shown, put(remaining(0)), put(remaining(5)), *look(), put(remaining(65535)), *look()]
     yield Block("minutes after an end", "remaining", after, True)
     failed = activate(context.code(Row(9, 9), 0x99))
     yield Block("0 minutes after a refusal", "own refused", [failed, put(remaining(0)), *look()], True)
-    together = put(end_code(context.message_code(Row(Memory.BLANK, 9), 0)), remaining(0))
+    together = put(_end_code(context.message_code(Row(Memory.BLANK, 9), 0)), remaining(0))
     yield Block("0 minutes and their code at once", "remaining", [together, *look()], True)
 
 
-def unfit(context: Context, row: Row) -> Iterator[Block]:
+def _unfit(context: Context, row: Row) -> Iterator[Block]:
     """A code of a row whose text does not fit under the defaults of now."""
     for held in telling(context)[:1]:
-        code = put(end_code(context.message_code(row, context.crc(held.text))))
+        code = put(_end_code(context.message_code(row, context.crc(held.text))))
         steps: list[Step] = [held.good, *message(row, held.text), code, held.bad, put(remaining(0)), *look()]
         again: list[Step] = [held.good, put(remaining(0)), *look()]
         yield Block("0 minutes: a row that does not fit", "own refused", [*steps, *again], True)
 
 
-def minutes(context: Context) -> Iterator[Block]:
+def _minutes(context: Context) -> Iterator[Block]:
     for value in (1, 2, 1000, 65534, 65535):
         yield Block(f"{value} minutes", "remaining", [put(remaining(value)), *look()], True)
     for value in (1, 2, 65534) if context.is_slow else (2,):
-        steps: list[Step] = [put(remaining(value)), get(REMAINING), Wait(1), get(REMAINING)]
-        steps += [Wait(1), get(REMAINING)] if context.is_slow else []
+        steps: list[Step] = [put(remaining(value)), get(_REMAINING), Wait(1), get(_REMAINING)]
+        steps += [Wait(1), get(_REMAINING)] if context.is_slow else []
         yield Block("minutes after seconds", "minutes", steps, True)
     for value in (1, 255, 65534):
         yield Block(
@@ -74,31 +74,31 @@ def minutes(context: Context) -> Iterator[Block]:
     yield Block("no end after all", "remaining", longer, True)
 
 
-def nothing_left(context: Context) -> Iterator[Block]:
+def _nothing_left(context: Context) -> Iterator[Block]:
     """A duration of 0 minutes ends at the next tick."""
     ends: list[Step] = [activate(context.blank_code(200, 255, 0, bytes([10, 9, 8, 7]))), *look(), Wait(1), *look()]
     yield Block(
         "0 minutes by an activation",
         "ends",
-        [put(end_code(context.message_code(Row(Memory.BLANK, 7), 0))), *ends],
+        [put(_end_code(context.message_code(Row(Memory.BLANK, 7), 0))), *ends],
         True,
     )
-    yield Block("an end that is refused", "own refused", [put(end_code(b"\3\0\0\0\0")), *ends], True)
+    yield Block("an end that is refused", "own refused", [put(_end_code(b"\3\0\0\0\0")), *ends], True)
     yield Block(
-        "an end that keeps what is shown", "own current", [put(end_code(b"\5\0\1\0\0")), *ends, Wait(1), *look()], True
+        "an end that keeps what is shown", "own current", [put(_end_code(b"\5\0\1\0\0")), *ends, Wait(1), *look()], True
     )
     for row in context.rows[:1]:
         text = context.character()
         begun = [
             *message(row, text, b"", 0, 0, 255),
-            put(end_code(context.message_code(row, context.crc(text)))),
+            put(_end_code(context.message_code(row, context.crc(text)))),
             activate(context.blank_code(1, 255, 0)),
         ]
         yield Block("an end that shows a row", "own activation", [*begun, Wait(1), *look(row)], True)
         together: list[Step] = [
             modify(row),
             fill(row, text, b"", 0, 0, 255),
-            put(end_code(context.message_code(row, context.crc(text)))),
+            put(_end_code(context.message_code(row, context.crc(text)))),
             Wait(0),
             validate(row),
             activate(context.blank_code(1, 255, 0)),
@@ -107,9 +107,9 @@ def nothing_left(context: Context) -> Iterator[Block]:
         yield Block("an end at the tick of a validation", "settled", [*together, *look(row)], True)
 
 
-def whole(context: Context) -> Iterator[Block]:
+def _whole(context: Context) -> Iterator[Block]:
     """Whole minutes, to the tick."""
-    code = put(end_code(context.message_code(Row(Memory.BLANK, 7), 0)))
+    code = put(_end_code(context.message_code(Row(Memory.BLANK, 7), 0)))
     for begin in (activate(context.blank_code(200, 255, 1)), put(remaining(1))):
         late: list[Step] = [code, Wait(1), begin, Wait(59), reports(), Wait(1), reports(), Wait(1), reports()]
         yield Block("a minute", "ends", late, True)
@@ -117,27 +117,27 @@ def whole(context: Context) -> Iterator[Block]:
         Wait(1),
         put(remaining(3)),
         Wait(59),
-        get(REMAINING),
+        get(_REMAINING),
         Wait(1),
-        get(REMAINING),
+        get(_REMAINING),
         Wait(1),
-        get(REMAINING),
+        get(_REMAINING),
     ]
     yield Block("three minutes as they pass", "minutes", steps, True)
-    endless: list[Step] = [put(remaining(65535)), Wait(61), get(REMAINING)]
+    endless: list[Step] = [put(remaining(65535)), Wait(61), get(_REMAINING)]
     yield Block("no end after a minute", "remaining", endless, True)
-    shown: list[Step] = [activate(context.blank_code(200)), Wait(61), get(REMAINING)]
+    shown: list[Step] = [activate(context.blank_code(200)), Wait(61), get(_REMAINING)]
     yield Block("an activation without end after a minute", "minutes", shown, True)
 
 
-def blocks(context: Context) -> Iterator[Block]:
-    yield from at_once(context)
+def _blocks(context: Context) -> Iterator[Block]:
+    yield from _at_once(context)
     for row in context.rows[:1]:
-        yield from unfit(context, row)
-    yield from minutes(context)
-    yield from nothing_left(context)
+        yield from _unfit(context, row)
+    yield from _minutes(context)
+    yield from _nothing_left(context)
     if context.is_slow:
-        yield from whole(context)
+        yield from _whole(context)
 
 
-CHAPTER = Chapter("durations", "Durations", blocks)
+CHAPTER = Chapter("durations", "Durations", _blocks)

@@ -22,7 +22,7 @@ def made(rule: str, texts: list[bytes], first: int) -> list[Sample]:
     return [Sample(text, rule, at < first) for at, text in enumerate(dict.fromkeys(texts)) if len(text) <= 512]
 
 
-def average(first: int, second: int) -> int:
+def _average(first: int, second: int) -> int:
     """The spacing between two fonts' characters, half a column rounded up."""
     return (first + second + 1) // 2
 
@@ -66,14 +66,14 @@ def edges(context: Context) -> list[Sample]:
     return made("room", found, 9)
 
 
-def spread(context: Context, unit: bytes, most: int) -> list[tuple[int, bytes]]:
+def _spread(context: Context, unit: bytes, most: int) -> list[tuple[int, bytes]]:
     """Rows of one character with their widths, up to a width."""
     font = context.described.face.known_font(context.defaults[4])
     width = font.glyphs[unit[0]].width
     return [(count * width + (count - 1) * font.space, unit * count) for count in range(1, most // width + 1)]
 
 
-def stacked(unit: bytes, height: int, total: int) -> bytes:
+def _stacked(unit: bytes, height: int, total: int) -> bytes:
     """Lines that are so high together, with gaps between them; nothing where no gaps make it so."""
     for count in range(1, total // height + 1):
         gaps = total - count * height
@@ -89,7 +89,7 @@ def touching(context: Context) -> list[Sample]:
     if not one:
         return []
     rows = [
-        held for unit in context.characters[:1] + context.characters[-1:] for held in spread(context, unit, face.width)
+        held for unit in context.characters[:1] + context.characters[-1:] for held in _spread(context, unit, face.width)
     ]
     found = []
     for total in (face.width, face.width + 1):
@@ -97,7 +97,7 @@ def touching(context: Context) -> list[Sample]:
         found += list(itertools.islice(pairs, 1))
     height = face.known_font(context.defaults[4]).height
     for total in (face.height, face.height + 1):
-        bottom = stacked(one, height, total - height)
+        bottom = _stacked(one, height, total - height)
         found += [b"[jp2]" + one + b"[jp4]" + bottom] if bottom else []
     return made("room", found, 4)
 
@@ -119,7 +119,7 @@ def mixed(context: Context) -> list[Sample]:
     return made("room", found, 1)
 
 
-def mixtures(context: Context, font: Font) -> list[tuple[int, bytes]]:
+def _mixtures(context: Context, font: Font) -> list[tuple[int, bytes]]:
     """Characters of the default's font and of another in turn, begun with either, with their widths."""
     own = context.described.face.known_font(context.defaults[4])
     found: list[tuple[int, bytes]] = []
@@ -130,7 +130,7 @@ def mixtures(context: Context, font: Font) -> list[tuple[int, bytes]]:
         pair = [unit, b"[fo%d]" % font.number + bytes([other]) + b"[fo]"]
         widths = own.glyphs[unit[0]].width + font.glyphs[other].width
         for turns in (1, 2, 3):
-            width = turns * widths + (2 * turns - 1) * average(own.space, font.space)
+            width = turns * widths + (2 * turns - 1) * _average(own.space, font.space)
             found += [(width, b"".join(pair) * turns), (width, b"".join(pair[::-1]) * turns)]
     return found
 
@@ -139,15 +139,15 @@ def mixed_parts(context: Context) -> list[Sample]:
     """Two parts of a line that touch, and that overlap by one column, of characters of two fonts in each order."""
     face, found = context.described.face, []
     for font in face.fonts:
-        both = mixtures(context, font) if font.number != context.defaults[4] else []
-        rows = [*both, *[held for unit in context.characters[:1] for held in spread(context, unit, face.width)]]
+        both = _mixtures(context, font) if font.number != context.defaults[4] else []
+        rows = [*both, *[held for unit in context.characters[:1] for held in _spread(context, unit, face.width)]]
         for order, total in itertools.product((0, 1), (face.width, face.width + 1)):
             pairs = (left + b"[jl4]" + right for a, left in both[order::2] for b, right in rows if a + b == total)
             found += [b"[jl2]" + text for text in itertools.islice(pairs, 1)]
     return made("room", found, 0)
 
 
-def units(context: Context) -> list[tuple[int, bytes]]:
+def _units(context: Context) -> list[tuple[int, bytes]]:
     """A character of each font that has one, with the font's height."""
     found = []
     for font in context.described.face.fonts:
@@ -160,7 +160,7 @@ def units(context: Context) -> list[tuple[int, bytes]]:
 def heights(context: Context) -> list[Sample]:
     """A line of two heights, in each order, above as many others as fit, and one row more."""
     face, found = context.described.face, []
-    for (low, lower), (high, higher) in itertools.combinations(sorted(dict(units(context)).items()), 2):
+    for (low, lower), (high, higher) in itertools.combinations(sorted(dict(_units(context)).items()), 2):
         for line in (lower + higher, higher + lower):
             front = line + (b"[nl0]" + higher) * (face.height // high - 2)
             texts = [front + b"[nl%d]" % gap + higher for gap in range(10)]
@@ -170,7 +170,7 @@ def heights(context: Context) -> list[Sample]:
     return made("room", found, 0)
 
 
-def edge(context: Context, front: bytes) -> list[bytes]:
+def _edge(context: Context, front: bytes) -> list[bytes]:
     """This text above a last line that stands as low as it may, and above one that stands a row lower."""
     one = context.character()
     for between, count in itertools.product((9, 3, 0), range(8)):
@@ -185,10 +185,10 @@ def edge(context: Context, front: bytes) -> list[bytes]:
 def spacings(context: Context) -> list[Sample]:
     """Lines of two fonts, and lines without a character, with the gap of their spacings above and below."""
     one, found = context.character(), []
-    for (_, first), (_, second) in itertools.permutations(units(context), 2):
+    for (_, first), (_, second) in itertools.permutations(_units(context), 2):
         for line in (first + second, first[:-1]):
             below = one + b"[nl]" + line + b"[nl0][fo]" + one
-            found += edge(context, line + b"[nl][fo]" + one) + edge(context, below)
+            found += _edge(context, line + b"[nl][fo]" + one) + _edge(context, below)
     return made("room", found, 0)
 
 

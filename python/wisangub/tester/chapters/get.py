@@ -11,7 +11,7 @@ from wisangub.tester.requests.steps import Ask, Step, get, looks
 
 from .block import Block, Chapter, look, message
 
-NO_INSTANCES: list[Name] = [
+_NO_INSTANCES: list[Name] = [
     scalar("vmsSignHeightPixels")[:-1],
     scalar("vmsSignHeightPixels")[:-1] + (1,),
     scalar("vmsSignHeightPixels") + (0,),
@@ -50,7 +50,7 @@ NO_INSTANCES: list[Name] = [
 ]
 
 
-def no_rows(context: Context) -> list[Name]:
+def _no_rows(context: Context) -> list[Name]:
     """Cells of rows that the sign has not, by one."""
     rows = [
         (1, 1),
@@ -64,7 +64,7 @@ def no_rows(context: Context) -> list[Name]:
     return [cell(column, *row) for row in rows for column in (3, 9)]
 
 
-def rule_for(name: Name) -> str:
+def _rule_for(name: Name) -> str:
     """What the values of an object are to be by."""
     row = row_of(name)
     if row is not None and row[0] == 7:
@@ -76,21 +76,21 @@ def rule_for(name: Name) -> str:
     return rules.get(place, "values")
 
 
-def alike(names: list[Name]) -> list[tuple[str, list[Name]]]:
+def _alike(names: list[Name]) -> list[tuple[str, list[Name]]]:
     """The names by the rule of their values."""
     found: dict[str, list[Name]] = {}
     for name in names:
-        found.setdefault(rule_for(name), []).append(name)
+        found.setdefault(_rule_for(name), []).append(name)
     return list(found.items())
 
 
-def blocks(context: Context) -> Iterator[Block]:
-    for rule, names in alike(context.instances):
+def _blocks(context: Context) -> Iterator[Block]:
+    for rule, names in _alike(context.instances):
         for step in looks(names, share=40):
             yield Block("every instance", rule, [step])
     for step in looks(context.instances, rule="reader reads"):
         yield Block("every instance by the reader", "reader reads", [replace(step, is_writer=False)])
-    for name in NO_INSTANCES + no_rows(context):
+    for name in _NO_INSTANCES + _no_rows(context):
         yield Block("no instance", "get", [get(name), get(name, is_writer=False)])
     here, none = scalar("vmsSignHeightPixels"), instance(2, 5)
     lists: list[list[Name]] = [
@@ -115,14 +115,14 @@ def blocks(context: Context) -> Iterator[Block]:
             [*message(row, context.character(), b"owner", 0, 0, 7), *look(row)],
             True,
         )
-        yield Block("a row of a beacon", "checksum", filled(context, row), True)
+        yield Block("a row of a beacon", "checksum", _filled(context, row), True)
 
 
-def filled(context: Context, row: Row) -> list[Step]:
+def _filled(context: Context, row: Row) -> list[Step]:
     """A row that is valid with all that the sign has."""
     described = context.described
     text = context.character() + b"[np]" + context.character(1)
     return [*message(row, text, b"", int(described.beacons), int(described.pixels), 255), *look(row)]
 
 
-CHAPTER = Chapter("get", "Get", blocks)
+CHAPTER = Chapter("get", "Get", _blocks)

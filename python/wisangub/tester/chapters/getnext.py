@@ -11,7 +11,7 @@ from wisangub.tester.requests.steps import Ask, get_next
 from .block import Block, Chapter
 
 
-def gaps(names: list[Name]) -> list[Name]:
+def _gaps(names: list[Name]) -> list[Name]:
     """Names that are none: some in each gap between two instances, more where the object, column or memory changes."""
     found: list[Name] = []
     for first, second in zip(names, names[1:]):
@@ -23,7 +23,7 @@ def gaps(names: list[Name]) -> list[Name]:
     return found
 
 
-OUTSIDE: list[Name] = [
+_OUTSIDE: list[Name] = [
     (0, 0),
     (0, 39),
     (1, 0),
@@ -49,7 +49,7 @@ OUTSIDE: list[Name] = [
     DMS + (5, 8, 1, 5, 2, 1, 7),
     DMS + (5, 8, 1, 5, 6, 2**32 - 1),
 ]
-PAST: list[Name] = [
+_PAST: list[Name] = [
     DMS + (6, 24, 0),
     DMS + (6, 24, 0, 0),
     DMS + (6, 24, 1),
@@ -63,20 +63,20 @@ PAST: list[Name] = [
 ]
 
 
-def blocks(context: Context) -> Iterator[Block]:
+def _blocks(context: Context) -> Iterator[Block]:
     names = context.instances
     for at in range(0, len(names) - 1, 30):
         yield Block("after every instance", "getnext", [get_next(*names[at : min(at + 30, len(names) - 1)])])
     for at in range(0, len(names) - 1, 30):
         step = get_next(*names[at : min(at + 30, len(names) - 1)], is_writer=False)
         yield Block("after every instance by the reader", "reader reads", [step])
-    for name in OUTSIDE:
+    for name in _OUTSIDE:
         yield Block("before and between", "getnext", [get_next(name), get_next(name, is_writer=False)])
-    around = gaps(names)
+    around = _gaps(names)
     for at in range(0, len(around), 30):
         yield Block("over every gap", "order", [get_next(*around[at : at + 30])])
     here = scalar("vmsSignHeightPixels")
-    for name in PAST:
+    for name in _PAST:
         yield Block(
             "past the last",
             "getnext",
@@ -91,4 +91,4 @@ def blocks(context: Context) -> Iterator[Block]:
     yield Block("the greatest name", "getnext", [get_next((2, 5) + (2**32 - 1,) * 20)])
 
 
-CHAPTER = Chapter("getnext", "GetNext", blocks)
+CHAPTER = Chapter("getnext", "GetNext", _blocks)

@@ -10,7 +10,7 @@ from wisangub.tester.requests.steps import Step
 from .block import Block, Chapter, look, message, reports
 
 
-def against(context: Context, shown: Row, crc: int, priority: int) -> list[Step]:
+def _against(context: Context, shown: Row, crc: int, priority: int) -> list[Step]:
     """Something of this run-time priority is shown; codes with priorities around it."""
     around = [value for value in (0, 1, priority - 1, priority, priority + 1, 254, 255) if 0 <= value <= 255]
     tries: list[Step] = []
@@ -19,10 +19,13 @@ def against(context: Context, shown: Row, crc: int, priority: int) -> list[Step]
     return tries
 
 
-def blanks(context: Context) -> Iterator[Block]:
+def _blanks(context: Context) -> Iterator[Block]:
     for number in (1, 2, 100, 128, 254, 255):
         yield Block(
-            f"blank message {number} is shown", "priority", against(context, Row(Memory.BLANK, number), 0, number), True
+            f"blank message {number} is shown",
+            "priority",
+            _against(context, Row(Memory.BLANK, number), 0, number),
+            True,
         )
     low = [
         activate(context.blank_code(200, 255)),
@@ -43,7 +46,7 @@ def blanks(context: Context) -> Iterator[Block]:
     yield Block("a code of the current buffer", "priority", buffer, True)
 
 
-def order(context: Context) -> Iterator[Block]:
+def _order(context: Context) -> Iterator[Block]:
     """The checksum is looked at before the priority."""
     shown = activate(context.blank_code(200, 255))
     for row, held in zip(context.permanent[:1], context.described.permanent):
@@ -56,21 +59,21 @@ def order(context: Context) -> Iterator[Block]:
             activate(context.code(row, crc, 200)),
         ]
         yield Block("a checksum and a priority", "priority", [shown, *tries, reports()], True)
-        yield Block("a permanent message is shown", "priority", against(context, row, crc, held.priority), True)
+        yield Block("a permanent message is shown", "priority", _against(context, row, crc, held.priority), True)
 
 
-def rows(context: Context, row: Row) -> Iterator[Block]:
+def _rows(context: Context, row: Row) -> Iterator[Block]:
     text = context.character()
     for priority in (1, 120, 255) if context.is_slow else (1, 255):
         steps = [
             *message(row, text, b"", 0, 0, priority),
-            *against(context, row, context.crc(text), priority),
+            *_against(context, row, context.crc(text), priority),
             *look(row),
         ]
         yield Block(f"a row of priority {priority} is shown", "priority", steps, True)
 
 
-def of_a_row(context: Context, row: Row) -> Iterator[Block]:
+def _of_a_row(context: Context, row: Row) -> Iterator[Block]:
     """A row is activated with priorities around what is shown."""
     text = context.character()
     crc = context.crc(text)
@@ -79,13 +82,13 @@ def of_a_row(context: Context, row: Row) -> Iterator[Block]:
     yield Block("a code of a row", "priority", steps, True)
 
 
-def blocks(context: Context) -> Iterator[Block]:
-    yield from blanks(context)
-    yield from order(context)
+def _blocks(context: Context) -> Iterator[Block]:
+    yield from _blanks(context)
+    yield from _order(context)
     for row in context.rows[:1]:
-        yield from rows(context, row)
+        yield from _rows(context, row)
     for row in dict.fromkeys((*context.rows[:1], *context.rows[-1:])):
-        yield from of_a_row(context, row)
+        yield from _of_a_row(context, row)
 
 
-CHAPTER = Chapter("priorities", "Priorities", blocks)
+CHAPTER = Chapter("priorities", "Priorities", _blocks)

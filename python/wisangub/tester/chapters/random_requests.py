@@ -11,8 +11,8 @@ from wisangub.tester.requests.steps import Ask, Raw, Step, Wait
 from .block import Block, Chapter, look
 from .random_values import Values
 
-LENGTH = 60  # requests of a sequence
-MOST_OCTETS = 4096  # of a hostile datagram
+_LENGTH = 60  # requests of a sequence
+_MOST_OCTETS = 4096  # of a hostile datagram
 
 
 class Requests(Values):
@@ -56,7 +56,7 @@ class Requests(Values):
             made = self.maker.message(self.maker.one([wire.GET, wire.GET, wire.GET_NEXT, wire.SET]), number)
             for _ in range(self.maker.one([0, 0, 1, 1, 2])):
                 made = self.maker.changed(made)
-            return made[:MOST_OCTETS]
+            return made[:_MOST_OCTETS]
 
         return Raw(make)
 
@@ -97,14 +97,14 @@ class Requests(Values):
         return [*steps[:length], *look(*self.rows)]
 
 
-def blocks(context: Context) -> Iterator[Block]:
+def _blocks(context: Context) -> Iterator[Block]:
     done, number = 0, 0
     while done < context.requests:
         requests = Requests(context, context.seed * 1_000_003 + number)
-        steps = requests.sequence(min(LENGTH, context.requests - done))
+        steps = requests.sequence(min(_LENGTH, context.requests - done))
         done += sum(not isinstance(step, Wait) for step in steps)
         number += 1
         yield Block(f"random requests, sequence {number}", "", steps, True)
 
 
-CHAPTER = Chapter("random", "Random requests", blocks)
+CHAPTER = Chapter("random", "Random requests", _blocks)

@@ -22,9 +22,9 @@ from wisangub.tester.requests.objects import (
     word_of,
 )
 
-BOUNDS = [*range(13), 100, 127, 128, 254, 255, 256, 65534, 65535, 65536, -1, 2**31 - 1, 2**32 - 1]
+_BOUNDS = [*range(13), 100, 127, 128, 254, 255, 256, 65534, 65535, 65536, -1, 2**31 - 1, 2**32 - 1]
 # of the defaults that do not go from 0 to 255; few fonts, so that some are there
-LIMITS = {
+_LIMITS = {
     "defaultBackgroundColor": (0, 9),
     "defaultForegroundColor": (0, 9),
     "defaultFont": (0, 4),
@@ -32,7 +32,7 @@ LIMITS = {
     "defaultJustificationPage": (2, 4),
     "dmsShortPowerLossTime": (0, 65535),
 }
-TAGS = [wire.INTEGER, wire.OCTETS, wire.NULL, wire.ADDRESS, wire.COUNTER, wire.OPAQUE, wire.NAME]
+_TAGS = [wire.INTEGER, wire.OCTETS, wire.NULL, wire.ADDRESS, wire.COUNTER, wire.OPAQUE, wire.NAME]
 
 
 class Values:
@@ -82,9 +82,9 @@ class Values:
 
     def wild(self) -> Value:
         """A value of any type."""
-        tag = self.chance.choice(TAGS)
+        tag = self.chance.choice(_TAGS)
         if tag == wire.INTEGER:
-            return integer(self.chance.choice(BOUNDS))
+            return integer(self.chance.choice(_BOUNDS))
         if tag == wire.COUNTER:
             return tag, self.chance.choice([0, 1, 255])
         if tag == wire.NAME:
@@ -100,7 +100,7 @@ class Values:
             return name, self.wild()
         if name in OWN_CODES:
             return name, octets(self.message_code())
-        least, most = LIMITS.get(word_of(name), (0, 255))
+        least, most = _LIMITS.get(word_of(name), (0, 255))
         return name, integer(self.chance.choice([least, most, self.chance.randint(least, most), most + 1]))
 
     def field(self, row: Row) -> Binding:

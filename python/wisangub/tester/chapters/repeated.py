@@ -11,16 +11,16 @@ from wisangub.tester.requests.steps import Ask, Step, Wait, get, get_next, put
 
 from .block import Block, Chapter, fill, look, look_at, modify, unuse
 
-GROUPS = itertools.count(1)
+_GROUPS = itertools.count(1)
 
 
-def again(ask: Ask, times: int = 2) -> list[Step]:
+def _again(ask: Ask, times: int = 2) -> list[Step]:
     """The same octets so many times."""
-    group = next(GROUPS)
+    group = next(_GROUPS)
     return [replace(ask, group=group)] * times
 
 
-def scalars(context: Context) -> Iterator[Block]:
+def _scalars(context: Context) -> Iterator[Block]:
     for ask in (
         get(scalar("vmsSignHeightPixels")),
         get_next(scalar("vmsSignHeightPixels")),
@@ -28,8 +28,8 @@ def scalars(context: Context) -> Iterator[Block]:
         put((scalar("defaultPageOnTime"), integer(9))),
         put((scalar("defaultPageOnTime"), integer(256))),
     ):
-        yield Block("a request repeated", "repeated", [*again(ask, 3), look_at(scalar("defaultPageOnTime"))])
-    number = next(GROUPS)
+        yield Block("a request repeated", "repeated", [*_again(ask, 3), look_at(scalar("defaultPageOnTime"))])
+    number = next(_GROUPS)
     read, writes = get(scalar("defaultPageOnTime")), [
         put((scalar("defaultPageOnTime"), integer(value))) for value in (9, 10)
     ]
@@ -47,8 +47,8 @@ def scalars(context: Context) -> Iterator[Block]:
         "other requests with one number", "not looked at", [*shared, look_at(scalar("defaultPageOnTime"))], True
     )
     first, second = (
-        again(put((scalar("defaultPageOnTime"), integer(1))))[0],
-        again(put((scalar("defaultPageOnTime"), integer(2))))[0],
+        _again(put((scalar("defaultPageOnTime"), integer(1))))[0],
+        _again(put((scalar("defaultPageOnTime"), integer(2))))[0],
     )
     yield Block(
         "an earlier request comes late",
@@ -57,37 +57,37 @@ def scalars(context: Context) -> Iterator[Block]:
         True,
     )
     blank, refused = activate(context.blank_code(5, 255)), activate(context.code(Row(9, 1), 0x77))
-    low, high = again(activate(context.blank_code(3, 3)))[0], again(activate(context.blank_code(9, 255)))[0]
+    low, high = _again(activate(context.blank_code(3, 3)))[0], _again(activate(context.blank_code(9, 255)))[0]
     yield Block(
         "an activation repeated",
         "repeated",
-        [*again(blank), *look(), *again(refused), *look(), *again(blank), *look()],
+        [*_again(blank), *look(), *_again(refused), *look(), *_again(blank), *look()],
         True,
     )
     yield Block("an activation that comes late", "repeated", [low, high, low, *look()], True)
     yield Block(
         "0 minutes repeated",
         "repeated",
-        [put((scalar("dmsEndDurationMessage"), octets(b"\7\0\7\0\0"))), *again(put(remaining(0))), *look()],
+        [put((scalar("dmsEndDurationMessage"), octets(b"\7\0\7\0\0"))), *_again(put(remaining(0))), *look()],
         True,
     )
 
 
-def rows(context: Context, row: Row) -> Iterator[Block]:
+def _rows(context: Context, row: Row) -> Iterator[Block]:
     filled = fill(row, context.character())
-    validate = again(put(row.status(RowStatus.VALIDATE_REQ)))
-    early: list[Step] = [filled, *again(put(row.status(RowStatus.VALIDATE_REQ))), *again(modify(row)), *look(row)]
+    validate = _again(put(row.status(RowStatus.VALIDATE_REQ)))
+    early: list[Step] = [filled, *_again(put(row.status(RowStatus.VALIDATE_REQ))), *_again(modify(row)), *look(row)]
     yield Block("a publication out of order", "repeated", early, True)
-    twice: list[Step] = [*again(modify(row)), *again(filled), Wait(0), *validate, Wait(1), *look(row)]
+    twice: list[Step] = [*_again(modify(row)), *_again(filled), Wait(0), *validate, Wait(1), *look(row)]
     yield Block("commands of a row repeated", "repeated", twice, True)
-    late: list[Step] = [validate[0], look_at(row.cell(Column.STATUS)), *again(unuse(row)), validate[0], *look(row)]
+    late: list[Step] = [validate[0], look_at(row.cell(Column.STATUS)), *_again(unuse(row)), validate[0], *look(row)]
     yield Block("a validation that comes late", "repeated", late)
 
 
-def blocks(context: Context) -> Iterator[Block]:
-    yield from scalars(context)
+def _blocks(context: Context) -> Iterator[Block]:
+    yield from _scalars(context)
     for row in context.rows[:1]:
-        yield from rows(context, row)
+        yield from _rows(context, row)
 
 
-CHAPTER = Chapter("repeated", "Repeated and out of order", blocks)
+CHAPTER = Chapter("repeated", "Repeated and out of order", _blocks)

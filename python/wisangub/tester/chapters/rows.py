@@ -9,10 +9,10 @@ from wisangub.tester.requests.steps import Step, Wait, put
 
 from .block import Block, Chapter, fill, look, look_at, message, modify, settle, unuse, validate
 
-BAD_TEXT = b"[zz]"
+_BAD_TEXT = b"[zz]"
 
 
-def reaching(context: Context, row: Row, status: int) -> list[Step]:
+def _reaching(context: Context, row: Row, status: int) -> list[Step]:
     """Steps that bring a row that is not used to a status."""
     text = context.character()
     if status == 1:
@@ -20,16 +20,16 @@ def reaching(context: Context, row: Row, status: int) -> list[Step]:
     if status in (2, 3):
         filled: list[Step] = [modify(row), fill(row, text, b"me", 0, 0, 9)]
         return filled + ([Wait(0), validate(row)] if status == 3 else [])
-    return message(row, text if status == 4 else BAD_TEXT, b"me", 0, 0, 9)
+    return message(row, text if status == 4 else _BAD_TEXT, b"me", 0, 0, 9)
 
 
-def writes(row: Row) -> list[Step]:
+def _writes(row: Row) -> list[Step]:
     """A SET for each field."""
     fields = [row.text(b"A"), row.owner(b"B"), row.beacon(0), row.pixel(0), row.priority(3)]
     return [put(bound, rule="fields") for bound in fields]
 
 
-def transitions(context: Context, row: Row, is_settled: bool = True) -> Iterator[Block]:
+def _transitions(context: Context, row: Row, is_settled: bool = True) -> Iterator[Block]:
     """Each status asked for each command; those after a validation only where ticks are waited for."""
     asks = {value: put(row.status(value)) for value in (6, 7, 8)}
     for status in (1, 2):
@@ -37,22 +37,22 @@ def transitions(context: Context, row: Row, is_settled: bool = True) -> Iterator
             if (status, value) == (2, 7):  # as the block of status 3 begins
                 continue
             yield Block(
-                f"status {status} asked {value}", "statuses", [*reaching(context, row, status), ask, *look(row)], True
+                f"status {status} asked {value}", "statuses", [*_reaching(context, row, status), ask, *look(row)], True
             )
         yield Block(
-            f"status {status}: fields", "fields", [*reaching(context, row, status), *writes(row), *look(row)], True
+            f"status {status}: fields", "fields", [*_reaching(context, row, status), *_writes(row), *look(row)], True
         )
-    refused = [step for ask in (*asks.values(), *writes(row)) for step in (ask, look_at(row.cell(Column.STATUS)))]
-    yield Block("status 3 asked and written", "statuses", [*reaching(context, row, 3), *refused, *look(row)], True)
+    refused = [step for ask in (*asks.values(), *_writes(row)) for step in (ask, look_at(row.cell(Column.STATUS)))]
+    yield Block("status 3 asked and written", "statuses", [*_reaching(context, row, 3), *refused, *look(row)], True)
     # a valid row is emptied in `counts`, one in error modified in `settling`
     for status, last in ((4, 6), (5, 8)) if is_settled else ():
-        steps = [*reaching(context, row, status), *writes(row), *look(row)]
+        steps = [*_reaching(context, row, status), *_writes(row), *look(row)]
         yield Block(f"status {status}: fields", "fields", steps, True)
         steps = [asks[7], *look(row), Wait(1), *look(row), asks[last], *look(row)]
         yield Block(f"status {status} asked 7, and {last}", "statuses", steps)
 
 
-def two_rows(context: Context, row: Row, other: Row) -> Iterator[Block]:
+def _two_rows(context: Context, row: Row, other: Row) -> Iterator[Block]:
     text = context.character()
     begun: list[Step] = [modify(row), fill(row, text), modify(other), fill(other, text), Wait(0), validate(row)]
     tried: list[Step] = [
@@ -69,7 +69,7 @@ def two_rows(context: Context, row: Row, other: Row) -> Iterator[Block]:
     yield Block("one after the other", "one validates", [*settle(other), *look(row, other)])
 
 
-def emptied(context: Context, row: Row) -> Iterator[Block]:
+def _emptied(context: Context, row: Row) -> Iterator[Block]:
     filled = [modify(row), fill(row, b"A" * 20, b"owner", 1, 1, 200)]
     yield Block("a row that is emptied", "emptied", [*filled, unuse(row), *look(row, rule="emptied")], True)
     yield Block(
@@ -87,7 +87,7 @@ def emptied(context: Context, row: Row) -> Iterator[Block]:
     yield Block("a valid row that is modified", "statuses", kept, True)
 
 
-def apart(context: Context, row: Row, other: Row) -> Iterator[Block]:
+def _apart(context: Context, row: Row, other: Row) -> Iterator[Block]:
     """What one row is asked leaves another as it is."""
     text = context.character()
     begun: list[Step] = [modify(row), fill(row, text, b"me"), modify(other), fill(other, text, b"you")]
@@ -95,7 +95,7 @@ def apart(context: Context, row: Row, other: Row) -> Iterator[Block]:
     yield Block("one of two rows is emptied", "statuses", [*begun, *look(row, other), *asked], True)
 
 
-def counts(context: Context) -> Iterator[Block]:
+def _counts(context: Context) -> Iterator[Block]:
     for memory in (3, 4):
         rows = [row for row in context.rows if row.memory == memory]
         if not rows:
@@ -118,28 +118,28 @@ def counts(context: Context) -> Iterator[Block]:
         yield Block("how many rows there are", "counts", steps, True)
 
 
-def settling(context: Context, row: Row) -> Iterator[Block]:
+def _settling(context: Context, row: Row) -> Iterator[Block]:
     """The tick at which a row settles; with --slow the next one too, at which nothing happens."""
-    begun: list[Step] = [modify(row), fill(row, BAD_TEXT), Wait(0), validate(row), *look(row), Wait(1), *look(row)]
+    begun: list[Step] = [modify(row), fill(row, _BAD_TEXT), Wait(0), validate(row), *look(row), Wait(1), *look(row)]
     yield Block("a row settles at a tick", "settled", begun, True)
     yield Block("nothing settles twice", "settled", [Wait(int(context.is_slow)), *look(row), modify(row), *look(row)])
 
 
-def blocks(context: Context) -> Iterator[Block]:
+def _blocks(context: Context) -> Iterator[Block]:
     rows = context.rows
     if not rows:
         return
     first, last = rows[0], rows[-1]
-    yield from emptied(context, first)
-    yield from transitions(context, first)
+    yield from _emptied(context, first)
+    yield from _transitions(context, first)
     if last != first:
-        yield from transitions(context, last, context.is_slow)
-        yield from two_rows(context, first, last)
-        yield from apart(context, first, last)
+        yield from _transitions(context, last, context.is_slow)
+        yield from _two_rows(context, first, last)
+        yield from _apart(context, first, last)
     if len(rows) > 2 and context.is_slow:
-        yield from two_rows(context, first, rows[1])
-    yield from counts(context)
-    yield from settling(context, last)
+        yield from _two_rows(context, first, rows[1])
+    yield from _counts(context)
+    yield from _settling(context, last)
 
 
-CHAPTER = Chapter("rows", "A row's statuses", blocks)
+CHAPTER = Chapter("rows", "A row's statuses", _blocks)

@@ -24,14 +24,14 @@ from .block import Block, Chapter, alone, look, look_at, message, modify
 from .sets_values import RANGES, cells, scalars
 from .telling import Telling, telling
 
-READ_ONLY: list[Name] = [
+_READ_ONLY: list[Name] = [
     scalar("vmsSignHeightPixels"),
     scalar("vmsSignWidthPixels"),
     scalar("dmsColorScheme"),
     *COUNTS,
     *[scalar(word) for word in REPORTS if word not in COMMANDS],
 ]
-NOTHING: list[Name] = [
+_NOTHING: list[Name] = [
     instance(4, 10),
     instance(6, 11),
     scalar("dmsActivateMessage")[:-1],
@@ -41,9 +41,9 @@ NOTHING: list[Name] = [
 ]
 
 
-def refused_names(context: Context) -> Iterator[Block]:
-    yield Block("not to be written", "not to be written", alone([(name, integer(1)) for name in READ_ONLY + NOTHING]))
-    yield Block("not to be written", "not to be written", alone([(name, octets(bytes(5))) for name in READ_ONLY]))
+def _refused_names(context: Context) -> Iterator[Block]:
+    yield Block("not to be written", "not to be written", alone([(name, integer(1)) for name in _READ_ONLY + _NOTHING]))
+    yield Block("not to be written", "not to be written", alone([(name, octets(bytes(5))) for name in _READ_ONLY]))
     rows = [
         (2, 1),
         (5, 1),
@@ -70,7 +70,7 @@ def refused_names(context: Context) -> Iterator[Block]:
         yield Block("columns that are not written", "not to be written", [modify(row), *alone(fixed), *look(row)], True)
 
 
-def causes(context: Context) -> Iterator[Block]:
+def _causes(context: Context) -> Iterator[Block]:
     """Bindings with each cause, in pairs, in each order."""
     wrong: dict[str, Binding] = {
         "noSuchName": (scalar("vmsSignHeightPixels"), integer(1)),
@@ -91,7 +91,7 @@ def causes(context: Context) -> Iterator[Block]:
     yield Block("nothing of it was written", "order of causes", look(*context.rows[:1]))
 
 
-def twice(context: Context) -> Iterator[Block]:
+def _twice(context: Context) -> Iterator[Block]:
     """A name twice, and two commands."""
     good, bad = (scalar("defaultPageOnTime"), integer(11)), (scalar("defaultPageOnTime"), integer(256))
     nowhere = (instance(2, 5), integer(1))
@@ -131,7 +131,7 @@ def twice(context: Context) -> Iterator[Block]:
     yield Block("two commands", "twice", [*[put(*bound) for bound in commands], *look(*context.rows[:1])])
 
 
-def everything(context: Context) -> list[Step]:
+def _everything(context: Context) -> list[Step]:
     """All that may be written and the fields of some rows, with a command, in one SET."""
     rows = context.rows[:4]
     bound: list[Binding] = [(name, integer(least)) for name, least, _ in RANGES]
@@ -142,10 +142,10 @@ def everything(context: Context) -> list[Step]:
     return [*[modify(row) for row in rows], put(*bound, remaining(9)), *look(*rows)]
 
 
-def together(context: Context) -> Iterator[Block]:
+def _together(context: Context) -> Iterator[Block]:
     many: list[Binding] = [(name, integer(least)) for name, least, _ in RANGES if name != scalar("dmsTimeCommLoss")]
     yield Block("all at once", "set", [put(*many), *look()], True)
-    yield Block("as much as may be written at once", "set", everything(context), True)
+    yield Block("as much as may be written at once", "set", _everything(context), True)
     bad: list[Binding] = [(name, integer(most)) for name, _, most in RANGES] + [
         (scalar("defaultBackgroundColor"), integer(10))
     ]
@@ -199,10 +199,10 @@ def together(context: Context) -> Iterator[Block]:
     ]
     yield Block("a command between", "set", order, True)
     for held in telling(context)[:1]:
-        yield Block("a default and an activation at once", "set", under_default(context, row, held), True)
+        yield Block("a default and an activation at once", "set", _under_default(context, row, held), True)
 
 
-def under_default(context: Context, row: Row, held: Telling) -> list[Step]:
+def _under_default(context: Context, row: Row, held: Telling) -> list[Step]:
     """An activation is judged under the default that is written with it."""
     code = activation(context.code(row, context.crc(held.text)))
     good, bad = put(*held.good.bindings, code), put(*held.bad.bindings, code, rule="fits now")
@@ -210,14 +210,14 @@ def under_default(context: Context, row: Row, held: Telling) -> list[Step]:
     return [*steps, activate(context.blank_code(1)), bad, *look()]
 
 
-def blocks(context: Context) -> Iterator[Block]:
+def _blocks(context: Context) -> Iterator[Block]:
     yield from scalars(context)
-    yield from refused_names(context)
+    yield from _refused_names(context)
     for row in dict.fromkeys((*context.rows[:1], *context.rows[-1:])):
         yield from cells(context, row)
-    yield from causes(context)
-    yield from twice(context)
-    yield from together(context)
+    yield from _causes(context)
+    yield from _twice(context)
+    yield from _together(context)
 
 
-CHAPTER = Chapter("set", "SET", blocks)
+CHAPTER = Chapter("set", "SET", _blocks)

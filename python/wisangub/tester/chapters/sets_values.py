@@ -22,8 +22,8 @@ RANGES: list[tuple[Name, int, int]] = [
     (scalar("dmsShortPowerLossTime"), 0, 65535),
     (scalar("dmsTimeCommLoss"), 0, 65535),
 ]
-CELL_RANGES = {6: (0, 1), 7: (0, 1), 8: (1, 255)}
-OTHER_TYPES: list[Value] = [
+_CELL_RANGES = {6: (0, 1), 7: (0, 1), 8: (1, 255)}
+_OTHER_TYPES: list[Value] = [
     octets(b"\3"),
     octets(b""),
     NULL,
@@ -36,7 +36,7 @@ OTHER_TYPES: list[Value] = [
 ]
 
 
-def around(name: Name, least: int, most: int) -> list[Binding]:
+def _around(name: Name, least: int, most: int) -> list[Binding]:
     """Values at each end and one past it, and some far away."""
     return [
         (name, integer(value))
@@ -59,7 +59,7 @@ def around(name: Name, least: int, most: int) -> list[Binding]:
 def scalars(context: Context) -> Iterator[Block]:
     for name, least, most in RANGES:
         yield Block(
-            "ranges", "ranges", [step for bound in around(name, least, most) for step in (put(bound), look_at(name))]
+            "ranges", "ranges", [step for bound in _around(name, least, most) for step in (put(bound), look_at(name))]
         )
     fonts = {font.number for font in context.described.face.fonts}
     numbers = [0, 1, 255, 256, -1, *sorted(fonts), *[number for number in range(1, 7) if number not in fonts]]
@@ -73,7 +73,7 @@ def scalars(context: Context) -> Iterator[Block]:
         ],
     )
     for name in [*[name for name, _, _ in RANGES], scalar("defaultFont"), scalar("dmsMessageTimeRemaining")]:
-        yield Block("types", "bad value", alone([(name, value) for value in OTHER_TYPES]))
+        yield Block("types", "bad value", alone([(name, value) for value in _OTHER_TYPES]))
     yield Block("after that", "bad value", look())
     for name in OWN_CODES:
         good: list[Binding] = [(name, octets(code)) for code in (b"\7\0\2\0\0", bytes(5), b"\xff" * 5, b"\3\0\1\1\2")]
@@ -97,7 +97,9 @@ def scalars(context: Context) -> Iterator[Block]:
 
 
 def cells(context: Context, row: Row) -> Iterator[Block]:
-    bounds = [bound for column, (least, most) in CELL_RANGES.items() for bound in around(row.cell(column), least, most)]
+    bounds = [
+        bound for column, (least, most) in _CELL_RANGES.items() for bound in _around(row.cell(column), least, most)
+    ]
     yield Block(
         "ranges of fields",
         "ranges",
@@ -117,7 +119,7 @@ def cells(context: Context, row: Row) -> Iterator[Block]:
     types = [
         (row.cell(column), value)
         for column in (3, 4, 6, 7, 8, 9)
-        for value in OTHER_TYPES
+        for value in _OTHER_TYPES
         if column not in (3, 4) or value[0] != wire.OCTETS
     ]
     yield Block(

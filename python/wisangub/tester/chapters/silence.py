@@ -12,17 +12,17 @@ from wisangub.tester.requests.steps import Ask, Raw, Step, Wait, fixed, get, get
 from .block import Block, Chapter, look, reports
 
 
-def limit(minutes: int) -> Binding:
+def _limit(minutes: int) -> Binding:
     return scalar("dmsTimeCommLoss"), integer(minutes)
 
 
-def begun(context: Context, code: bytes, minutes: int = 1) -> list[Step]:
+def _begun(context: Context, code: bytes, minutes: int = 1) -> list[Step]:
     """Something is shown, and the silence counts from here on."""
     shown = activate(context.blank_code(200, 255, 65535, bytes([10, 9, 8, 7])))
-    return [put((scalar("dmsCommunicationsLossMessage"), octets(code))), shown, Wait(1), put(limit(minutes))]
+    return [put((scalar("dmsCommunicationsLossMessage"), octets(code))), shown, Wait(1), put(_limit(minutes))]
 
 
-def dropped(community: bytes) -> Raw:
+def _dropped(community: bytes) -> Raw:
     """A Get that is not answered, and nothing after it."""
 
     def make(number: int, _: tuple[bytes, bytes]) -> bytes:
@@ -31,7 +31,7 @@ def dropped(community: bytes) -> Raw:
     return Raw(make, is_quiet=True)
 
 
-def response() -> Raw:
+def _response() -> Raw:
     """A Response in the writer's community, and nothing after it."""
 
     def make(number: int, communities: tuple[bytes, bytes]) -> bytes:
@@ -43,41 +43,50 @@ def response() -> Raw:
     return Raw(make, is_quiet=True)
 
 
-def blocks(context: Context) -> Iterator[Block]:
+def _blocks(context: Context) -> Iterator[Block]:
     blank = context.message_code(Row(Memory.BLANK, 7), 0)
-    yield from silences(context, blank)
-    yield from heard(context, blank)
-    yield Block("a code that is refused", "own refused", [*begun(context, b"\6\0\1\0\0"), Wait(60), *look()], True)
+    yield from _silences(context, blank)
+    yield from _heard(context, blank)
+    yield Block("a code that is refused", "own refused", [*_begun(context, b"\6\0\1\0\0"), Wait(60), *look()], True)
     yield Block(
-        "a code of the current buffer", "own current", [*begun(context, b"\5\0\1\0\0"), Wait(60), *look()], True
+        "a code of the current buffer", "own current", [*_begun(context, b"\5\0\1\0\0"), Wait(60), *look()], True
     )
-    yield from acted(context, blank)
-    yield from at_one_tick(context, blank)
+    yield from _acted(context, blank)
+    yield from _at_one_tick(context, blank)
 
 
-def silences(context: Context, blank: bytes) -> Iterator[Block]:
+def _silences(context: Context, blank: bytes) -> Iterator[Block]:
     """What is no answer lets a silence go on."""
-    short: list[Step] = [*begun(context, blank), Wait(59), reports(), Wait(59), reports(), Wait(60), reports(), *look()]
+    short: list[Step] = [
+        *_begun(context, blank),
+        Wait(59),
+        reports(),
+        Wait(59),
+        reports(),
+        Wait(60),
+        reports(),
+        *look(),
+    ]
     yield Block("a minute of silence", "silence", short, True)
-    quiet: list[Step] = [dropped(b"nobody"), replace(fixed(b"\x30\0"), is_quiet=True), response(), dropped(b"")]
+    quiet: list[Step] = [_dropped(b"nobody"), replace(fixed(b"\x30\0"), is_quiet=True), _response(), _dropped(b"")]
     waits: list[Step] = [step for ask in quiet for step in (Wait(12), ask)]
     yield Block(
-        "a datagram that is dropped is silence", "heard", [*begun(context, blank), *waits, Wait(12), *look()], True
+        "a datagram that is dropped is silence", "heard", [*_begun(context, blank), *waits, Wait(12), *look()], True
     )
 
 
-def heard(context: Context, blank: bytes) -> Iterator[Block]:
+def _heard(context: Context, blank: bytes) -> Iterator[Block]:
     """What is answered ends a silence, an error too."""
     refused = Ask(wire.SET, ((scalar("vmsSignHeightPixels"), integer(1)),))
     yield Block(
         "an error is no silence",
         "heard",
-        [*begun(context, blank), Wait(30), refused, Wait(59), reports(), Wait(60), reports()],
+        [*_begun(context, blank), Wait(30), refused, Wait(59), reports(), Wait(60), reports()],
         True,
     )
     reader = get(scalar("vmsSignHeightPixels"), is_writer=False)
     yield Block(
-        "the reader is no silence", "heard", [*begun(context, blank), Wait(30), reader, Wait(59), reports()], True
+        "the reader is no silence", "heard", [*_begun(context, blank), Wait(30), reader, Wait(59), reports()], True
     )
     answered: list[Step] = [
         get_next(scalar("vmsSignHeightPixels")),
@@ -90,37 +99,39 @@ def heard(context: Context, blank: bytes) -> Iterator[Block]:
         get(*[scalar("dmsActivateMessage")] * 60),
     ]
     asked: list[Step] = [step for ask in answered for step in (Wait(30), ask)]
-    steps = [*begun(context, blank), *asked, Wait(59), reports(), Wait(60), reports()]
+    steps = [*_begun(context, blank), *asked, Wait(59), reports(), Wait(60), reports()]
     yield Block("no answer is silence", "heard", steps, True)
 
 
-def acted(context: Context, blank: bytes) -> Iterator[Block]:
+def _acted(context: Context, blank: bytes) -> Iterator[Block]:
     """What a silence does it does once, and at its limit."""
     yield Block(
         "a silence acts once",
         "silence once",
-        [*begun(context, blank), Wait(60), reports(), Wait(60), reports(), Wait(30), reports()],
+        [*_begun(context, blank), Wait(60), reports(), Wait(60), reports(), Wait(30), reports()],
         True,
     )
     again = activate(context.blank_code(200, 255, 65535, bytes([10, 9, 8, 7])))
     yield Block(
         "a silence after a silence",
         "silence once",
-        [*begun(context, blank), Wait(60), again, Wait(59), reports(), Wait(60), reports()],
+        [*_begun(context, blank), Wait(60), again, Wait(59), reports(), Wait(60), reports()],
         True,
     )
-    yield Block("two minutes", "silence", [*begun(context, blank, 2), Wait(119), reports(), Wait(120), reports()], True)
-    yield Block("no limit", "silence", [*begun(context, blank, 0), Wait(125), *look()], True)
+    yield Block(
+        "two minutes", "silence", [*_begun(context, blank, 2), Wait(119), reports(), Wait(120), reports()], True
+    )
+    yield Block("no limit", "silence", [*_begun(context, blank, 0), Wait(125), *look()], True)
 
 
-def at_one_tick(context: Context, blank: bytes) -> Iterator[Block]:
+def _at_one_tick(context: Context, blank: bytes) -> Iterator[Block]:
     ends: list[Step] = [
         put(
             (scalar("dmsEndDurationMessage"), octets(blank)),
             (scalar("dmsCommunicationsLossMessage"), octets(b"\5\0\1\0\0")),
         ),
         Wait(1),
-        put((scalar("dmsActivateMessage"), octets(context.blank_code(200, 255, 1))), limit(1)),
+        put((scalar("dmsActivateMessage"), octets(context.blank_code(200, 255, 1))), _limit(1)),
         Wait(60),
         *look(),
     ]
@@ -131,9 +142,9 @@ def at_one_tick(context: Context, blank: bytes) -> Iterator[Block]:
     before: list[Step] = [
         put((scalar("dmsCommunicationsLossMessage"), octets(blank))),
         Wait(1),
-        put((scalar("dmsActivateMessage"), octets(shown)), limit(1)),
+        put((scalar("dmsActivateMessage"), octets(shown)), _limit(1)),
     ]
     yield Block("a silence before an end", "silence", [*before, Wait(59), reports(), Wait(60), *look()], True)
 
 
-CHAPTER = Chapter("silence", "Silence", blocks, is_slow=True)
+CHAPTER = Chapter("silence", "Silence", _blocks, is_slow=True)

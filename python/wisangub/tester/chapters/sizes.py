@@ -10,18 +10,18 @@ from wisangub.tester.requests.steps import FIRST_NUMBER, Ask, Step, get, get_nex
 
 from .block import Block, Chapter, look, modify
 
-MOST = wire.MOST_DATAGRAM
+_MOST = wire.MOST_DATAGRAM
 
 
-def size(context: Context, bindings: Sequence[Binding]) -> int:
+def _size(context: Context, bindings: Sequence[Binding]) -> int:
     """How long a Response of the writer's with these bindings is."""
     return len(wire.written(wire.Message(wire.RESPONSE, context.communities[1], FIRST_NUMBER, 0, 0, list(bindings))))
 
 
-FILLER = scalar("dmsEndDurationMessage")  # five octets in the known state
+_FILLER = scalar("dmsEndDurationMessage")  # five octets in the known state
 
 
-def owner_for(context: Context, row: Row, total: int) -> tuple[list[Name], bytes] | None:
+def _owner_for(context: Context, row: Row, total: int) -> tuple[list[Name], bytes] | None:
     """Names, and the owner with which a read of them is so long."""
     text, filler = octets(b"A" * 512), octets(context.message_code(Row(Memory.BLANK, 1), 0))
     for fillers in range(40):
@@ -31,9 +31,9 @@ def owner_for(context: Context, row: Row, total: int) -> tuple[list[Name], bytes
                 (row.cell(Column.TEXT), text),
                 (row.cell(Column.TEXT), text),
                 (row.cell(Column.OWNER), octets(owner)),
-                *[(FILLER, filler)] * fillers,
+                *[(_FILLER, filler)] * fillers,
             ]
-            reached = size(context, held)
+            reached = _size(context, held)
             if reached == total:
                 return [name for name, _ in held], owner
             if reached + 127 - length < total:
@@ -41,21 +41,21 @@ def owner_for(context: Context, row: Row, total: int) -> tuple[list[Name], bytes
     return None
 
 
-def before(name: Name) -> Name:
+def _before(name: Name) -> Name:
     """A name whose next instance is this one, in the first row of its memory or a scalar."""
-    return scalar("dmsPowerLossMessage") if name == FILLER else (*name[:-1], name[-1] - 1)
+    return scalar("dmsPowerLossMessage") if name == _FILLER else (*name[:-1], name[-1] - 1)
 
 
-def reads(context: Context, row: Row) -> Iterator[Block]:
+def _reads(context: Context, row: Row) -> Iterator[Block]:
     text = b"A" * 512
-    for total in (MOST - 1, MOST, MOST + 1, MOST + 2):
-        found = owner_for(context, row, total)
+    for total in (_MOST - 1, _MOST, _MOST + 1, _MOST + 2):
+        found = _owner_for(context, row, total)
         if found is None:
             continue
         names, owner = found
         prepared: list[Step] = [modify(row), put(row.text(text), row.owner(owner))]
         yield Block(f"a Get of {total} octets", "too big", [*prepared, get(*names)], True)
-        yield Block(f"a GetNext of {total} octets", "too big", [*prepared, get_next(*map(before, names))], True)
+        yield Block(f"a GetNext of {total} octets", "too big", [*prepared, get_next(*map(_before, names))], True)
     full: list[Step] = [modify(row), put(row.text(text))]
     yield Block(
         "far too big",
@@ -75,28 +75,28 @@ def reads(context: Context, row: Row) -> Iterator[Block]:
     )
 
 
-def filled(kind: int, name: Name, total: int, context: Context) -> Ask:
+def _filled(kind: int, name: Name, total: int, context: Context) -> Ask:
     """A request of so many octets, whose last binding has a value that fills it."""
-    empty = size(context, [(name, octets(bytes(1000)))]) - 1000
+    empty = _size(context, [(name, octets(bytes(1000)))]) - 1000
     return Ask(kind, ((name, octets(bytes(total - empty))),))
 
 
-def requests(context: Context) -> Iterator[Block]:
+def _requests(context: Context) -> Iterator[Block]:
     """Requests as long as a datagram may be; the answers repeat them or are too big."""
     nowhere, here = instance(2, 5), scalar("vmsSignHeightPixels")
     for kind in (wire.GET, wire.GET_NEXT, wire.SET):
         yield Block(
             "an error of the greatest size",
             "never too big",
-            [filled(kind, nowhere, MOST, context), filled(kind, nowhere, MOST - 1, context)],
+            [_filled(kind, nowhere, _MOST, context), _filled(kind, nowhere, _MOST - 1, context)],
         )
     yield Block(
         "a read that shrinks",
         "too big",
-        [filled(wire.GET, here, MOST, context), filled(wire.GET_NEXT, here, MOST, context)],
+        [_filled(wire.GET, here, _MOST, context), _filled(wire.GET_NEXT, here, _MOST, context)],
     )
     many: list[Binding] = []
-    while size(context, [*many, (here, NULL)]) <= MOST:
+    while _size(context, [*many, (here, NULL)]) <= _MOST:
         many.append((here, NULL))
     yield Block(
         "as many names as there is room for",
@@ -105,10 +105,10 @@ def requests(context: Context) -> Iterator[Block]:
     )
 
 
-def writes(context: Context, row: Row) -> Iterator[Block]:
+def _writes(context: Context, row: Row) -> Iterator[Block]:
     """A SET that succeeds is never too big, in the greatest size."""
     text = b"A" * 512
-    rest = MOST - size(context, [row.text(text), row.owner(b"")])
+    rest = _MOST - _size(context, [row.text(text), row.owner(b"")])
     owner = row.owner(b"o" * min(127, max(0, rest - 4)))
     yield Block(
         "a SET of the greatest size", "never too big", [modify(row), put(row.text(text), owner), *look(row)], True
@@ -130,11 +130,11 @@ def writes(context: Context, row: Row) -> Iterator[Block]:
     )
 
 
-def blocks(context: Context) -> Iterator[Block]:
-    yield from requests(context)
+def _blocks(context: Context) -> Iterator[Block]:
+    yield from _requests(context)
     for row in context.rows[:1]:
-        yield from reads(context, row)
-        yield from writes(context, row)
+        yield from _reads(context, row)
+        yield from _writes(context, row)
 
 
-CHAPTER = Chapter("sizes", "Sizes", blocks)
+CHAPTER = Chapter("sizes", "Sizes", _blocks)

@@ -23,18 +23,18 @@ def default(member: int, value: int) -> Binding:
     return DEFAULTS[member - 1], integer(value)
 
 
-def with_default(context: Context, member: int, value: int) -> tuple[int, ...]:
+def _with_default(context: Context, member: int, value: int) -> tuple[int, ...]:
     return tuple(value if at == member else held for at, held in enumerate(context.defaults, 1))
 
 
-def missing(context: Context) -> list[bytes]:
+def _missing(context: Context) -> list[bytes]:
     """Texts in which a value is missing."""
     one = context.character()
     forms = (b"[fo]%s", b"[jp3]%s[jp]%s", b"[jl3]%s[jl]%s", b"[jl]%s[jl3]%s", b"[jp]%s[jp3]%s")
     return [form.replace(b"%s", one) for form in forms]
 
 
-def beginning(context: Context) -> list[bytes]:
+def _beginning(context: Context) -> list[bytes]:
     """Texts that begin as the defaults say."""
     one = context.character()
     texts = [one, one + b"[jp3]" + one, one + b"[jl3]" + one]
@@ -49,13 +49,13 @@ def spoiling(context: Context, text: bytes) -> list[Ask]:
     """SETs of a default each under which a text that fits does not."""
     values = [(5, font.number) for font in context.described.face.fonts]
     values += [(member, value) for member in (6, 7) for value in (2, 3, 4)]
-    deciding = [pair for pair in values if context.fault(text, with_default(context, *pair)) is not None]
+    deciding = [pair for pair in values if context.fault(text, _with_default(context, *pair)) is not None]
     return [put(default(*pair)) for pair in deciding]
 
 
-def told_by(context: Context, member: int, value: int, texts: list[bytes]) -> list[Telling]:
+def _told_by(context: Context, member: int, value: int, texts: list[bytes]) -> list[Telling]:
     """The first of the texts that fits under one of the sign's own default and this one."""
-    changed = with_default(context, member, value)
+    changed = _with_default(context, member, value)
     deciding = [text for text in texts if (context.fault(text) is None) != (context.fault(text, changed) is None)]
     if not deciding:
         return []
@@ -71,8 +71,8 @@ def telling(context: Context) -> list[Telling]:
     found: list[Telling] = []
     for member in (5, 6, 7):
         values = [font.number for font in context.described.face.fonts] if member == 5 else (2, 3, 4)
-        texts = missing(context), beginning(context)
+        texts = _missing(context), _beginning(context)
         kinds = texts if context.is_slow else (texts[0] + texts[1],)
-        told = [held for value in values for kind in kinds for held in told_by(context, member, value, kind)]
+        told = [held for value in values for kind in kinds for held in _told_by(context, member, value, kind)]
         found += told if context.is_slow else told[:1]
     return found

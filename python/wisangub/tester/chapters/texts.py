@@ -21,7 +21,7 @@ from .edge_texts import (
     touching,
 )
 
-MARKUP = [  # each with one fault of the markup, by the rule that it breaks
+_MARKUP = [  # each with one fault of the markup, by the rule that it breaks
     ("markup code", [b"[zz]", b"[", b"]", b"[ nl]", b"[]", b"[nl", b"A]", b"[/f]", b"[/FLx", b"[n]", b"[[]"]),
     (
         "markup code",
@@ -68,7 +68,7 @@ MARKUP = [  # each with one fault of the markup, by the rule that it breaks
     ),
 ]
 FIRST_MARKUP, OTHERS = 3, 1
-GOOD_MARKUP = [  # the last three have no place behind the others
+_GOOD_MARKUP = [  # the last three have no place behind the others
     b"[cf][cf9][cb0][pb][pb9][cf00009][pb04]",
     b"[fl][FLt][flo][flt99o99][flo0t0][flto][flot][flt5][flo5][flt1o][flo1t][/fl][/FL]",
     b"[pt][pt255o255][pto][pt1o][PTO5][pt007o00255]",
@@ -79,7 +79,7 @@ GOOD_MARKUP = [  # the last three have no place behind the others
 ]
 
 
-def fonts(context: Context) -> list[Sample]:
+def _fonts(context: Context) -> list[Sample]:
     """Font tags: each font and its version, one that the sign has not, another version."""
     one, found = context.character(), []
     numbers = [font.number for font in context.described.face.fonts]
@@ -95,7 +95,7 @@ def fonts(context: Context) -> list[Sample]:
     return made("fonts", [*found, b"[fo%d]" % missing, b"[fo255]", b"[fo%d,ABCD]" % numbers[0]], 3)
 
 
-def characters(context: Context) -> list[Sample]:
+def _characters(context: Context) -> list[Sample]:
     """Characters that a font has not, also by their numbers."""
     one, font = context.character(), context.described.face.known_font(context.defaults[4])
     missing = next((number for number in range(1, 256) if number not in font.glyphs and number not in b"[]"), None)
@@ -162,7 +162,7 @@ def pages(context: Context) -> list[Sample]:
     return made("pages", found, 2)
 
 
-def kept(context: Context) -> list[Sample]:
+def _kept(context: Context) -> list[Sample]:
     """The font stays over a new page, line and part: as many of its characters as fit, and one more."""
     face, found = context.described.face, []
     for font in face.fonts:
@@ -193,7 +193,7 @@ def both(context: Context) -> list[Sample]:
     return made("layout", found, 3)
 
 
-def joined(context: Context, chosen: list[Sample]) -> list[Sample]:
+def _joined(context: Context, chosen: list[Sample]) -> list[Sample]:
     """Those that fit one page after the other in one text, as long as that fits: one validation tells of all."""
     found: list[Sample] = []
     for sample in chosen:
@@ -210,8 +210,8 @@ def samples(context: Context) -> list[Sample]:
     found = (
         parts(context)
         + pages(context)
-        + fonts(context)
-        + characters(context)
+        + _fonts(context)
+        + _characters(context)
         + gaps(context)
         + closed(context)
         + fonts_at_closing(context)
@@ -219,13 +219,13 @@ def samples(context: Context) -> list[Sample]:
         + mixed(context)
         + mixed_parts(context)
         + heights(context)
-        + kept(context)
+        + _kept(context)
         + touching(context)
         + both(context)
         + (spacings(context) if context.is_slow else [])
     )
-    found += made("markup", [b"".join(GOOD_MARKUP[:-3]), *GOOD_MARKUP], 1)
-    for rule, texts in MARKUP:
+    found += made("markup", [b"".join(_GOOD_MARKUP[:-3]), *_GOOD_MARKUP], 1)
+    for rule, texts in _MARKUP:
         found += made(rule, [context.character() + text for text in texts], FIRST_MARKUP)
     known: dict[bytes, Sample] = {}
     for sample in found:
@@ -236,4 +236,4 @@ def samples(context: Context) -> list[Sample]:
     others = random.Random(context.seed).sample(rest, min(OTHERS, len(rest)))
     chosen = [sample for sample in known.values() if sample.is_first or sample in others]
     faulty = [sample for sample in chosen if context.fault(sample.text) is not None]
-    return faulty + joined(context, [sample for sample in chosen if sample not in faulty])
+    return faulty + _joined(context, [sample for sample in chosen if sample not in faulty])

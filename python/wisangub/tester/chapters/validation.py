@@ -11,7 +11,7 @@ from .block import Block, Chapter, fill, look, look_at, modify, settle
 from .edge_texts import Sample
 from .texts import samples
 
-VERDICT = (scalar("dmsValidateMessageError"), scalar("dmsMultiSyntaxError"), scalar("dmsMultiSyntaxErrorPosition"))
+_VERDICT = (scalar("dmsValidateMessageError"), scalar("dmsMultiSyntaxError"), scalar("dmsMultiSyntaxErrorPosition"))
 
 
 def judged(row: Row, text: bytes, beacon: int = 0, pixel: int = 0) -> list[Step]:
@@ -21,11 +21,11 @@ def judged(row: Row, text: bytes, beacon: int = 0, pixel: int = 0) -> list[Step]
         modify(row),
         filled,
         *settle(row, rule=""),
-        look_at(row.cell(Column.STATUS), *VERDICT, row.cell(Column.CRC)),
+        look_at(row.cell(Column.STATUS), *_VERDICT, row.cell(Column.CRC)),
     ]
 
 
-def verdicts(context: Context, row: Row, last: Row) -> Iterator[Block]:
+def _verdicts(context: Context, row: Row, last: Row) -> Iterator[Block]:
     bad = b"[zz]"
     for beacon, pixel, text in ((1, 0, b""), (0, 1, b""), (1, 1, b""), (1, 1, bad), (0, 1, bad)):
         name = f"beacon {beacon}, pixel service {pixel}" + (", a fault" if text else "")
@@ -34,7 +34,7 @@ def verdicts(context: Context, row: Row, last: Row) -> Iterator[Block]:
     yield Block("a fault, then none in another row", "no fault", none)
 
 
-def rule_of(context: Context, text: bytes, rule: str) -> str:
+def _rule_of(context: Context, text: bytes, rule: str) -> str:
     """A text whose fault is another than the one it was made for breaks the general rule."""
     fault = context.fault(text)
     codes = {
@@ -48,20 +48,20 @@ def rule_of(context: Context, text: bytes, rule: str) -> str:
     return rule if fault is None or rule not in codes or fault[0] in codes[rule] else "layout"
 
 
-def blocks(context: Context) -> Iterator[Block]:
+def _blocks(context: Context) -> Iterator[Block]:
     if not context.rows:
         return
     row = context.rows[0]
-    yield from verdicts(context, row, context.rows[-1])
+    yield from _verdicts(context, row, context.rows[-1])
     for sample in samples(context):
-        yield told(context, row, sample)
+        yield _told(context, row, sample)
 
 
-def told(context: Context, row: Row, sample: Sample) -> Block:
+def _told(context: Context, row: Row, sample: Sample) -> Block:
     """A text's block; where one of joined texts differs, each of them tells."""
-    rule = rule_of(context, sample.text, sample.rule)
-    parts = [told(context, row, part) for part in sample.parts] if len(sample.parts) > 1 else []
+    rule = _rule_of(context, sample.text, sample.rule)
+    parts = [_told(context, row, part) for part in sample.parts] if len(sample.parts) > 1 else []
     return Block(f"the text {sample.text[:60].decode('latin-1')!r}", rule, judged(row, sample.text), parts=parts)
 
 
-CHAPTER = Chapter("validation", "Validation", blocks)
+CHAPTER = Chapter("validation", "Validation", _blocks)

@@ -23,7 +23,7 @@ from wisangub.tester.requests.steps import Ask, Step
 from .compare import Kind, Mismatch
 from .rules import RULES, Rule
 
-BY_FAULT = {
+_BY_FAULT = {
     "BadTag": "messages",
     "BadLength": "refused lengths",
     "Truncated": "sequences",
@@ -34,7 +34,7 @@ BY_FAULT = {
     "TrailingBytes": "sequences",
     "TooLong": "datagrams",
 }
-BY_SCALAR = {
+_BY_SCALAR = {
     "dmsNumChangeableMsg": "counts",
     "dmsNumVolatileMsg": "counts",
     "dmsFreeChangeableMemory": "free memory",
@@ -52,25 +52,25 @@ BY_SCALAR = {
     "dmsShortPowerLossTime": "ranges",
     "dmsTimeCommLoss": "ranges",
 }
-BY_MODE: dict[int, str] = {
+_BY_MODE: dict[int, str] = {
     SourceMode.CENTRAL: "shown",
     SourceMode.COMM_LOSS: "silence",
     SourceMode.END_DURATION: "ends",
 }
 BY_CAUSE: dict[int, str] = {Cause.NONE: "accepted", Cause.PRIORITY: "priority", Cause.SYNTAX: "fits now"}
-PLACES = ("dmsMultiSyntaxError", "dmsMultiSyntaxErrorPosition")
-NO_FAULT = (0, 2)  # of the code and of its place
+_PLACES = ("dmsMultiSyntaxError", "dmsMultiSyntaxErrorPosition")
+_NO_FAULT = (0, 2)  # of the code and of its place
 
 
 def rule_of(octets: bytes, ours: bytes | None, theirs: bytes | None, differs: Mismatch) -> Rule:
     """The rule by what was asked and how the replies differ."""
-    return RULES[key_of(octets, ours, theirs, differs)]
+    return RULES[_key_of(octets, ours, theirs, differs)]
 
 
-CERTAIN = ("counts", "free memory", "row checksum", "checksum", "blank checksum", "priority", "fits now")
-UNTIMED = ("get", "rows", "validation", "priorities", "sizes")  # chapters that are about no durations
-SETTLING = ("settled", "statuses", "one validates")  # rules that say when a row is valid or in error, and not which
-GENERAL = ("ber", "communities", "set", "getnext")  # chapters whose steps touch objects that others are about
+_CERTAIN = ("counts", "free memory", "row checksum", "checksum", "blank checksum", "priority", "fits now")
+_UNTIMED = ("get", "rows", "validation", "priorities", "sizes")  # chapters that are about no durations
+_SETTLING = ("settled", "statuses", "one validates")  # rules that say when a row is valid or in error, and not which
+_GENERAL = ("ber", "communities", "set", "getnext")  # chapters whose steps touch objects that others are about
 
 
 def better(named: Rule | None, octets: bytes, ours: bytes | None, theirs: bytes | None, differs: Mismatch) -> Rule:
@@ -89,14 +89,14 @@ def better(named: Rule | None, octets: bytes, ours: bytes | None, theirs: bytes 
         return named if named.chapter == "getnext" else found
     if named.chapter in ("durations", "silence", "defaults") and found.key in ("priority", "fits now"):
         return named
-    if found.key == "minutes" and named.chapter in UNTIMED:
+    if found.key == "minutes" and named.chapter in _UNTIMED:
         return found
     if differs.kind is Kind.STATUS and status_of(ours) == status_of(theirs) and named.chapter == "communities":
         return found  # both refuse for the same cause, and name another binding
-    if found.key == "verdicts" and named.key in SETTLING and column_of(differs.names[0]) == Column.STATUS:
+    if found.key == "verdicts" and named.key in _SETTLING and column_of(differs.names[0]) == Column.STATUS:
         return found
     if differs.kind is Kind.VALUE and named.chapter != found.chapter:
-        return found if found.key in CERTAIN or named.chapter in GENERAL else named
+        return found if found.key in _CERTAIN or named.chapter in _GENERAL else named
     is_alone = request.kind == wire.SET and len(request.bindings) == 1 and differs.kind is Kind.STATUS
     return found if is_alone and named.chapter == "set" and found.key != "order of causes" else named
 
@@ -111,11 +111,11 @@ def is_of_the_sets(named: Rule, found: Rule, steps: Sequence[Step]) -> bool:
     return named.chapter == "set" and is_report and bool(sets) and set(words).isdisjoint(COMMANDS)
 
 
-def key_of(octets: bytes, ours: bytes | None, theirs: bytes | None, differs: Mismatch) -> str:
+def _key_of(octets: bytes, ours: bytes | None, theirs: bytes | None, differs: Mismatch) -> str:
     try:
         request = wire.read(octets)
     except wire.Fault as fault:
-        return BY_FAULT[fault.kind]
+        return _BY_FAULT[fault.kind]
     if differs.kind is Kind.SPELLING:
         return "shortest form"
     if ours is None:
@@ -123,7 +123,7 @@ def key_of(octets: bytes, ours: bytes | None, theirs: bytes | None, differs: Mis
     want, have = spelled(ours), spelled(theirs or b"")
     assert want is not None
     if have is None:
-        return spelled_otherwise(octets, request) or by_request(request)
+        return _spelled_otherwise(octets, request) or _by_request(request)
     if differs.kind is Kind.HEAD:
         return "same community"
     if wire.TOO_BIG in (want.status, have.status):
@@ -131,24 +131,24 @@ def key_of(octets: bytes, ours: bytes | None, theirs: bytes | None, differs: Mis
     if differs.kind is Kind.STATUS:
         if want.status and want.status == have.status and len(request.bindings) == 1:
             return "error reply"
-        return by_request(request) if request.kind != wire.SET else by_refusal(request, want, have)
+        return _by_request(request) if request.kind != wire.SET else _by_refusal(request, want, have)
     if want.status:
         return "error reply"
     if request.kind == wire.SET:
         return "set reply"
-    return by_value(want, have, differs.names) if differs.kind is Kind.VALUE else by_request(request)
+    return _by_value(want, have, differs.names) if differs.kind is Kind.VALUE else _by_request(request)
 
 
-def spelled_otherwise(octets: bytes, request: wire.Message) -> str | None:
+def _spelled_otherwise(octets: bytes, request: wire.Message) -> str | None:
     """Forms that have to be accepted, where the request is not in its shortest form."""
     return "needless octets" if wire.written(request) != octets else None
 
 
-def by_request(request: wire.Message) -> str:
+def _by_request(request: wire.Message) -> str:
     return {wire.GET: "get", wire.GET_NEXT: "getnext"}.get(request.kind, "set")
 
 
-def by_refusal(request: wire.Message, want: wire.Message, have: wire.Message) -> str:
+def _by_refusal(request: wire.Message, want: wire.Message, have: wire.Message) -> str:
     """A SET that one refuses and the other does not, or each for another cause."""
     if want.status and have.status:
         return "order of causes"
@@ -159,15 +159,15 @@ def by_refusal(request: wire.Message, want: wire.Message, have: wire.Message) ->
     if refused.status == wire.NO_SUCH_NAME:
         return "not to be written"
     if refused.status == wire.BAD_VALUE:
-        return "default font" if word_of(name) == "defaultFont" and in_range(value) else "ranges"
-    return general_error(request, name, refused.index)
+        return "default font" if word_of(name) == "defaultFont" and _in_range(value) else "ranges"
+    return _general_error(request, name, refused.index)
 
 
-def in_range(value: Value) -> bool:
+def _in_range(value: Value) -> bool:
     return isinstance(value[1], int) and 1 <= value[1] <= 255
 
 
-def general_error(request: wire.Message, name: Name, index: int) -> str:
+def _general_error(request: wire.Message, name: Name, index: int) -> str:
     if name in [earlier for earlier, _ in request.bindings[: index - 1]]:
         return "twice"
     if column_of(name) == Column.STATUS:
@@ -177,7 +177,7 @@ def general_error(request: wire.Message, name: Name, index: int) -> str:
     return "fields" if row_of(name) is not None else "twice"
 
 
-def by_value(want: wire.Message, have: wire.Message, names: tuple[Name, ...]) -> str:
+def _by_value(want: wire.Message, have: wire.Message, names: tuple[Name, ...]) -> str:
     """A read with other values."""
     name = names[0]
     ours, theirs = dict(want.bindings)[name], dict(have.bindings)[name]
@@ -185,25 +185,25 @@ def by_value(want: wire.Message, have: wire.Message, names: tuple[Name, ...]) ->
         return "values"
     row = row_of(name)
     if row is not None:
-        return by_cell(name, row, ours, theirs)
+        return _by_cell(name, row, ours, theirs)
     word = word_of(name)
     if word == "dmsMsgSourceMode" and isinstance(ours[1], int):
-        return BY_MODE.get(ours[1], "shown")
+        return _BY_MODE.get(ours[1], "shown")
     if word == "dmsActivateMsgError" and isinstance(ours[1], int) and isinstance(theirs[1], int):
-        return by_causes(ours[1], theirs[1])
-    if word in PLACES and ours[1] in NO_FAULT:
+        return _by_causes(ours[1], theirs[1])
+    if word in _PLACES and ours[1] in _NO_FAULT:
         return "no fault"
     if name in DEFAULTS:
         return "set"
-    return "own codes" if name in OWN_CODES else BY_SCALAR.get(word, "configuration")
+    return "own codes" if name in OWN_CODES else _BY_SCALAR.get(word, "configuration")
 
 
-def by_causes(ours: int, theirs: int) -> str:
+def _by_causes(ours: int, theirs: int) -> str:
     """Where dmsActivateMsgError differs: by the cause that is to be found first."""
     return BY_CAUSE.get(theirs if ours == Cause.NONE else ours, "deciding")
 
 
-def by_cell(name: Name, row: tuple[int, int], ours: Value, theirs: Value) -> str:
+def _by_cell(name: Name, row: tuple[int, int], ours: Value, theirs: Value) -> str:
     column = column_of(name)
     both = {ours[1], theirs[1]}
     if row[0] == Memory.BLANK:

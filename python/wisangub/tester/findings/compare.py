@@ -45,24 +45,24 @@ def mismatch(ours: bytes | None, theirs: bytes | None, masked: frozenset[Name] =
         return Mismatch(Kind.UNREADABLE)
     if want == have:
         return Mismatch(Kind.SPELLING)
-    return between(want, have, masked)
+    return _between(want, have, masked)
 
 
-def between(want: wire.Message, have: wire.Message, masked: frozenset[Name]) -> Mismatch | None:
+def _between(want: wire.Message, have: wire.Message, masked: frozenset[Name]) -> Mismatch | None:
     """How two messages differ."""
     if (want.kind, want.community, want.number) != (have.kind, have.community, have.number):
         return Mismatch(Kind.HEAD)
     if (want.status, want.index) != (have.status, have.index):
         return Mismatch(Kind.STATUS)
     if [name for name, _ in want.bindings] != [name for name, _ in have.bindings]:
-        return Mismatch(Kind.BINDINGS, differing_names(want, have))
+        return Mismatch(Kind.BINDINGS, _differing_names(want, have))
     names = tuple(
         name for (name, value), (_, other) in zip(want.bindings, have.bindings) if value != other and name not in masked
     )
     return Mismatch(Kind.VALUE, names) if names else None
 
 
-def differing_names(want: wire.Message, have: wire.Message) -> tuple[Name, ...]:
+def _differing_names(want: wire.Message, have: wire.Message) -> tuple[Name, ...]:
     return tuple(
         name for at, (name, _) in enumerate(want.bindings) if at >= len(have.bindings) or have.bindings[at][0] != name
     )

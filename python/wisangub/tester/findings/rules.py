@@ -27,7 +27,7 @@ CHAPTERS = (
 )
 
 
-TABLE = pathlib.Path(__file__).with_name("rules.txt")
+_TABLE = pathlib.Path(__file__).with_name("rules.txt")
 
 
 @dataclass(frozen=True)
@@ -39,7 +39,7 @@ class Rule:
     own: bool = False
 
 
-def read(table: str) -> dict[str, Rule]:
+def _read(table: str) -> dict[str, Rule]:
     """The rules of a table: a line of key, chapter and heading, an asterisk before the chapter of what is (own), and
     lines of the sentence, which are indented."""
     rules: dict[str, Rule] = {}
@@ -50,11 +50,11 @@ def read(table: str) -> dict[str, Rule]:
     return rules
 
 
-RULES = read(TABLE.read_text(encoding="utf-8"))
+RULES = _read(_TABLE.read_text(encoding="utf-8"))
 
 
 @functools.lru_cache(maxsize=1)
-def sections() -> dict[str, str]:
+def _sections() -> dict[str, str]:
     """The text under each heading of docs/PROFILE.md, white space as one space."""
     found: dict[str, list[str]] = {}
     heading = ""
@@ -68,4 +68,4 @@ def sections() -> dict[str, str]:
 
 def is_in_profile(rule: Rule) -> bool:
     """Whether the rule's sentence stands under its heading."""
-    return " ".join(rule.sentence.split()) in sections().get(rule.heading, "")
+    return " ".join(rule.sentence.split()) in _sections().get(rule.heading, "")

@@ -34,21 +34,21 @@ def as_json(results: Results, about: About, not_tested: list[str]) -> str:
         "oracle": about.oracle,
         "when": about.when,
         "seed": about.seed,
-        "configuration": objects(results.configuration),
-        "set_back": objects(results.set_back),
+        "configuration": _objects(results.configuration),
+        "set_back": _objects(results.set_back),
         "chapters": chapters,
-        "differences": [one(difference, about) for difference in results.differences()],
-        "seen_once": [one(difference, about) for difference in results.once()],
+        "differences": [_one(difference, about) for difference in results.differences()],
+        "seen_once": [_one(difference, about) for difference in results.once()],
         "not_tested": not_tested,
     }
     return json.dumps(whole, indent=1) + "\n"
 
 
-def objects(held: list[tuple[str, str, str]]) -> list[dict[str, str]]:
+def _objects(held: list[tuple[str, str, str]]) -> list[dict[str, str]]:
     return [{"object": name, "described": described, "read": read} for name, described, read in held]
 
 
-def one(difference: Difference, about: About) -> dict[str, Any]:
+def _one(difference: Difference, about: About) -> dict[str, Any]:
     ours, theirs = difference.sides()
     rule = {
         "key": difference.rule.key,
@@ -97,12 +97,12 @@ def as_junit(results: Results, about: About) -> str:
         case = ET.SubElement(suite, "testcase", classname="conform", name=name, time=f"{seconds.get(name, 0):.3f}")
         for number, difference in enumerate(by_chapter.get(name, []), 1):
             failure = ET.SubElement(case, "failure", type=difference.mismatch.kind.value, message=difference.title)
-            failure.text = printable("\n".join(difference_lines(number, difference, about)))
+            failure.text = _printable("\n".join(difference_lines(number, difference, about)))
         if name == "before" and results.is_silent:
             ET.SubElement(case, "failure", type="no answer", message="the sign does not answer")
     return ET.tostring(suite, encoding="unicode", xml_declaration=True) + "\n"
 
 
-def printable(text: str) -> str:
+def _printable(text: str) -> str:
     """Without characters that XML has not."""
     return "".join(character if character >= " " or character == "\n" else "?" for character in text)

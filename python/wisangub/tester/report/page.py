@@ -9,14 +9,14 @@ from wisangub.tester.findings.results import ChapterResult, Results
 from .picture import pages_of, svg
 from .words import About, how_sure, origin, sequence, verdict
 
-STYLE = pathlib.Path(__file__).with_name("style.css").read_text(encoding="utf-8")
+_STYLE = pathlib.Path(__file__).with_name("style.css").read_text(encoding="utf-8")
 
 
-def quoted(text: str) -> str:
+def _quoted(text: str) -> str:
     return html.escape(text)
 
 
-def chapter_row(result: ChapterResult) -> str:
+def _chapter_row(result: ChapterResult) -> str:
     told = (
         f'<span class="verdict bad">{len(result.differences)} differ</span>'
         if result.differences
@@ -27,50 +27,50 @@ def chapter_row(result: ChapterResult) -> str:
     )
     untold = f" ({len(result.once)} seen once)" if result.once else ""
     untold += f" ({result.untold} not told)" if result.untold else ""
-    return f"<tr><td>{quoted(result.chapter.title)}</td>{numbers}<td>{told}{untold}</td></tr>"
+    return f"<tr><td>{_quoted(result.chapter.title)}</td>{numbers}<td>{told}{untold}</td></tr>"
 
 
-def reply(title: str, lines: list[str], other: list[str], octets: bytes | None) -> str:
-    marked = "\n".join(quoted(line) if line in other else f"<mark>{quoted(line)}</mark>" for line in lines)
+def _reply(title: str, lines: list[str], other: list[str], octets: bytes | None) -> str:
+    marked = "\n".join(_quoted(line) if line in other else f"<mark>{_quoted(line)}</mark>" for line in lines)
     return f"<div><b>{title}</b><pre>{marked}</pre><pre>{octets.hex() if octets else '-'}</pre></div>"
 
 
-def steps(difference: Difference) -> str:
+def _steps(difference: Difference) -> str:
     found = []
     for octets, lines in sequence(difference):
-        fields = "<br>".join(map(quoted, lines))
+        fields = "<br>".join(map(_quoted, lines))
         found.append(f"<li>{fields}<pre>{octets}</pre></li>" if octets else f"<li><i>{fields}</i></li>")
     return "<ol>" + "".join(found) + "</ol>"
 
 
-def drawn(difference: Difference) -> str:
+def _drawn(difference: Difference) -> str:
     found = []
     for caption, lines in difference.pictures:
-        found.append(f"<p>{quoted(caption)}</p>" + "".join(svg(rows) for rows in pages_of(lines)))
+        found.append(f"<p>{_quoted(caption)}</p>" + "".join(svg(rows) for rows in pages_of(lines)))
     return "".join(found)
 
 
-def article(number: int, difference: Difference, about: About) -> str:
+def _article(number: int, difference: Difference, about: About) -> str:
     """All that is said of a difference."""
     ours, theirs = difference.sides()
     sure, rule = how_sure(difference), difference.rule
-    sides = reply("Our sign", ours, theirs, difference.ours) + reply("This sign", theirs, ours, difference.theirs)
+    sides = _reply("Our sign", ours, theirs, difference.ours) + _reply("This sign", theirs, ours, difference.theirs)
     parts = [
-        f"<h3>{number}. {quoted(difference.title)}</h3>",
-        f'<p class="small">chapter {quoted(rule.chapter)} &middot; rule {quoted(origin(difference))}</p>',
-        f"<p><b>{quoted(rule.heading)}</b></p><blockquote>{quoted(rule.sentence)}</blockquote>",
-        f'<p class="small">{quoted(sure)}</p>' if sure else "",
-        f"<p>From the known state:</p>{steps(difference)}",
+        f"<h3>{number}. {_quoted(difference.title)}</h3>",
+        f'<p class="small">chapter {_quoted(rule.chapter)} &middot; rule {_quoted(origin(difference))}</p>',
+        f"<p><b>{_quoted(rule.heading)}</b></p><blockquote>{_quoted(rule.sentence)}</blockquote>",
+        f'<p class="small">{_quoted(sure)}</p>' if sure else "",
+        f"<p>From the known state:</p>{_steps(difference)}",
         f'<div class="sides">{sides}</div>',
-        drawn(difference),
-        f"<p>Again:</p><pre>{quoted(about.command(difference))}</pre>",
+        _drawn(difference),
+        f"<p>Again:</p><pre>{_quoted(about.command(difference))}</pre>",
     ]
     return "<article>" + "".join(parts) + "</article>"
 
 
-def objects(title: str, held: list[tuple[str, str, str]]) -> str:
+def _objects(title: str, held: list[tuple[str, str, str]]) -> str:
     """A table of objects as described and as read."""
-    rows = "".join(f"<tr>{''.join(f'<td>{quoted(word)}</td>' for word in words)}</tr>" for words in held)
+    rows = "".join(f"<tr>{''.join(f'<td>{_quoted(word)}</td>' for word in words)}</tr>" for words in held)
     heads = "<tr><th>object</th><th>described</th><th>read</th></tr>"
     return f"<h2>{title}</h2><table>{heads}{rows}</table>" if held else ""
 
@@ -78,19 +78,21 @@ def objects(title: str, held: list[tuple[str, str, str]]) -> str:
 def as_html(results: Results, about: About, not_tested: list[str]) -> str:
     """The whole page; it needs nothing else."""
     kind = "good" if results.is_clean() else "bad"
-    rows = "".join(map(chapter_row, results.chapters))
+    rows = "".join(map(_chapter_row, results.chapters))
     found = results.differences()
-    articles = "".join(article(number, held, about) for number, held in enumerate(found, 1)) or "<p>None.</p>"
-    seen = "".join(article(number, held, about) for number, held in enumerate(results.once(), len(found) + 1))
+    articles = "".join(_article(number, held, about) for number, held in enumerate(found, 1)) or "<p>None.</p>"
+    seen = "".join(_article(number, held, about) for number, held in enumerate(results.once(), len(found) + 1))
     once = f"<h2>Seen once, and not again</h2>{seen}" if seen else ""
-    before = objects("Described otherwise", results.configuration) + objects("Changed, and set back", results.set_back)
-    left_out = "".join(f"<li>{quoted(line)}</li>" for line in not_tested)
+    before = _objects("Described otherwise", results.configuration) + _objects(
+        "Changed, and set back", results.set_back
+    )
+    left_out = "".join(f"<li>{_quoted(line)}</li>" for line in not_tested)
     facts = f"sign at {about.to}, described by {about.sign}; oracle {about.oracle}; seed {about.seed}; {about.when}"
     heads = "<tr><th>chapter</th><th>cases</th><th>requests</th><th>time</th><th></th></tr>"
     parts = [
-        f'<!doctype html><html lang="en"><meta charset="utf-8"><title>conform: {quoted(about.to)}</title>',
-        f'<style>{STYLE}</style><main><h1>A sign beside the profile</h1><p class="facts">{quoted(facts)}</p>',
-        f'<p><span class="verdict {kind}">{quoted(verdict(results))}</span></p>{before}',
+        f'<!doctype html><html lang="en"><meta charset="utf-8"><title>conform: {_quoted(about.to)}</title>',
+        f'<style>{_STYLE}</style><main><h1>A sign beside the profile</h1><p class="facts">{_quoted(facts)}</p>',
+        f'<p><span class="verdict {kind}">{_quoted(verdict(results))}</span></p>{before}',
         f"<h2>Chapters</h2><table>{heads}{rows}</table><h2>Differences</h2>{articles}{once}",
         f"<h2>Not tested</h2><ul>{left_out}</ul></main></html>\n",
     ]

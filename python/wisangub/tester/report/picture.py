@@ -6,12 +6,12 @@ from wisangub.tester.findings.differences import Difference
 from wisangub.tester.requests.objects import Column, column_of
 from wisangub.tester.requests.steps import Ask
 
-SHADES = ["#000000", "#ff0000", "#ffff00", "#00ff00", "#00ffff", "#0000ff", "#ff00ff", "#ffffff", "#ff8000", "#ffbf00"]
-JUDGING = ("validation", "defaults", "activation")
-LAMP = 4
+_SHADES = ["#000000", "#ff0000", "#ffff00", "#00ff00", "#00ffff", "#0000ff", "#ff00ff", "#ffffff", "#ff8000", "#ffbf00"]
+_JUDGING = ("validation", "defaults", "activation")
+_LAMP = 4
 
 
-def text_of(difference: Difference) -> bytes | None:
+def _text_of(difference: Difference) -> bytes | None:
     """The text that the sequence wrote last."""
     found = None
     for step in difference.steps:
@@ -24,8 +24,8 @@ def text_of(difference: Difference) -> bytes | None:
 
 def pictures(difference: Difference, context: Context) -> list[tuple[str, list[str]]]:
     """Captions and pages, as lines, of the text that the two judge otherwise; up to its fault where ours refuses it."""
-    text = text_of(difference)
-    if text is None or difference.rule.chapter not in JUDGING:
+    text = _text_of(difference)
+    if text is None or difference.rule.chapter not in _JUDGING:
         return []
     spelled = text.decode("latin-1")
     pages = context.judge.pages(text)
@@ -52,13 +52,13 @@ def pages_of(lines: list[str]) -> list[list[str]]:
 
 def svg(rows: list[str]) -> str:
     """A page's lamps."""
-    width, height = LAMP * max(map(len, rows), default=1), LAMP * len(rows)
+    width, height = _LAMP * max(map(len, rows), default=1), _LAMP * len(rows)
     dots = {"dark": ""} | {digit: "" for digit in "0123456789"}
     for y, row in enumerate(rows):
         for x, cell in enumerate(row):
-            dots["dark" if cell == "." else cell] += f"M{LAMP * x + 2},{LAMP * y + 2}h0"
+            dots["dark" if cell == "." else cell] += f"M{_LAMP * x + 2},{_LAMP * y + 2}h0"
     paths = "".join(
-        f'<path d="{path}" stroke="{"#2a2a2a" if name == "dark" else SHADES[int(name)]}"/>'
+        f'<path d="{path}" stroke="{"#2a2a2a" if name == "dark" else _SHADES[int(name)]}"/>'
         for name, path in dots.items()
         if path
     )

@@ -18,11 +18,11 @@ except ImportError:
 MOST_LINES, MOST_OCTETS = 12, 200
 
 
-def shortened(octets: str) -> str:
+def _shortened(octets: str) -> str:
     return octets if len(octets) <= MOST_OCTETS else f"{octets[:MOST_OCTETS]}.. ({len(octets) // 2} octets)"
 
 
-def side(name: str, lines: list[str], other: list[str]) -> list[str]:
+def _side(name: str, lines: list[str], other: list[str]) -> list[str]:
     """A reply's fields; those that the other has not are marked."""
     found = [f"    {name}:"]
     shown = [line for line in lines if line not in other] or lines[:1]
@@ -42,18 +42,18 @@ def difference_lines(number: int, difference: Difference, about: About) -> list[
         lines.append(f"    note: {sure}")
     lines.append("    from the known state:")
     for octets, decoded in sequence(difference):
-        lines += [f"      {octets and 'send ' + shortened(octets) or decoded[0]}"]
+        lines += [f"      {octets and 'send ' + _shortened(octets) or decoded[0]}"]
         lines += [f"        {line}" for line in (decoded[:MOST_LINES] if octets else [])]
-    lines += side("our sign", ours, theirs) + side("this sign", theirs, ours)
+    lines += _side("our sign", ours, theirs) + _side("this sign", theirs, ours)
     lines += [
-        f"    octets of ours:  {shortened(difference.ours.hex()) if difference.ours else '-'}",
-        f"    octets of this:  {shortened(difference.theirs.hex()) if difference.theirs else '-'}",
+        f"    octets of ours:  {_shortened(difference.ours.hex()) if difference.ours else '-'}",
+        f"    octets of this:  {_shortened(difference.theirs.hex()) if difference.theirs else '-'}",
         f"    again: {about.command(difference)}",
     ]
     return lines
 
 
-def chapter_line(result: ChapterResult) -> str:
+def _chapter_line(result: ChapterResult) -> str:
     told = f"{len(result.differences)} differ" if result.differences else "nothing differs"
     untold = f", {len(result.once)} seen once" if result.once else ""
     untold += f", {result.untold} not told" if result.untold else ""
@@ -67,7 +67,7 @@ class Plain:
     def __init__(self, out: TextIO = sys.stdout) -> None:
         self.out = out
 
-    def say(self, line: str) -> None:
+    def _print(self, line: str) -> None:
         print(line, file=self.out, flush=True)
 
     def begun(self, chapter: Chapter, blocks: int) -> None:
@@ -77,10 +77,10 @@ class Plain:
         ...
 
     def ended(self, result: ChapterResult) -> None:
-        self.say(chapter_line(result))
+        self._print(_chapter_line(result))
 
     def found(self, difference: Difference) -> None:
-        self.say(f"  {difference.rule.chapter}: {difference.title} ({difference.rule.heading})")
+        self._print(f"  {difference.rule.chapter}: {difference.title} ({difference.rule.heading})")
 
     def close(self) -> None:
         ...
@@ -103,7 +103,7 @@ class Rich(Plain):
         self.progress.start()
         self.task: Any = None
 
-    def say(self, line: str) -> None:
+    def _print(self, line: str) -> None:
         self.progress.console.print(line, markup=False, highlight=False, soft_wrap=True)
 
     def begun(self, chapter: Chapter, blocks: int) -> None:

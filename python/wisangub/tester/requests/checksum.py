@@ -2,7 +2,7 @@
 
 import functools
 
-DIVISOR = 0x8408  # x^16 + x^12 + x^5 + 1, the low bit first
+_DIVISOR = 0x8408  # x^16 + x^12 + x^5 + 1, the low bit first
 
 
 @functools.lru_cache(maxsize=4096)
@@ -13,5 +13,5 @@ def checksum(text: bytes, beacon: int, pixel: int) -> int:
     for octet in (*text, beacon, pixel):
         rest ^= octet
         for _ in range(8):
-            rest = rest >> 1 ^ (DIVISOR if rest & 1 else 0)
+            rest = rest >> 1 ^ (_DIVISOR if rest & 1 else 0)
     return rest ^ 0xFFFF

@@ -6,19 +6,19 @@ from wisangub.snmp import wire
 
 from .objects import NULL
 
-KEPT: dict[bytes, wire.Message] = {}
-MOST_KEPT = 256
+_KEPT: dict[bytes, wire.Message] = {}
+_MOST_KEPT = 256
 
 
 @functools.lru_cache(maxsize=4096)
-def read(octets: bytes) -> wire.Message | None:
+def _read(octets: bytes) -> wire.Message | None:
     found: wire.Message | None = wire.spelled(octets)
     return found
 
 
 def spelled(octets: bytes) -> wire.Message | None:
     """The message, or None where the octets spell none."""
-    return KEPT.get(octets) or read(octets)
+    return _KEPT.get(octets) or _read(octets)
 
 
 def written(message: wire.Message) -> bytes:
@@ -26,9 +26,9 @@ def written(message: wire.Message) -> bytes:
     octets: bytes = wire.written(message)
     is_plain = all(value == NULL and max(name) < 2**31 for name, value in message.bindings)
     if is_plain and len(octets) <= wire.MOST_DATAGRAM and 0 <= message.number < 2**31:
-        if len(KEPT) >= MOST_KEPT:
-            KEPT.clear()
-        KEPT[octets] = message
+        if len(_KEPT) >= _MOST_KEPT:
+            _KEPT.clear()
+        _KEPT[octets] = message
     return octets
 
 

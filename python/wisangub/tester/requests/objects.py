@@ -161,7 +161,7 @@ COUNTS = tuple(
         "dmsFreeVolatileMemory",
     )
 )
-FIXED = (
+_FIXED = (
     "vmsSignHeightPixels",
     "vmsSignWidthPixels",
     "dmsColorScheme",
@@ -170,7 +170,7 @@ FIXED = (
     "dmsMaxVolatileMsg",
 )
 # what a SET may change, and what reports of it: every scalar that is not fixed
-STATE_SCALARS = [scalar(word) for word in SCALARS.values() if word not in FIXED]
+STATE_SCALARS = [scalar(word) for word in SCALARS.values() if word not in _FIXED]
 SHOWN_CELLS = [cell(column, Memory.CURRENT, 1) for column in Column]
 REPORTS = (
     "dmsValidateMessageError",

@@ -11,7 +11,7 @@ from wisangub.tester.requests.steps import Ask, Step, Wait
 from wisangub.tester.sign.pair import Exchange, Inconclusive, Pair
 from wisangub.tester.state.reset import Reset
 
-TRIES = 3
+_TRIES = 3
 
 
 @dataclass
@@ -37,7 +37,7 @@ class Runner:
 
     def steps(self, steps: Sequence[Step]) -> Run | None:
         """The steps, from the state of now, up to the first difference."""
-        if is_timed(steps) and self.reset.is_unlearnt():
+        if _is_timed(steps) and self.reset.is_unlearnt():
             raise Inconclusive("the moment of the sign's ticks is not known")
         sent: list[bytes | None] = []
         for at, step in enumerate(steps):
@@ -54,9 +54,9 @@ class Runner:
     def is_lost(self, exchange: Exchange) -> bool:
         """Whether a SET without a reply is one of many whose replies came, on a way that loses some."""
         if exchange.theirs is not None:
-            self.answered.update(likeness(exchange) if exchange.is_set else ())
+            self.answered.update(_likeness(exchange) if exchange.is_set else ())
             return False
-        return exchange.is_lost and self.pair.port.is_lossy() and likeness(exchange) <= self.answered
+        return exchange.is_lost and self.pair.port.is_lossy() and _likeness(exchange) <= self.answered
 
     def anew(self, steps: Sequence[Step], after_a_tick: bool = True, is_alike: bool = False) -> Run | None:
         """The steps from the known state; a sequence that cannot be told is begun again.
@@ -65,11 +65,11 @@ class Runner:
         alike they may keep the verdict of their last validation.
         """
         self.runs += 1
-        for left in range(TRIES, 0, -1):
+        for left in range(_TRIES, 0, -1):
             try:
-                self.reset.reach_or_end(is_timed(steps), is_alike)
+                self.reset.reach_or_end(_is_timed(steps), is_alike)
                 self.pair.begin()
-                if after_a_tick and is_timed(steps):
+                if after_a_tick and _is_timed(steps):
                     self.pair.ticks.wait(1)
                     self.pair.pass_ticks()
                 return self.steps(steps)
@@ -80,7 +80,7 @@ class Runner:
         return None
 
 
-def likeness(exchange: Exchange) -> set[tuple[object, ...]]:
+def _likeness(exchange: Exchange) -> set[tuple[object, ...]]:
     """What a sign answers alike: for each object that a request names, the request's kind and the reply's status."""
     message, reply = spelled(exchange.octets), spelled(exchange.ours or b"")
     if message is None or reply is None:
@@ -89,7 +89,7 @@ def likeness(exchange: Exchange) -> set[tuple[object, ...]]:
     return {(message.kind, message.community, place, reply.status) for place in places}
 
 
-def is_timed(steps: Sequence[Step]) -> bool:
+def _is_timed(steps: Sequence[Step]) -> bool:
     """Whether a tick between the steps may matter."""
     return any(
         isinstance(step, Wait)

@@ -10,7 +10,7 @@ from wisangub.tester.sign.pair import Inconclusive
 
 from .runner import Run, Runner
 
-MOST_RUNS = 150
+_MOST_RUNS = 150
 
 
 @dataclass
@@ -24,7 +24,7 @@ class Shrinking:
     runs: int = 0
 
     def is_bounded(self) -> bool:
-        return self.runs >= MOST_RUNS or self.runner.pair.clock.now() >= self.until
+        return self.runs >= _MOST_RUNS or self.runner.pair.clock.now() >= self.until
 
     def shows(self, steps: Sequence[Step], of_any_cost: bool = False) -> bool:
         """Whether the steps show the difference, at less cost; then they are the best so far."""
@@ -37,7 +37,7 @@ class Shrinking:
             return False
         if run is None or not run.signature.is_like(self.wanted) or len(run.steps) < len(steps):
             return False
-        if not of_any_cost and cost(run.steps) >= cost(self.best.steps):
+        if not of_any_cost and _cost(run.steps) >= _cost(self.best.steps):
             return False
         self.best = run
         return True
@@ -90,7 +90,7 @@ class Shrinking:
                 place += 1
 
 
-def cost(steps: Sequence[Step]) -> tuple[int, int, int]:
+def _cost(steps: Sequence[Step]) -> tuple[int, int, int]:
     """What is made small: datagrams, then seconds, then bindings."""
     bindings = sum(len(step.bindings) if isinstance(step, Ask) else 1 for step in steps if isinstance(step, (Ask, Raw)))
     return datagrams(steps), sum(step.ticks for step in steps if isinstance(step, Wait)), bindings

@@ -13,11 +13,11 @@ from .oracle import CoProcessOracle, program_of
 
 Fault = tuple[int, int]  # a code of dmsMultiSyntaxError and its offset in octets
 MOST_TEXT, TOO_BIG = 512, 5
-NO_FAULT = 2
-NOBODY = bytes(4)
-ROWS = re.compile(rb"(?m)^rows [0-9]+ [0-9]+")
-ROW = Row(Memory.CHANGEABLE, 1)
-VERDICT = (scalar("dmsMultiSyntaxError"), scalar("dmsMultiSyntaxErrorPosition"), ROW.cell(Column.CRC))
+_NO_FAULT = 2
+_NOBODY = bytes(4)
+_ROWS = re.compile(rb"(?m)^rows [0-9]+ [0-9]+")
+_ROW = Row(Memory.CHANGEABLE, 1)
+_VERDICT = (scalar("dmsMultiSyntaxError"), scalar("dmsMultiSyntaxErrorPosition"), _ROW.cell(Column.CRC))
 
 
 class Judge(Protocol):
@@ -37,7 +37,7 @@ class SignJudge:
     """The program as a sign with one row, in which each text is validated. Raises what the oracle does."""
 
     def __init__(self, named: str, description: bytes) -> None:
-        self._sign = CoProcessOracle(program_of(named), ROWS.sub(b"rows 1 0", description, count=1))
+        self._sign = CoProcessOracle(program_of(named), _ROWS.sub(b"rows 1 0", description, count=1))
         sign = described(description)
         self._communities, self._own = (sign.reader, sign.writer), sign.face.defaults
         self._defaults = self._own
@@ -52,7 +52,7 @@ class SignJudge:
     def pages(self, text: bytes) -> list[str]:
         if self._validated(text, self._own) is not None:
             return []
-        code = bytes([255, 255, 255, ROW.memory, 0, ROW.number]) + self._read()[2].to_bytes(2, "big") + NOBODY
+        code = bytes([255, 255, 255, _ROW.memory, 0, _ROW.number]) + self._read()[2].to_bytes(2, "big") + _NOBODY
         self._put((scalar("dmsActivateMessage"), octets(code)))
         return [line.decode("latin-1") for line in self._sign.lines(b"show")[:-1]]
 
@@ -66,17 +66,17 @@ class SignJudge:
         if defaults != self._defaults:
             self._put(*[(name, integer(value)) for name, value in zip(DEFAULTS, defaults)])
             self._defaults = defaults
-        self._put(ROW.status(RowStatus.MODIFY_REQ))
-        self._put(ROW.text(text))
-        self._put(ROW.status(RowStatus.VALIDATE_REQ))
+        self._put(_ROW.status(RowStatus.MODIFY_REQ))
+        self._put(_ROW.text(text))
+        self._put(_ROW.status(RowStatus.VALIDATE_REQ))
         self._sign.tick()
         code, offset, _ = self._read()
-        return None if code == NO_FAULT else (code, offset)
+        return None if code == _NO_FAULT else (code, offset)
 
     def _put(self, *bindings: Binding) -> None:
         self._sign.datagram(put(*bindings).octets(1, self._communities))
 
     def _read(self) -> list[int]:
         """The code of the fault, its offset, and the row's checksum."""
-        reply = self._sign.datagram(get(*VERDICT).octets(1, self._communities))
+        reply = self._sign.datagram(get(*_VERDICT).octets(1, self._communities))
         return [int(held) for _, (_, held) in wire.read(reply or b"").bindings]

@@ -7,7 +7,7 @@ from typing import Protocol
 
 from .clock import Clock
 
-MOST_RECEIVED = 65_535
+_MOST_RECEIVED = 65_535
 
 
 class Link(Protocol):
@@ -47,7 +47,7 @@ class UdpLink:
             if not select.select([self.socket], [], [], left)[0]:
                 return None
             try:
-                return self.socket.recv(MOST_RECEIVED)
+                return self.socket.recv(_MOST_RECEIVED)
             except ConnectionRefusedError:
                 continue
 

@@ -9,7 +9,7 @@ from wisangub.refusal import Refusal
 
 from .described import Bad, ended
 
-MODEL = TOP / "model/signtool"  # what `model` stands for
+_MODEL = TOP / "model/signtool"  # what `model` stands for
 
 
 class Oracle(Protocol):
@@ -75,7 +75,7 @@ class CoProcessOracle:
 
 def program_of(named: str) -> str:
     """Where the program of this name is; "model" stands for model/signtool. Raises FileNotFoundError."""
-    program = str(MODEL) if named == "model" else named
+    program = str(_MODEL) if named == "model" else named
     if not os.access(program, os.X_OK):
         raise FileNotFoundError(f"no program at {program}: tools/build.py builds it; --signtool model does without")
     return program

@@ -15,8 +15,8 @@ from .oracle import Oracle
 from .port import Port
 from .ticks import Ticks
 
-MOST_DOUBTS = 2  # sequences in a row that end since a tick may have come late
-SAMPLES = 3  # how often a Get whose answer is in doubt is asked anew
+_MOST_DOUBTS = 2  # sequences in a row that end since a tick may have come late
+_SAMPLES = 3  # how often a Get whose answer is in doubt is asked anew
 
 
 class Inconclusive(Exception):
@@ -64,7 +64,7 @@ class Pair:
         """Our reply. Of reads without a tick between them the last alone is kept in the log."""
         reply = self.oracle.datagram(octets)
         if reply is not None:
-            if self.log and self.log[-1] is not None and is_read(self.log[-1]) and is_read(octets):
+            if self.log and self.log[-1] is not None and _is_read(self.log[-1]) and _is_read(octets):
                 self.log.pop()
             self.log.append(octets)
         return reply
@@ -104,7 +104,7 @@ class Pair:
             self.pass_ticks()
             return None
         self.requests += 1
-        for samples in range(SAMPLES):
+        for samples in range(_SAMPLES):
             self.pass_ticks()
             number = self.number_of(step)
             octets = step.octets(number, self.communities)
@@ -132,7 +132,7 @@ class Pair:
     def exchange(self, step: Ask | Raw, octets: bytes, number: int) -> tuple[Exchange, bool]:
         """The replies, and whether a difference between them is sure."""
         ours = self.hand(octets)
-        self.is_dirty |= ours is None or not is_read(octets)
+        self.is_dirty |= ours is None or not _is_read(octets)
         message = spelled(octets)
         self.note_rows(message)
         if ours is None:
@@ -153,10 +153,10 @@ class Pair:
         if heard.reply is None:
             self.settle_lost(octets, message, ours)
             return Exchange(step, octets, ours, None, Mismatch(Kind.NO_ANSWER), True, True)
-        if hangs_on_ticks(message) and self.ticks.may_have_come(heard.ended):
+        if _hangs_on_ticks(message) and self.ticks.may_have_come(heard.ended):
             raise Inconclusive("a tick may have come before the sign took what hangs on ticks")
         differs = mismatch(ours, heard.reply, frozenset(self.masked))
-        if differs is not None and self.ticks.is_in_doubt(heard.begun, heard.ended) and self.doubts < MOST_DOUBTS:
+        if differs is not None and self.ticks.is_in_doubt(heard.begun, heard.ended) and self.doubts < _MOST_DOUBTS:
             self.doubts += 1
             self.ticks.was_late()
             raise Inconclusive("a tick of the sign came while it answered")
@@ -184,12 +184,12 @@ class Pair:
         return Exchange(step, octets, None, answer, differs)
 
 
-def hangs_on_ticks(message: wire.Message) -> bool:
+def _hangs_on_ticks(message: wire.Message) -> bool:
     """Whether seconds count from when a sign takes this SET: a row is asked to validate, or something is shown."""
     return is_command(message) or any(is_validation(*bound) for bound in message.bindings)
 
 
-def is_read(octets: bytes) -> bool:
+def _is_read(octets: bytes) -> bool:
     """Whether it is a Get or a GetNext."""
     message = spelled(octets)
     return message is not None and message.kind in (wire.GET, wire.GET_NEXT)

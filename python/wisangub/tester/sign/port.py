@@ -9,9 +9,9 @@ from wisangub.tester.requests.steps import FIRST_NUMBER, LAST_NUMBER
 from .clock import Clock
 from .link import Link
 
-TRIES = 3
-MOST_KEPT = 8  # datagrams of one request number that are remembered
-LEAST_LOOK = 0.05  # seconds that a look waits at least
+_TRIES = 3
+_MOST_KEPT = 8  # datagrams of one request number that are remembered
+_LEAST_LOOK = 0.05  # seconds that a look waits at least
 
 
 @dataclass
@@ -48,7 +48,7 @@ class Port:
         sent = self.odd.setdefault(number, [])
         if octets in sent:
             sent.remove(octets)
-        self.odd[number] = [*sent, octets][-MOST_KEPT:]
+        self.odd[number] = [*sent, octets][-_MOST_KEPT:]
 
     def send(self, octets: bytes) -> None:
         self.sent += 1
@@ -62,9 +62,9 @@ class Port:
         """Whether a reply is none to these octets, by its number or as it answers earlier ones with this number."""
         if reply.number != number:
             return self.is_earlier(reply.number, number)
-        if may_answer(reply, octets):
+        if _may_answer(reply, octets):
             return False
-        return any(may_answer(reply, earlier) for earlier in self.odd.get(number, []) if earlier != octets)
+        return any(_may_answer(reply, earlier) for earlier in self.odd.get(number, []) if earlier != octets)
 
     def await_reply(self, number: int, octets: bytes, expected: bytes | None, until: float) -> bytes | None:
         """The reply to these octets with this number, or one that belongs to no request at all."""
@@ -91,14 +91,14 @@ class Port:
 
     def look(self, octets: bytes, number: int) -> Heard:
         """A read whose reply counts only where it comes about as fast as replies do."""
-        heard = self.ask_once(octets, number, wait=min(self.wait, max(LEAST_LOOK, 4 * self.usual)))
+        heard = self.ask_once(octets, number, wait=min(self.wait, max(_LEAST_LOOK, 4 * self.usual)))
         if heard.reply is None:
             self.given_up.add(number)
         return heard
 
     def ask(self, octets: bytes, number: int, expected: bytes | None = None) -> Heard:
         """A request that may be asked again, three times in all."""
-        for tries in range(1, TRIES + 1):
+        for tries in range(1, _TRIES + 1):
             heard = self.ask_once(octets, number, expected)
             heard.tries = tries
             if heard.reply is not None:
@@ -114,7 +114,7 @@ class Port:
         """Octets that are to have no answer, and a Get after them: their answer, and whether the Get was answered."""
         self.send(octets)
         answer: bytes | None = None
-        for _ in range(TRIES):
+        for _ in range(_TRIES):
             self.send(sentinel)
             until = self.clock.now() + self.wait
             while (reply := self.link.receive(until)) is not None:
@@ -128,7 +128,7 @@ class Port:
         return answer, False
 
 
-def may_answer(reply: wire.Message, octets: bytes) -> bool:
+def _may_answer(reply: wire.Message, octets: bytes) -> bool:
     """Whether a reply may be one to these octets, by its community and names, and its values where it repeats them."""
     request = spelled(octets)
     if request is None or request.community != reply.community or len(request.bindings) != len(reply.bindings):

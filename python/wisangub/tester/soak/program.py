@@ -28,7 +28,7 @@ from wisangub.tester.sign.oracle import Oracle, made
 
 from . import bench
 
-OPTIONS = ("under_test", "signtool", "sign", "faulty", "requests", "seed", "commit")
+_OPTIONS = ("under_test", "signtool", "sign", "faulty", "requests", "seed", "commit")
 
 
 class Program:
@@ -44,7 +44,7 @@ class Program:
         self.oracle.tick()
 
 
-def commit() -> str:
+def _commit() -> str:
     """The commit that stands here, with an asterisk where a file that counts is another."""
     call = ["git", "-C", str(TOP)]
     try:
@@ -62,7 +62,7 @@ def commit() -> str:
         return "unknown"
 
 
-def told(results: Results) -> list[str]:
+def _told(results: Results) -> list[str]:
     """What differed."""
     lines = []
     for found in [*results.differences(), *results.once()]:
@@ -98,11 +98,11 @@ def run(entry: dict[str, Any], description: bytes) -> dict[str, Any]:
         "seen_once": len(results.once()),
         "cases": sum(held.blocks for held in results.chapters),
         "seconds": round(time.monotonic() - begun, 1),
-        "told": told(results),
+        "told": _told(results),
     }
 
 
-def line(held: dict[str, Any]) -> str:
+def _line(held: dict[str, Any]) -> str:
     verdict = "nothing differs" if held["clean"] else "differs"
     lost = f"{held['asked_again']} asked again, {held['passed_over']} passed over"
     untold = f"{held['not_told']} of {held['cases']} sequences not told, {held['seen_once']} seen once"
@@ -110,31 +110,31 @@ def line(held: dict[str, Any]) -> str:
     return f"seed {held['seed']}: {requests}, {verdict}, {lost}, {untold}, {held['seconds']:.0f} s"
 
 
-def recorded(record: pathlib.Path | None) -> dict[tuple[Any, ...], dict[str, Any]]:
+def _recorded(record: pathlib.Path | None) -> dict[tuple[Any, ...], dict[str, Any]]:
     """What the record has, by its options."""
     if record is None or not record.exists():
         return {}
     found = [json.loads(text) for text in record.read_text(encoding="utf-8").splitlines()]
-    return {tuple(held[option] for option in OPTIONS): held for held in found}
+    return {tuple(held[option] for option in _OPTIONS): held for held in found}
 
 
-def entries(asked: argparse.Namespace) -> list[dict[str, Any]]:
+def _entries(asked: argparse.Namespace) -> list[dict[str, Any]]:
     """The options of each seed."""
-    held = vars(asked) | {"commit": commit(), "sign": str(asked.sign or "bench")}
+    held = vars(asked) | {"commit": _commit(), "sign": str(asked.sign or "bench")}
     seeds = range(asked.first, asked.first + asked.seeds)
-    return [{option: (held | {"seed": seed})[option] for option in OPTIONS} for seed in seeds]
+    return [{option: (held | {"seed": seed})[option] for option in _OPTIONS} for seed in seeds]
 
 
-def show(held: dict[str, Any], said: str = "") -> None:
-    print("\n".join([line(held) + said, *held["told"]]), flush=True)
+def _show(held: dict[str, Any], said: str = "") -> None:
+    print("\n".join([_line(held) + said, *held["told"]]), flush=True)
 
 
-def soak(asked: argparse.Namespace, description: bytes) -> list[dict[str, Any]]:
+def _soak(asked: argparse.Namespace, description: bytes) -> list[dict[str, Any]]:
     """What came of each seed, by the record where that has it."""
-    before, wanted = recorded(asked.record), entries(asked)
+    before, wanted = _recorded(asked.record), _entries(asked)
     ends = [before[key] for entry in wanted if (key := tuple(entry.values())) in before]
     for held in ends:
-        show(held, " (of the record)")
+        _show(held, " (of the record)")
     left = [entry for entry in wanted if tuple(entry.values()) not in before]
     with concurrent.futures.ProcessPoolExecutor(asked.jobs) as pool:
         for done in concurrent.futures.as_completed([pool.submit(run, entry, description) for entry in left]):
@@ -142,7 +142,7 @@ def soak(asked: argparse.Namespace, description: bytes) -> list[dict[str, Any]]:
             if asked.record is not None:
                 with asked.record.open("a", encoding="utf-8") as file:
                     file.write(json.dumps(held) + "\n")
-            show(held)
+            _show(held)
             ends.append(held)
     return ends
 
@@ -159,7 +159,7 @@ def main() -> int:
     parser.add_argument("--record", type=pathlib.Path, metavar="FILE")
     parser.add_argument("--jobs", type=int, default=1, metavar="N", help="seeds at a time")
     asked = parser.parse_args()
-    ends = soak(asked, asked.sign.read_bytes() if asked.sign else BENCH)
+    ends = _soak(asked, asked.sign.read_bytes() if asked.sign else BENCH)
     clean, untold = sum(held["clean"] for held in ends), sum(held["not_told"] for held in ends)
     requests = sum(held["told_requests"] for held in ends)
     print(f"{requests} requests in {sum(held['cases'] for held in ends) - untold} sequences told, {untold} not told")

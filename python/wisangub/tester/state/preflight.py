@@ -18,8 +18,8 @@ from wisangub.tester.sign.pair import Exchange, Pair
 from .known_state import Unreached
 from .reset import Reset
 
-CAUSE = scalar("dmsActivateMsgError")
-READS = (Kind.STATUS, Kind.BINDINGS, Kind.VALUE)
+_CAUSE = scalar("dmsActivateMsgError")
+_READS = (Kind.STATUS, Kind.BINDINGS, Kind.VALUE)
 
 
 @dataclass
@@ -81,7 +81,7 @@ class Preflight:
                 continue
             for name, _ in look.bindings:
                 exchange = self.on_both(get(name))
-                if exchange.mismatch is None or exchange.mismatch.kind not in READS:
+                if exchange.mismatch is None or exchange.mismatch.kind not in _READS:
                     continue
                 rule = classify.rule_of(exchange.octets, exchange.ours, exchange.theirs, exchange.mismatch)
                 if rule.key not in told:
@@ -92,7 +92,7 @@ class Preflight:
         """The first of the objects is told, with the others by name; all are left out from here on."""
         first = unreached[0]
         exchange, difference = self.shown_by(first)
-        difference.note = note(unreached)
+        difference.note = _note(unreached)
         difference.rule = self.rule_of_unreached(exchange)
         self.pair.masked.update(held.name for held in unreached)
         self.add(difference)
@@ -132,13 +132,13 @@ class Preflight:
             return RULES["set"]
         rule = classify.rule_of(exchange.octets, exchange.ours, exchange.theirs, exchange.mismatch)
         if rule.key == "deciding" and exchange.mismatch.kind is Kind.STATUS:
-            cause = self.reset.read([CAUSE])[CAUSE]
+            cause = self.reset.read([_CAUSE])[_CAUSE]
             if cause is not None and isinstance(cause[1], int):
                 return RULES[classify.BY_CAUSE.get(cause[1], "deciding")]
         return rule
 
 
-def note(unreached: list[Unreached]) -> str:
+def _note(unreached: list[Unreached]) -> str:
     """What cannot be brought to its value, in words."""
     first, others = unreached[0], ", ".join(spoken(held.name) for held in unreached[1:4])
     read = value_words(first.read) if first.read else "nothing"

@@ -14,9 +14,9 @@ from .known_state import VERDICTS, KnownState, Unreachable, Unreached
 from .unanswered import ours_reads
 from .validation_ticks import ValidationTicks
 
-ROUNDS = 4
-MOST_KEPT = 400  # datagrams after which ours is begun anew
-Read = dict[Name, Value | None]
+_ROUNDS = 4
+_MOST_KEPT = 400  # datagrams after which ours is begun anew
+_Read = dict[Name, Value | None]
 
 
 @dataclass
@@ -56,9 +56,9 @@ class Reset:
         """Any Get at all."""
         return self.ask(get(scalar("vmsSignHeightPixels")))
 
-    def read(self, names: list[Name]) -> Read:
+    def read(self, names: list[Name]) -> _Read:
         """What the sign under test reads; None where a name is none of its instances."""
-        found: Read = {}
+        found: _Read = {}
         for look in looks(names):
             message = spelled(self.ask(look) or b"")
             if message is not None and message.status == wire.NO_ERROR:
@@ -73,7 +73,7 @@ class Reset:
     def bring(self, observe: bool) -> list[Unreached]:
         """Brings the sign under test to the known state; with `observe` a validation is watched for its tick."""
         is_watched = not observe or not self.context.rows
-        for _ in range(ROUNDS):
+        for _ in range(_ROUNDS):
             wanted = self.wanted()
             have = self.read(list(wanted))
             wrong = [name for name, value in wanted.items() if have.get(name) != value]
@@ -140,7 +140,7 @@ class Reset:
         if not observe and not self.pair.is_dirty:
             return []
         unreached: list[Unreached] = []
-        if observe or not is_alike or len(self.pair.log) > MOST_KEPT or not self.go_together():
+        if observe or not is_alike or len(self.pair.log) > _MOST_KEPT or not self.go_together():
             unreached = self.bring(observe)
             self.pair.restart_ours()
             for request in (activate(self.context.refused_code), activate(self.context.known_code)):

@@ -11,16 +11,16 @@ from wisangub.tester.requests.steps import looks
 if TYPE_CHECKING:
     from wisangub.tester.sign.pair import Pair
 
-State = dict[Name, Value]
-FIXED_COLUMNS = (Column.MEMORY_TYPE, Column.NUMBER, Column.CRC)  # which no SET names
+_State = dict[Name, Value]
+_FIXED_COLUMNS = (Column.MEMORY_TYPE, Column.NUMBER, Column.CRC)  # which no SET names
 
 
-def effects(message: wire.Message) -> list[Name]:
+def _effects(message: wire.Message) -> list[Name]:
     """What a SET may change: the objects that it names, the fields of their rows, the reports."""
     names = [name for name, _ in message.bindings if word_of(name)]
     for row in {row for name, _ in message.bindings if (row := row_of(name)) is not None}:
         if row[0] in (Memory.CHANGEABLE, Memory.VOLATILE):
-            names += [Row(*row).cell(column) for column in Column if column not in FIXED_COLUMNS]
+            names += [Row(*row).cell(column) for column in Column if column not in _FIXED_COLUMNS]
     return list(dict.fromkeys(names + EXECUTIVE + SHOWN_CELLS))
 
 
@@ -29,9 +29,9 @@ def is_command(message: wire.Message) -> bool:
     return any(word_of(name) in COMMANDS for name, _ in message.bindings)
 
 
-def ours_reads(pair: "Pair", names: list[Name]) -> State | None:
+def ours_reads(pair: "Pair", names: list[Name]) -> _State | None:
     """What ours reads; None where a name is none of its instances."""
-    found: State = {}
+    found: _State = {}
     for look in looks(names, share=20):
         reply = pair.hand(look.octets(pair.port.new_number(), pair.communities))
         message = spelled(reply) if reply is not None else None
@@ -41,9 +41,9 @@ def ours_reads(pair: "Pair", names: list[Name]) -> State | None:
     return found
 
 
-def theirs_reads(pair: "Pair", names: list[Name]) -> State | None:
+def _theirs_reads(pair: "Pair", names: list[Name]) -> _State | None:
     """What the sign under test reads; None where it cannot be read."""
-    found: State = {}
+    found: _State = {}
     for look in looks(names, share=20):
         pair.pass_ticks()
         number = pair.port.new_number()
@@ -59,8 +59,8 @@ def theirs_reads(pair: "Pair", names: list[Name]) -> State | None:
 
 def is_known(pair: "Pair", octets: bytes, message: wire.Message, ours: bytes) -> bool:
     """Whether reading tells if the sign took it; then ours is as it is."""
-    names = [name for name in effects(message) if ours_reads(pair, [name]) is not None]
-    read = theirs_reads(pair, names)
+    names = [name for name in _effects(message) if ours_reads(pair, [name]) is not None]
+    read = _theirs_reads(pair, names)
     taken = ours_reads(pair, names)
     if read is None or taken is None:
         return False
@@ -80,9 +80,9 @@ def is_known(pair: "Pair", octets: bytes, message: wire.Message, ours: bytes) ->
     if read == before:
         return True
     pair.become(with_it)
-    return read == taken and not is_timed(message, taken)
+    return read == taken and not _is_timed(message, taken)
 
 
-def is_timed(message: wire.Message, taken: State) -> bool:
+def _is_timed(message: wire.Message, taken: _State) -> bool:
     """Whether the sign began to count seconds at a moment that is not known to the tick."""
     return is_command(message) and taken.get(scalar("dmsMessageTimeRemaining")) != (wire.INTEGER, 65535)

@@ -8,11 +8,11 @@ from wisangub.tester.requests.steps import get
 from wisangub.tester.sign.pair import Pair
 from wisangub.tester.sign.port import Heard
 
-VALIDATING = 3
+_VALIDATING = 3
 POLL, SURE, MOST_SURE = 0.004, 0.04, 0.2  # seconds between two looks at a row; within which its end is seen
 LONGEST = 3.5  # seconds that a row is watched
 AT_ONCE, TIMES = 0.2, 3  # seconds within which a row is settled, and times in a row, where the sign waits for no tick
-MOST_MISSED = 5  # times that the end of a validation is not seen, until no more is looked for
+_MOST_MISSED = 5  # times that the end of a validation is not seen, until no more is looked for
 
 
 @dataclass
@@ -40,7 +40,7 @@ class ValidationTicks:
         return not self.pair.ticks.is_learnt() and not self.is_at_once()
 
     def is_to_be_learnt(self) -> bool:
-        return self.is_unlearnt() and self.missed < MOST_MISSED
+        return self.is_unlearnt() and self.missed < _MOST_MISSED
 
     def look(self, row: Row) -> tuple[Heard, bool]:
         """A look at a row, and whether it is validating by a reply that came in time."""
@@ -48,7 +48,7 @@ class ValidationTicks:
         number = port.new_number()
         heard = port.look(get(row.cell(Column.STATUS)).octets(number, self.pair.communities), number)
         message = spelled(heard.reply or b"")
-        return heard, message is not None and [held for _, (_, held) in message.bindings] == [VALIDATING]
+        return heard, message is not None and [held for _, (_, held) in message.bindings] == [_VALIDATING]
 
     def watch(self, row: Row) -> bool:
         """Waits while a row is validating, and learns the tick that ends it; whether it was seen to validate."""

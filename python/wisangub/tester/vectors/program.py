@@ -16,15 +16,15 @@ from typing import Any
 
 from wisangub.process.places import TOP, called
 
-MOST_SILENT = 3
+_MOST_SILENT = 3
 
 
-def cases(path: pathlib.Path) -> list[dict[str, Any]]:
+def _cases(path: pathlib.Path) -> list[dict[str, Any]]:
     """The requests, a case each."""
     return [json.loads(line) for line in path.read_text(encoding="ascii").splitlines()]
 
 
-def asked(door: socket.socket, to: tuple[str, int], request: str) -> str | None:
+def _asked(door: socket.socket, to: tuple[str, int], request: str) -> str | None:
     """The reply to a request, in hexadecimal digits; None where none comes."""
     door.sendto(bytes.fromhex(request), to)
     try:
@@ -33,11 +33,11 @@ def asked(door: socket.socket, to: tuple[str, int], request: str) -> str | None:
         return None
 
 
-def compare(door: socket.socket, to: tuple[str, int], wanted: list[dict[str, Any]]) -> tuple[int, int, bool]:
+def _compare(door: socket.socket, to: tuple[str, int], wanted: list[dict[str, Any]]) -> tuple[int, int, bool]:
     """How many replies are as wanted and how many are not; the last is whether the sign is silent."""
     passed = failed = silent = 0
     for case in wanted:
-        reply = asked(door, to, case["request"])
+        reply = _asked(door, to, case["request"])
         if reply == case["reply"]:
             passed += 1
         else:
@@ -45,7 +45,7 @@ def compare(door: socket.socket, to: tuple[str, int], wanted: list[dict[str, Any
             print(f"{case['name']}: replied {reply}, wanted {case['reply']}")
         if case["reply"] is not None:
             silent = silent + 1 if reply is None else 0
-        if silent == MOST_SILENT:
+        if silent == _MOST_SILENT:
             return passed, failed, True
     return passed, failed, False
 
@@ -62,13 +62,15 @@ def main() -> int:
     host, _, port = options.to.rpartition(":")
     if not host or not port.isdigit():
         parser.error(f"--to wants HOST:PORT, not {options.to}")
-    every = cases(TOP / "vectors/requests.jsonl")
+    every = _cases(TOP / "vectors/requests.jsonl")
     wanted = [case for case in every if not case["changes"]]
     with socket.socket(socket.AF_INET, socket.SOCK_DGRAM) as door:
         door.settimeout(options.wait)
-        passed, failed, is_silent = compare(door, (host, int(port)), wanted)
+        passed, failed, is_silent = _compare(door, (host, int(port)), wanted)
     if is_silent:
-        print(f"{options.to} left {MOST_SILENT} requests one after the other without a reply: stopped", file=sys.stderr)
+        print(
+            f"{options.to} left {_MOST_SILENT} requests one after the other without a reply: stopped", file=sys.stderr
+        )
         return 2
     print(f"{passed} passed, {failed} failed, {len(every) - len(wanted)} that change a sign left out")
     return 1 if failed else 0
