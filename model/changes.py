@@ -1,6 +1,6 @@
 """What a SET writes to a sign, and what it commands."""
 
-import copy
+from collections.abc import Callable
 from dataclasses import replace
 from typing import Any
 
@@ -8,9 +8,9 @@ from . import wire
 from .codes import CHANGEABLE, NO_END, VOLATILE, Activation
 from .description import MODIFYING
 from .objects import DMS, Objects
-from .state import CENTRAL, END_DURATION, NONE
+from .showing import Showing
+from .state import CENTRAL, END_DURATION, NONE, State
 
-FIXED = ("described", "face", "names")  # what no request changes
 Change = tuple[str, Any, Any]  # the kind of what is written, where it goes, and what it is
 Commanded = tuple[int, Change]  # the binding that commands, and what
 Answer = tuple[int, int, Activation | None]  # the error-status, the index, and the activation that was accepted
@@ -24,23 +24,26 @@ class Refused(Exception):
         self.status = status
 
 
-class Changes(Objects):
+class Changes:
+    def __init__(self, state: State, showing: Showing, objects: Objects) -> None:
+        self.state, self.showing, self.objects = state, showing, objects
+
     def change(self, name: wire.Name, value: wire.Tagged, is_writer: bool) -> Change:
         """What a binding writes: (kind, ..) with its range looked at; raises what it is refused with."""
         tag, held = value
         rest = name[len(DMS) :] if name[: len(DMS)] == DMS else ()
-        if not is_writer or self.value(name) is None:
+        if not is_writer or self.objects.value(name) is None:
             raise Refused(wire.NO_SUCH_NAME)
 
         def number(least: int, most: int) -> int:
             if tag != wire.INTEGER or not least <= held <= most:
                 raise Refused(wire.BAD_VALUE)
-            return held
+            return int(held)
 
         def octets(least: int, most: int) -> bytes:
             if tag != wire.OCTETS or not least <= len(held) <= most:
                 raise Refused(wire.BAD_VALUE)
-            return held
+            return bytes(held)
 
         if len(rest) == 6:
             column, memory, row = rest[3], rest[4], rest[5]
@@ -48,23 +51,23 @@ class Changes(Objects):
                 raise Refused(wire.NO_SUCH_NAME)
             if column == 9:
                 return "command", "status", (memory, row, number(6, 8))
-            read = {
+            read: dict[int, Callable[[], int | bytes]] = {
                 3: lambda: octets(0, 512),
                 4: lambda: octets(0, 127),
                 6: lambda: number(0, 1),
                 7: lambda: number(0, 1),
                 8: lambda: number(1, 255),
-            }[column]
+            }
             return (
                 "field",
                 {3: "text", 4: "owner", 6: "beacon", 7: "pixel", 8: "priority"}[column],
-                (memory, row, read()),
+                (memory, row, read[column]()),
             )
         place = rest[:2]
         if place[0] == 4 and place[1] <= 9:
             least, most = {1: (0, 9), 2: (0, 9), 5: (1, 255), 6: (2, 4), 7: (2, 4)}.get(place[1], (0, 255))
             written = number(least, most)
-            if place[1] == 5 and self.face.font(written) is None:
+            if place[1] == 5 and self.state.face.font(written) is None:
                 raise Refused(wire.BAD_VALUE)
             return "default", place[1] - 1, written
         if place == (6, 3):
@@ -73,7 +76,7 @@ class Changes(Objects):
             return "command", "remaining", number(0, 65535)
         if place in ((6, 10), (6, 13)):
             return "number", "short_loss" if place[1] == 10 else "silence_limit", number(0, 65535)
-        if place[0] == 6 and place[1] in self.own:
+        if place[0] == 6 and place[1] in self.state.own:
             return "own", place[1], octets(5, 5)
         raise Refused(wire.NO_SUCH_NAME)
 
@@ -83,19 +86,19 @@ class Changes(Objects):
         command: Commanded | None = None
         for at, (name, value) in enumerate(message.bindings, 1):
             try:
-                change = self.change(name, value, message.community == self.writer)
+                change = self.change(name, value, message.community == self.state.writer)
                 if name in (earlier for earlier, _ in message.bindings[: at - 1]):
                     raise Refused(wire.GENERAL)
                 if change[0] == "command":
                     if command is not None:
                         raise Refused(wire.GENERAL)
                     command = (at, change)
-                elif change[0] == "field" and self.known_row(*change[2][:2]).status != MODIFYING:
+                elif change[0] == "field" and self.state.known_row(*change[2][:2]).status != MODIFYING:
                     raise Refused(wire.GENERAL)
             except Refused as refused:
                 return refused.status, at, None
             changes.append(change)
-        before = copy.deepcopy({name: held for name, held in self.__dict__.items() if name not in FIXED})
+        before = self.state.copied()
         self.assign(changes)
         return self.carry_out(command, before)
 
@@ -103,36 +106,36 @@ class Changes(Objects):
         """Writes the fields of rows, the defaults, the times and the codes."""
         for kind, what, held in changes:
             if kind == "field":
-                setattr(self.row(*held[:2]), what, held[2])
+                setattr(self.state.row(*held[:2]), what, held[2])
             elif kind == "default":
-                self.defaults[what] = held
+                self.state.defaults[what] = held
             elif kind == "number":
-                setattr(self, what, held)
+                setattr(self.state, what, held)
             elif kind == "own":
-                self.own[what] = held
+                self.state.own[what] = held
 
-    def carry_out(self, command: Commanded | None, before: dict[str, Any]) -> Answer:
+    def carry_out(self, command: Commanded | None, before: State) -> Answer:
         """Does what is commanded; where that is refused, the sign is as before."""
         if command is None:
             return wire.NO_ERROR, 0, None
         at, (_, what, held) = command
         if what == "status":
-            if not self.ask(*held):
-                self.__dict__ |= before
+            if not self.state.ask(*held):
+                self.state.put_back(before)
                 return wire.GENERAL, at, None
         elif what == "remaining":
             if held:
-                self.shown = replace(self.shown, remaining=None if held == NO_END else 60 * held)
+                self.state.shown = replace(self.state.shown, remaining=None if held == NO_END else 60 * held)
             else:
-                self.activate_own(15, END_DURATION)
+                self.showing.activate_own(15, END_DURATION)
         else:
-            code = Activation.of(held, self.swapped)
-            cause, fault = self.cause(code, self.shown)
+            code = Activation.of(held, self.state.swapped)
+            cause, fault = self.showing.cause(code, self.state.shown)
             if cause is not None:
-                self.__dict__ |= before
-                self.refuse(code, cause, fault)
+                self.state.put_back(before)
+                self.showing.refuse(code, cause, fault)
                 return wire.GENERAL, at, None
-            self.shown = self.put_up(code, CENTRAL)
-            self.activate_error, self.last_code = NONE, held
+            self.state.shown = self.showing.put_up(code, CENTRAL)
+            self.state.activate_error, self.state.last_code = NONE, held
             return wire.NO_ERROR, 0, code
         return wire.NO_ERROR, 0, None

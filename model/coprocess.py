@@ -38,27 +38,29 @@ def sign_answer(world: text.World, words: list[bytes]) -> list[str]:
         assert len(world.accepted) == before
         if reply is None:
             return ["dropped"]
-        return [f"accepted {code.octets(world.sign.swapped).hex()} {reply.hex()}" if code else f"reply {reply.hex()}"]
+        return [
+            f"accepted {code.octets(world.sign.state.swapped).hex()} {reply.hex()}" if code else f"reply {reply.hex()}"
+        ]
     if keyword == b"power-back":
-        world.sign.power_back(text.number(text.wants(words, keyword, 1)[0], 0, 2**32 - 1, 10))
+        world.sign.showing.power_back(text.number(text.wants(words, keyword, 1)[0], 0, 2**32 - 1, 10))
         return ["ok"]
     if keyword == b"ticks":
-        world.sign.ticks(text.number(text.wants(words, keyword, 1)[0], 0, 2**32 - 1, 10))
+        world.sign.showing.ticks(text.number(text.wants(words, keyword, 1)[0], 0, 2**32 - 1, 10))
         return ["ok"]
     text.wants(words, keyword, 0)
     if keyword == b"tick":
         world.sign.tick()
     elif keyword == b"heard":
-        world.sign.heard()
+        world.sign.showing.heard()
     elif keyword == b"power-lost":
-        world.sign.power_lost()
+        world.sign.showing.power_lost()
     elif keyword == b"state":
         return [world.report()[2], "ok"]
     elif keyword == b"show":
-        shown = world.sign.shown
-        pages, _ = layout.laid_out(world.sign.face, shown.defaults, shown.text)
+        shown = world.sign.state.shown
+        pages, _ = layout.laid_out(world.sign.state.face, shown.defaults, shown.text)
         assert pages is not None
-        return [*layout.drawn(world.sign.face, pages), "ok"]
+        return [*layout.drawn(world.sign.state.face, pages), "ok"]
     else:
         raise ValueError
     return ["ok"]
@@ -68,7 +70,7 @@ def centre_answer(world: text.World, words: list[bytes]) -> list[str]:
     """The lines that answer a line to a centre."""
     centre, keyword = world.centre, words[0].decode("latin-1")
     if keyword in ("publish", "blank", "activate"):
-        sent = centre.command(text.event(words, world.sign.swapped))
+        sent = centre.command(text.event(words, world.sign.state.swapped))
         if centre.refusal is not None:
             return [f"refused {centre.refusal}"]
         return [f"send {sent.hex()}"] if sent else ["ok"]

@@ -4,15 +4,15 @@ import bisect
 
 from . import wire
 from .codes import BLANK, CHANGEABLE, CURRENT, NO_END, PERMANENT, VOLATILE
-from .description import NOT_USED, VALID, Description
-from .showing import Showing
+from .description import NOT_USED, VALID
+from .state import State
 
 DMS = (1, 3, 6, 1, 4, 1, 1206, 4, 2, 3)
 
 
-class Objects(Showing):
-    def __init__(self, described: Description) -> None:
-        super().__init__(described)
+class Objects:
+    def __init__(self, state: State) -> None:
+        self.state = state
         self.names = self.instances()
 
     def instances(self) -> list[wire.Name]:
@@ -23,7 +23,9 @@ class Objects(Showing):
             + [(5, n) for n in (1, 2, 3, 4, 5, 6, 7)]
         )
         after = [(5, 9)] + [(6, n) for n in (3, 4, 5, 6, 7, 8, 9, 10, 12, 13, 14, 15, 17, 18, 19, 24)]
-        rows = [(memory, n + 1) for memory in (PERMANENT, CHANGEABLE, VOLATILE) for n in range(len(self.rows[memory]))]
+        rows = [
+            (memory, n + 1) for memory in (PERMANENT, CHANGEABLE, VOLATILE) for n in range(len(self.state.rows[memory]))
+        ]
         rows += [(CURRENT, 1)] + [(BLANK, n) for n in range(1, 256)]
         cells = [(5, 8, 1, column, *row) for column in range(1, 10) for row in rows]
         found: list[wire.Name] = [DMS + (*name, 0) for name in scalars]
@@ -49,46 +51,46 @@ class Objects(Showing):
 
     def scalars(self) -> dict[tuple[int, int], int | bytes]:
         def count(memory: int, status: int) -> int:
-            return sum(row.status == status for row in self.rows[memory])
+            return sum(row.status == status for row in self.state.rows[memory])
 
-        shown = self.shown
+        shown = self.state.shown
         remaining = NO_END if shown.remaining is None else (shown.remaining + 59) // 60
         held: dict[tuple[int, int], int | bytes]
         held = {
-            (2, 3): self.face.height,
-            (2, 4): self.face.width,
+            (2, 3): self.state.face.height,
+            (2, 4): self.state.face.width,
             (4, 11): 3,
-            (5, 1): len(self.rows[PERMANENT]),
+            (5, 1): len(self.state.rows[PERMANENT]),
             (5, 2): count(CHANGEABLE, VALID),
-            (5, 3): len(self.rows[CHANGEABLE]),
+            (5, 3): len(self.state.rows[CHANGEABLE]),
             (5, 4): 512 * count(CHANGEABLE, NOT_USED),
             (5, 5): count(VOLATILE, VALID),
-            (5, 6): len(self.rows[VOLATILE]),
+            (5, 6): len(self.state.rows[VOLATILE]),
             (5, 7): 512 * count(VOLATILE, NOT_USED),
-            (5, 9): self.verdict,
-            (6, 3): self.last_code,
+            (5, 9): self.state.verdict,
+            (6, 3): self.state.last_code,
             (6, 4): remaining,
-            (6, 5): shown.source.octets(self.swapped),
+            (6, 5): shown.source.octets(self.state.swapped),
             (6, 6): shown.address,
             (6, 7): shown.mode,
-            (6, 10): self.short_loss,
-            (6, 13): self.silence_limit,
-            (6, 17): self.activate_error,
-            (6, 18): self.syntax,
-            (6, 19): self.syntax_at,
-            (6, 24): self.refused_code,
+            (6, 10): self.state.short_loss,
+            (6, 13): self.state.silence_limit,
+            (6, 17): self.state.activate_error,
+            (6, 18): self.state.syntax,
+            (6, 19): self.state.syntax_at,
+            (6, 24): self.state.refused_code,
         }
-        held |= {(4, n): self.defaults[n - 1] for n in range(1, 10)}
-        return held | {(6, place): code for place, code in self.own.items()}
+        held |= {(4, n): self.state.defaults[n - 1] for n in range(1, 10)}
+        return held | {(6, place): code for place, code in self.state.own.items()}
 
     def cell(self, column: int, memory: int, number: int) -> wire.Tagged | None:
-        row = self.row(memory, number)
+        row = self.state.row(memory, number)
         if row is None or not 1 <= column <= 9:
             return None
         crc = row.crc()
         if memory in (CURRENT, BLANK):
-            crc = self.shown.crc() if memory == CURRENT else 0
-        if self.swapped:
+            crc = self.state.shown.crc() if memory == CURRENT else 0
+        if self.state.swapped:
             crc = int.from_bytes(crc.to_bytes(2, "little"), "big")
         held = (memory, number, row.text, row.owner, crc, row.beacon, row.pixel, row.priority, row.status)[column - 1]
         return (wire.INTEGER, held) if isinstance(held, int) else (wire.OCTETS, held)

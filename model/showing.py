@@ -9,13 +9,16 @@ from .multi import Fault
 from .state import COMMUNICATIONS_LOSS, END_DURATION, POWER_LOSS, POWER_RECOVERY, Shown, State
 
 
-class Showing(State):
+class Showing:
+    def __init__(self, state: State) -> None:
+        self.state = state
+
     def cause(self, code: Activation, shown: Shown) -> tuple[int | None, Fault | None]:
         """Why an activation is refused, with the fault of a text; (None, None) where it is accepted."""
         named = code.id
         if named.memory not in (PERMANENT, CHANGEABLE, VOLATILE, CURRENT, BLANK):
             return 5, None
-        row = self.row(named.memory, named.number)
+        row = self.state.row(named.memory, named.number)
         if row is None:
             return 6, None
         if row.status != VALID:
@@ -27,7 +30,7 @@ class Showing(State):
         if code.priority < shown.priority:
             return 3, None
         if named.memory != CURRENT:
-            _, fault = layout.laid_out(self.face, self.defaults, row.text)
+            _, fault = layout.laid_out(self.state.face, self.state.defaults, row.text)
             if fault:
                 return 8, fault
         return None, None
@@ -36,8 +39,8 @@ class Showing(State):
         """What is shown once the code is accepted."""
         remaining = None if code.minutes == NO_END else code.minutes * 60
         if code.id.memory == CURRENT:
-            return replace(self.shown, mode=mode, address=code.address, remaining=remaining)
-        row = self.known_row(code.id.memory, code.id.number)
+            return replace(self.state.shown, mode=mode, address=code.address, remaining=remaining)
+        row = self.state.known_row(code.id.memory, code.id.number)
         return Shown(
             row.text,
             row.owner,
@@ -48,71 +51,71 @@ class Showing(State):
             code.address,
             remaining,
             code.id,
-            tuple(self.defaults),
+            tuple(self.state.defaults),
         )
 
     def refuse(self, code: Activation, cause: int, fault: Fault | None) -> None:
-        self.activate_error, self.refused_code = cause, code.octets(self.swapped)
+        self.state.activate_error, self.state.refused_code = cause, code.octets(self.state.swapped)
         if fault:
-            self.syntax, self.syntax_at = fault
+            self.state.syntax, self.state.syntax_at = fault
 
     def activate_own(self, place: int, mode: int, kept: Shown | None = None) -> None:
         """A code that the sign activates itself."""
-        octets = self.own[place]
+        octets = self.state.own[place]
         if octets[0] == CURRENT:
-            self.shown = replace(kept or self.shown, mode=mode, remaining=None)
+            self.state.shown = replace(kept or self.state.shown, mode=mode, remaining=None)
             return
-        code = Activation(NO_END, 255, MessageId.of(octets, self.swapped), NOBODY)
-        cause, fault = self.cause(code, self.shown)
+        code = Activation(NO_END, 255, MessageId.of(octets, self.state.swapped), NOBODY)
+        cause, fault = self.cause(code, self.state.shown)
         if cause is None:
-            self.shown = self.put_up(code, mode)
+            self.state.shown = self.put_up(code, mode)
         else:
             self.refuse(code, cause, fault)
-            self.shown = self.blank_shown(BLANK_1, mode)
+            self.state.shown = self.state.blank_shown(BLANK_1, mode)
 
     # --- events ---------------------------------------------------------------------------------------------------
 
     def tick(self) -> None:
-        if not self.power:
+        if not self.state.power:
             return
-        self.settle()
-        if self.shown.remaining is not None:
-            if self.shown.remaining <= 1:
+        self.state.settle()
+        if self.state.shown.remaining is not None:
+            if self.state.shown.remaining <= 1:
                 self.activate_own(15, END_DURATION)
             else:
-                self.shown = replace(self.shown, remaining=self.shown.remaining - 1)
-        limit = 60 * self.silence_limit
-        if self.silence < limit:
-            self.silence += 1
-            if self.silence == limit:
+                self.state.shown = replace(self.state.shown, remaining=self.state.shown.remaining - 1)
+        limit = 60 * self.state.silence_limit
+        if self.state.silence < limit:
+            self.state.silence += 1
+            if self.state.silence == limit:
                 self.activate_own(12, COMMUNICATIONS_LOSS)
 
     def ticks(self, seconds: int) -> None:
         """So many seconds; where one leaves all as it is, so do those after it."""
         for _ in range(seconds):
-            before = (self.shown, self.silence, self.is_validating())
+            before = (self.state.shown, self.state.silence, self.state.is_validating())
             self.tick()
-            if before == (self.shown, self.silence, False):
+            if before == (self.state.shown, self.state.silence, False):
                 return
 
     def heard(self) -> None:
         """What a Get that is answered leaves."""
-        if self.power:
-            self.silence = 0
+        if self.state.power:
+            self.state.silence = 0
 
     def power_lost(self) -> None:
-        if self.power:
-            self.kept = self.shown
+        if self.state.power:
+            self.state.kept = self.state.shown
             self.activate_own(14, POWER_LOSS)
-            self.power = False
+            self.state.power = False
 
     def power_back(self, seconds: int) -> None:
-        if self.power:
+        if self.state.power:
             return
-        self.rows[VOLATILE] = [Row() for _ in self.rows[VOLATILE]]
-        for row in self.rows[CHANGEABLE]:
+        self.state.rows[VOLATILE] = [Row() for _ in self.state.rows[VOLATILE]]
+        for row in self.state.rows[CHANGEABLE]:
             if row.status == VALIDATING:
                 row.status = MODIFYING
-        self.silence, self.power = 0, True
-        is_short = self.short_loss > 0 and seconds <= self.short_loss
-        self.activate_own(8 if is_short else 9, POWER_RECOVERY, self.kept)
+        self.state.silence, self.state.power = 0, True
+        is_short = self.state.short_loss > 0 and seconds <= self.state.short_loss
+        self.activate_own(8 if is_short else 9, POWER_RECOVERY, self.state.kept)

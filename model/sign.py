@@ -3,29 +3,44 @@
 from . import wire
 from .changes import Changes
 from .codes import Activation
+from .description import Description
+from .objects import Objects
+from .showing import Showing
+from .state import State
 
 
-class Sign(Changes):
+class Sign:
+    """What it holds is its state; what stands around that works on it."""
+
+    def __init__(self, described: Description) -> None:
+        self.state = State(described)
+        self.showing, self.objects = Showing(self.state), Objects(self.state)
+        self.changes = Changes(self.state, self.showing, self.objects)
+
+    def tick(self) -> None:
+        """A second passes."""
+        self.showing.tick()
+
     def receive(self, datagram: bytes) -> tuple[bytes | None, Activation | None]:
         """The reply and the activation that was accepted, each None where there is none."""
         message = wire.spelled(datagram)
         if (
-            not self.power
+            not self.state.power
             or message is None
             or message.kind == wire.RESPONSE
-            or message.community not in (self.reader, self.writer)
+            or message.community not in (self.state.reader, self.state.writer)
         ):
             return None, None
-        self.silence = 0
+        self.state.silence = 0
         accepted = None
         status, index, bindings = wire.NO_ERROR, 0, message.bindings
         if message.kind == wire.SET:
-            status, index, accepted = self.set(message)
+            status, index, accepted = self.changes.set(message)
         else:
             found = []
             for at, (asked, _) in enumerate(message.bindings, 1):
-                name = asked if message.kind == wire.GET else self.after(asked)
-                value = None if name is None else self.value(name)
+                name = asked if message.kind == wire.GET else self.objects.after(asked)
+                value = None if name is None else self.objects.value(name)
                 if name is None or value is None:
                     status, index = wire.NO_SUCH_NAME, at
                     break

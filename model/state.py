@@ -1,5 +1,6 @@
 """What a sign holds, and its rows: their names, what they are asked, the end of their validation."""
 
+import copy
 from dataclasses import dataclass, replace
 
 from . import layout
@@ -29,6 +30,8 @@ class Shown:
 
 
 class State:
+    """All that a sign holds. What it shows, reads and is told work on it (Showing, Objects, Changes)."""
+
     def __init__(self, described: Description) -> None:
         self.described, self.face = described, described.face
         self.reader, self.writer, self.swapped = described.reader, described.writer, described.swapped
@@ -47,6 +50,17 @@ class State:
         self.power = True
         self.kept: Shown | None = None
         self.shown = self.blank_shown(BLANK_1, POWER_RECOVERY)
+
+    def copied(self) -> "State":
+        """As it is now: what a request may change is another's. Nobody changes what is shown once it is made."""
+        made = copy.copy(self)
+        made.rows = {memory: [replace(row) for row in rows] for memory, rows in self.rows.items()}
+        made.defaults, made.own = [*self.defaults], {**self.own}
+        return made
+
+    def put_back(self, before: "State") -> None:
+        """As it was."""
+        self.__dict__ |= before.__dict__
 
     def row(self, memory: int, number: int) -> Row | None:
         """The row of this name, blank ones and what is shown too; None where there is none."""

@@ -238,9 +238,9 @@ class World:
         elif kind == "centre-tick":
             out = self.centre.tick()
         elif kind == "power-lost":
-            self.sign.power_lost()
+            self.sign.showing.power_lost()
         elif kind == "power-back":
-            self.sign.power_back(held)
+            self.sign.showing.power_back(held)
         elif kind == "centre-restart":
             self.centre.restart()
         elif kind in ("to-centre", "forge-centre"):
@@ -256,8 +256,8 @@ class World:
             self.to_sign.append(out)
 
     def report(self) -> list[str]:
-        shown, swapped = self.sign.shown, self.sign.swapped
-        remaining = self.sign.scalars()[(6, 4)]
+        shown, swapped = self.sign.state.shown, self.sign.state.swapped
+        remaining = self.sign.objects.scalars()[(6, 4)]
         assert isinstance(remaining, int)
         source = shown.source
         lines = [

@@ -114,13 +114,13 @@ class Cases:
             )
         if draw < 5:
             memory = self.one([2, 3, 3, 3, 4, 5, 7])
-            column, last = self.random.randrange(1, 10), len(sign.rows.get(memory, [])) or 255
+            column, last = self.random.randrange(1, 10), len(sign.state.rows.get(memory, [])) or 255
             return DMS + (5, 8, 1, column, memory, self.one([1, 1, 2, last]))
-        return DMS + self.one([key for key in sign.scalars()]) + (0,)
+        return DMS + self.one([key for key in sign.objects.scalars()]) + (0,)
 
     def value(self, name: wire.Name, sign: Sign) -> wire.Tagged:
         """A value for the object of this name, mostly of its type."""
-        held = sign.value(name)
+        held = sign.objects.value(name)
         if held is None or self.random.randrange(12) == 0:
             return self.one(
                 [
@@ -135,17 +135,17 @@ class Cases:
         if held[0] == wire.INTEGER:
             return wire.INTEGER, self.one([6, 7, 8] if name[-3:-2] == (9,) and self.random.randrange(5) else NUMBERS)
         if name == DMS + (6, 3, 0):
-            return wire.OCTETS, self.code(sign).octets(sign.swapped)
+            return wire.OCTETS, self.code(sign).octets(sign.state.swapped)
         if name[len(DMS)] == 6:
-            return wire.OCTETS, self.code(sign).id.octets(sign.swapped)
+            return wire.OCTETS, self.code(sign).id.octets(sign.state.swapped)
         return wire.OCTETS, self.one([self.text(), self.random.randbytes(self.one([0, 5, 12, 127, 128]))])
 
     def code(self, sign: Sign) -> Activation:
         """An activation of a row that there is, mostly."""
         memory = self.one([2, 3, 3, 4, 5, 7, 7, 6])
         number = self.one([1, 1, 2, 255])
-        row = sign.row(memory, number)
-        crc = sign.shown.crc() if memory == 5 else row.crc() if row else 0
+        row = sign.state.row(memory, number)
+        crc = sign.state.shown.crc() if memory == 5 else row.crc() if row else 0
         crc = self.one([crc, crc, crc, crc, 0, 0x1234])
         minutes, priority = self.one([0, 1, 2, 65535]), self.one([0, 1, 100, 255, 255])
         return Activation(minutes, priority, MessageId(memory, number, crc), self.random.randbytes(4))
@@ -154,7 +154,7 @@ class Cases:
         kind = self.one([wire.GET, wire.GET_NEXT, wire.SET, wire.SET, wire.SET])
         names = [self.name(sign) for _ in range(self.one([0, 1, 1, 1, 2, 3, 60]))]
         bindings = [(name, self.value(name, sign) if kind == wire.SET else (wire.NULL, b"")) for name in names]
-        community = self.one([sign.writer] * 6 + [sign.reader, b"other"])
+        community = self.one([sign.state.writer] * 6 + [sign.state.reader, b"other"])
         octets = wire.written(wire.Message(kind, community, self.one(NUMBERS), 0, 0, bindings))
         return octets if len(octets) <= wire.MOST_DATAGRAM else self.request(sign)
 
@@ -172,7 +172,7 @@ class Cases:
             )
         if draw == 3:
             return f"blank {self.one([1, 2, 255, 256, 0])} {terms}"
-        return f"activate {self.code(sign).octets(sign.swapped).hex()}"
+        return f"activate {self.code(sign).octets(sign.state.swapped).hex()}"
 
     def place(self, sent: list[bytes]) -> int:
         """The place of a datagram, mostly of the newest one."""
@@ -208,7 +208,7 @@ class Cases:
 
     def reply(self, world: World) -> bytes:
         number = self.one([world.centre.next - 1, world.centre.next, 1])
-        community, status = self.one([world.sign.writer, b"x"]), self.one([0, 0, 5, -1])
+        community, status = self.one([world.sign.state.writer, b"x"]), self.one([0, 0, 5, -1])
         bindings: list[wire.Binding] = [(DMS + (6, 17, 0), (wire.INTEGER, 2))]
         bindings *= self.one([0, 1, 1, 2])
         return wire.written(wire.Message(wire.RESPONSE, community, number % 2**32, status, 0, bindings))

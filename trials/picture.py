@@ -200,7 +200,7 @@ def main() -> int:
         folder = pathlib.Path(asked.keep or temporary)
         for name, sign, shown, alone, moments in PICTURES:
             description = (TOP / "signs" / f"{sign}.sign").read_bytes()
-            face = text.World(text.described(description)).sign.face
+            face = text.World(text.described(description)).sign.state.face
             pages, _ = layout.laid_out(face, face.defaults, shown.encode())
             assert pages is not None
             svg = document(asked.program, description, shown, alone)

@@ -23,7 +23,7 @@ def of_scalars() -> Iterator[Named]:
         yield f"Get {word}", request(wire.GET, [(DMS + key + (0,), NULL)], b"public")
         yield f"GetNext before {word}", request(wire.GET_NEXT, [(DMS + key, NULL)], b"public")
         yield f"Get {word} without its instance", request(wire.GET, [(DMS + key, NULL)])
-        held = Sign(text.bench()).value(DMS + key + (0,))
+        held = Sign(text.bench()).objects.value(DMS + key + (0,))
         assert held is not None
         yield f"Set {word} to what it is, by the writer", request(wire.SET, [(DMS + key + (0,), held)])
         yield f"Set {word} by the reader", request(wire.SET, [(DMS + key + (0,), held)], b"public")

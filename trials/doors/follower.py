@@ -41,7 +41,7 @@ class Follower:
     def __init__(self, path: pathlib.Path, description: bytes | None = None) -> None:
         self.path = path
         self.sign = Sign(text.bench() if description is None else text.described(description))
-        self.names: list[Name] = self.sign.instances()
+        self.names: list[Name] = self.sign.objects.names
         self.seen, self.number = b"", 1  # the whole records that were looked at, and the number of the next
         self.asked: list[tuple[bytes, bool]] = []  # datagrams that are no Gets, and whether each was answered
         self.at = 0  # of these, how many the journal has or will never have
@@ -89,22 +89,22 @@ class Follower:
         if word == b"datagram":
             self.sign.receive(b"" if rest == b"-" else bytes.fromhex(rest.decode()))
         elif word == b"ticks":
-            self.sign.ticks(int(rest))
+            self.sign.showing.ticks(int(rest))
         elif word == b"tick":
             self.sign.tick()
         elif word == b"heard":
-            self.sign.heard()
+            self.sign.showing.heard()
         elif word == b"power-lost":
-            self.sign.power_lost()
+            self.sign.showing.power_lost()
         elif word == b"power-back":
-            self.sign.power_back(int(rest))
+            self.sign.showing.power_back(int(rest))
         else:
             assert word in (b"journal", b"start", b"clock"), line
 
     def compare(self, trial: Trial, name: str, manager: Manager) -> None:
         """The sign has the value that the model has, of each instance."""
         found = manager.values(self.names)
-        wanted = {one: self.sign.value(one) for one in self.names}
+        wanted = {one: self.sign.objects.value(one) for one in self.names}
         other = [
             (".".join(map(str, one)), found.get(one), wanted[one])
             for one in self.names

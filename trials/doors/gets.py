@@ -98,7 +98,7 @@ class Lives:
     def __init__(self, trial: Trial) -> None:
         self.trial, self.path = trial, trial.new_folder() / "journal"
         self.sign = Sign(text.bench())
-        self.names = self.sign.instances()
+        self.names = self.sign.objects.names
         self.count = 0
 
     def start(self) -> tuple[Door, Manager]:
@@ -108,7 +108,7 @@ class Lives:
         lines = lines_of(self.path.read_bytes())
         for line in lines[max((at for at, line in enumerate(lines) if line.startswith(b"start ")), default=0) :]:
             if line.startswith(b"ticks "):
-                self.sign.ticks(int(line[6:]))
+                self.sign.showing.ticks(int(line[6:]))
         return door, Manager(door.port)
 
     def ask(self, name: str, manager: Manager, made: bytes) -> None:
@@ -119,7 +119,7 @@ class Lives:
 
     def compare(self, name: str, manager: Manager) -> None:
         found = manager.values(self.names)
-        other = [one for one in self.names if found.get(one) != self.sign.value(one)]
+        other = [one for one in self.names if found.get(one) != self.sign.objects.value(one)]
         self.trial.holds(f"{name}: after a kill the sign is what they left", not other, other[:5])
 
     def life(self, form: Form, some: list[bytes]) -> None:

@@ -51,9 +51,9 @@ class Exchange:
         except OSError:
             left = b""
         self.trial.holds("no reply is left over", not left, left.hex())
-        manager, names = Manager(self.door.port), self.sign.instances()
+        manager, names = Manager(self.door.port), self.sign.objects.names
         found = manager.values(names)
-        other = [one for one in names if found.get(one) != self.sign.value(one)]
+        other = [one for one in names if found.get(one) != self.sign.objects.value(one)]
         self.trial.holds("the whole walk is the model's", not other, other[:5])
         manager.close()
         self.socket.close()

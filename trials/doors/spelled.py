@@ -44,7 +44,7 @@ class Spelled:
     def __init__(self, trial: Trial) -> None:
         self.trial, self.count, self.recorded, self.last = trial, 0, 0, "no request"
         self.sign = Sign(text.bench())
-        self.names: list[Name] = self.sign.instances()
+        self.names: list[Name] = self.sign.objects.names
         self.walk = [self.get(at) for at in range(0, len(self.names), AT_ONCE)]
         self.anew()
 
@@ -100,7 +100,7 @@ class Spelled:
     def look(self, process: CoProcess) -> None:
         """The walk is the model's: looked at octet by octet where the last request changed the model or the walk."""
         state = pickle.dumps(self.sign)
-        values = self.values if state == self.state else {name: self.sign.value(name) for name in self.names}
+        values = self.values if state == self.state else {name: self.sign.objects.value(name) for name in self.names}
         replies = process.hand(self.walk)
         if values != self.values or replies != self.replies:
             found: dict[Name, wire.Tagged | None] = {}

@@ -53,7 +53,7 @@ def centre_lines(trial: Trial, count: int = LINES) -> list[str]:
 
 def walk() -> list[str]:
     """Gets of every instance of the bench sign, and what it shows."""
-    names = Sign(text.bench()).instances()
+    names = Sign(text.bench()).objects.names
     lines = []
     for at in range(0, len(names), AT_ONCE):
         bindings = [(name, (wire.NULL, b"")) for name in names[at : at + AT_ONCE]]

@@ -17,7 +17,6 @@ from wisangub.tester.sign.oracle import Oracle, made
 
 from . import bench
 from .load import Mutant, sign_of, unload
-from .model_cache import keep
 from .table import MUTANTS
 
 MOST_DATAGRAMS = 10
@@ -76,7 +75,7 @@ def main() -> int:
     description = asked.sign.read_bytes() if asked.sign else BENCH
     chosen = [mutant for mutant in MUTANTS if not asked.only or any(part in mutant.name for part in asked.only)]
     passed = failed = 0
-    with concurrent.futures.ProcessPoolExecutor(asked.jobs, initializer=keep) as pool:
+    with concurrent.futures.ProcessPoolExecutor(asked.jobs) as pool:
         for outcome in pool.map(tried, chosen, [description] * len(chosen), [asked.signtool] * len(chosen)):
             passed, failed = passed + outcome.is_found, failed + (not outcome.is_found)
             if asked.loud or not outcome.is_found:

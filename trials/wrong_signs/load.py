@@ -19,9 +19,9 @@ IMPORTS = {  # the files in the order in which they are loaded, and which of the
     "description": ("layout", "codes"),
     "state": ("layout", "codes", "description"),
     "showing": ("layout", "codes", "description", "multi", "state"),
-    "objects": ("wire", "codes", "description", "showing"),
-    "changes": ("wire", "codes", "description", "objects", "state"),
-    "sign": ("wire", "codes", "changes"),
+    "objects": ("wire", "codes", "description", "state"),
+    "changes": ("wire", "codes", "description", "objects", "showing", "state"),
+    "sign": ("wire", "codes", "changes", "description", "objects", "showing", "state"),
     "centre": ("wire", "codes", "objects"),
     "text": ("layout", "centre", "codes", "description", "sign"),
 }

@@ -30,9 +30,9 @@ def sign(minutes: int) -> Sign:
 def handed(made: Sign, lines: list[bytes]) -> None:
     for line in lines:
         if line == b"heard":
-            made.heard()
+            made.showing.heard()
         else:
-            made.ticks(int(line[6:]))
+            made.showing.ticks(int(line[6:]))
 
 
 def all_of(some: Owed) -> list[bytes]:
@@ -65,7 +65,7 @@ def test_polls_in_little_memory_leave_the_same_sign() -> None:
                 for more in (0, 1, 59, 60):
                     handed(one, [b"ticks %d" % more])
                     handed(other, [b"ticks %d" % more])
-                    assert [one.value(name) for name in SHOWN] == [other.value(name) for name in SHOWN]
+                    assert [one.objects.value(name) for name in SHOWN] == [other.objects.value(name) for name in SHOWN]
 
 
 def all_of_copy(some: Owed) -> list[bytes]:

@@ -18,10 +18,10 @@ def test_what_is_not_answered_or_changes_nothing_is_told_by_the_datagram() -> No
     for octets in requests():
         for one in (octets, *(mutated(octets, chance) for _ in range(5))):
             sort = sort_of(one, *WHO)
-            before = {name: sign.value(name) for name in CHANGED} if sort is not Sort.CHANGING else {}
+            before = {name: sign.objects.value(name) for name in CHANGED} if sort is not Sort.CHANGING else {}
             reply, _ = sign.receive(one)
             assert reply is None or sort is not Sort.UNANSWERED, one.hex()
-            assert all(sign.value(name) == value for name, value in before.items()), one.hex()
+            assert all(sign.objects.value(name) == value for name, value in before.items()), one.hex()
 
 
 def test_each_sort() -> None:

@@ -13,7 +13,6 @@ import time
 import traceback
 
 from trials.wrong_signs.__main__ import BENCH, tried
-from trials.wrong_signs.model_cache import keep
 from trials.wrong_signs.table import MUTANTS
 
 MODULES = tuple(
@@ -60,7 +59,7 @@ def main() -> int:
     asked = parser.parse_args()
     until = time.monotonic() + asked.seconds
     counts = {"passed": 0, "failed": 0, "skipped": 0}
-    with concurrent.futures.ProcessPoolExecutor(asked.jobs, initializer=keep) as pool:
+    with concurrent.futures.ProcessPoolExecutor(asked.jobs) as pool:
         waiting = [pool.submit(run, *test) for test in names()] + [
             pool.submit(mutant, at, until) for at in range(len(MUTANTS))
         ]

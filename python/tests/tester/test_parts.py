@@ -4,8 +4,7 @@ import ast
 import random
 
 from model import text
-from model import wire as model_wire
-from trials.wrong_signs import bench, model_cache
+from trials.wrong_signs import bench
 from trials.wrong_signs.load import edited
 from trials.wrong_signs.table import MUTANTS
 from wisangub.process.places import TOP
@@ -156,17 +155,3 @@ def test_a_reply_with_other_names_is_named_by_its_request() -> None:
     differs = mismatch(same, other)
     assert differs is not None and differs.kind is Kind.BINDINGS
     assert rule_of(asked, same, other, differs).key == "get"
-
-
-def test_names_that_are_kept_are_read_the_same() -> None:
-    for content in (wire.name_content(HEIGHT), b"\x2b", b"\x81\0", wire.name_content(HEIGHT)):
-        assert model_cache.name(model_wire.Reader(content, 0, len(content))) == model_cache.READ_NAME(
-            model_wire.Reader(content, 0, len(content))
-        )
-    for _ in range(2):
-        try:
-            model_cache.name(model_wire.Reader(b"..\x80\1", 2, 4))
-        except model_wire.Fault as fault:
-            assert (fault.kind, fault.offset) == ("BadName", 2)
-        else:
-            raise AssertionError("octets that spell no name")

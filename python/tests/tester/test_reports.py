@@ -4,7 +4,7 @@ import json
 import xml.etree.ElementTree as ET
 
 from model import text
-from model.changes import Change, Refused
+from model.changes import Change, Changes, Refused
 from model.sign import Sign
 from trials.wrong_signs import bench
 from trials.wrong_signs.load import sign_of
@@ -66,8 +66,8 @@ def test_another_spelling_and_no_answer_are_classes_of_their_own() -> None:
     assert 'type="no answer"' in files.as_junit(results, ABOUT)
 
 
-class Stubborn(Sign):
-    """A sign whose pages' time cannot be written."""
+class Stubborn(Changes):
+    """The pages' time cannot be written."""
 
     def change(self, name: Name, value: Value, is_writer: bool) -> Change:
         if name == scalar("defaultPageOnTime"):
@@ -76,8 +76,9 @@ class Stubborn(Sign):
 
 
 def test_what_cannot_be_brought_to_the_known_state_is_told() -> None:
-    sign = Stubborn(text.bench())
-    sign.defaults[7] = 99
+    sign = Sign(text.bench())
+    sign.changes = Stubborn(sign.state, sign.showing, sign.objects)
+    sign.state.defaults[7] = 99
     results = bench.run(bench.session(text.BENCH, sign, requests=0, most_differences=1), ["communities"])
     difference = results.before[0]
     assert difference.note == "defaultPageOnTime.0 cannot be brought to 30: it reads 99"
@@ -86,12 +87,12 @@ def test_what_cannot_be_brought_to_the_known_state_is_told() -> None:
 
 def test_what_was_changed_since_the_description_is_told_and_set_back() -> None:
     sign = Sign(text.bench())
-    sign.defaults[7] = 99
-    sign.ask(3, 1, 6)
+    sign.state.defaults[7] = 99
+    sign.state.ask(3, 1, 6)
     session = bench.session(text.BENCH, sign, requests=0)
     results = bench.run(session, ["communities"])
     assert results.set_back == [("defaultPageOnTime.0", "30", "99"), ("dmsMessageStatus.3.1", "1", "2")]
-    assert results.is_clean() and sign.defaults[7] == 30 and sign.rows[3][0].status == 1
+    assert results.is_clean() and sign.state.defaults[7] == 30 and sign.state.rows[3][0].status == 1
     told = "\n".join(terminal.ending(results, ABOUT, []))
     assert "defaultPageOnTime.0 is 30 in the description, was 99 on the sign" in told
     assert json.loads(files.as_json(results, ABOUT, []))["set_back"][0]["read"] == "99"

@@ -4,6 +4,7 @@ import random
 from typing import Callable
 
 from model import text
+from model.objects import Objects
 from model.sign import Sign
 from trials.wrong_signs import bench
 from wisangub.snmp import wire
@@ -102,20 +103,21 @@ def test_a_late_look_is_no_bracket_of_a_tick() -> None:
     assert session.pair.port.passed_over == 0
 
 
-class Slipping(Sign):
-    """A sign that answers one read of its pages' time wrongly."""
+class Slipping(Objects):
+    """Those of a sign that answers one read of its pages' time wrongly."""
 
     left = 1
 
     def value(self, name: wire.Name) -> wire.Tagged | None:
-        if name == TIME and self.defaults[7] == 9 and self.left:
+        if name == TIME and self.state.defaults[7] == 9 and self.left:
             self.left -= 1
             return integer(10)
         return super().value(name)
 
 
 def test_what_does_not_come_again_is_counted_and_is_no_difference() -> None:
-    sign = Slipping(text.bench())
+    sign = Sign(text.bench())
+    sign.objects = slipping = Slipping(sign.state)
     session = bench.session(text.BENCH, sign)
     assert session.preflight.begin()
     session.pair.clock.sleep_until(session.pair.ticks.upcoming() + 0.5)
@@ -123,7 +125,7 @@ def test_what_does_not_come_again_is_counted_and_is_no_difference() -> None:
     session.results.chapters.append(result)
     steps = [put((TIME, integer(9))), get(TIME)]
     assert session.block(result, Block("a slip", "set", steps, True), None) is None
-    assert sign.left == 0 and session.results.is_clean() and len(result.once) == 1
+    assert slipping.left == 0 and session.results.is_clean() and len(result.once) == 1
     about = words.About("127.0.0.1:1", "bench.sign", "model", None, 1, 0, False, "today")
     told = "\n".join(terminal.ending(session.results, about, []))
     assert "nothing differs; 1 seen once, and not again" in told and "defaultPageOnTime.0" in told
