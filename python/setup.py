@@ -10,7 +10,7 @@ TOP = pathlib.Path(__file__).resolve().parent.parent
 DATA = ("mibs", "signs", "vectors", "docs/PROFILE.md")
 
 
-class WithData(build_py):
+class WithData(build_py):  # type: ignore[misc]  # setuptools of Debian has no types
     """Puts it into the package, under data/, as it stands in the repository."""
 
     def run(self) -> None:

@@ -49,7 +49,8 @@ def free_port() -> int:
     """A UDP port that nobody has now."""
     with socket.socket(socket.AF_INET, socket.SOCK_DGRAM) as door:
         door.bind(("127.0.0.1", 0))
-        return door.getsockname()[1]
+        port: int = door.getsockname()[1]
+        return port
 
 
 def with_snmp_tools(block: str, after: str, program: str) -> bool:

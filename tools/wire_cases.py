@@ -88,7 +88,7 @@ def fault_words(case: Case) -> str:
 
 
 def is_shortest(case: Case) -> bool:
-    return case["canonical"] == case["octets"]
+    return bool(case["canonical"] == case["octets"])
 
 
 def message_words(case: Case) -> str:

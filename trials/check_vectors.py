@@ -102,7 +102,7 @@ def octets_of_json(octets: Case) -> str:
 
 
 def name_of_json(names: Case) -> str:
-    return names["name"] + (f" ({names['object']})" if "object" in names else "")
+    return f"{names['name']} ({names['object']})" if "object" in names else str(names["name"])
 
 
 def value_of_json(kind: str, value: Any) -> str:

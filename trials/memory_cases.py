@@ -14,6 +14,7 @@ from dataclasses import dataclass
 from model import wire
 from model.objects import DMS
 from trials import hostile
+from wisangub.tester.hostile_datagrams import Maker
 
 TOP = pathlib.Path(__file__).resolve().parent.parent
 READER, WRITER = b"public", b"admin"
@@ -75,7 +76,7 @@ def calls() -> list[Call]:
     for name, datagrams in talks().items():
         made.append(Call(name, ["sign"], "".join(f"datagram {octets.hex()}\n" for octets in datagrams).encode()))
     made.append(Call("publication", ["replay"], "\n".join(["bench", *hostile.PUBLICATION, ""]).encode()))
-    made.append(Call("hostile", ["replay"], hostile.script(100, hostile.Random(hostile.Maker(1), 100))[0].encode()))
+    made.append(Call("hostile", ["replay"], hostile.script(100, hostile.Random(Maker(1), 100))[0].encode()))
     gantry, roadside = ((TOP / f"signs/{name}.sign").read_bytes() for name in ("gantry", "roadside"))
     made += [
         Call("replay-on-gantry", ["replay"], gantry),

@@ -52,7 +52,7 @@ def lacking(step: Step) -> list[str]:
     return [need for need in step.needs.split() if not is_here(need)]
 
 
-def waited(process: subprocess.Popen, limit: float, stopped: threading.Event) -> bool:
+def waited(process: subprocess.Popen[bytes], limit: float, stopped: threading.Event) -> bool:
     """Whether the process ended in time. It is not reaped, so that its number still names its group."""
     last = time.monotonic() + limit
     while os.waitid(os.P_PID, process.pid, os.WEXITED | os.WNOHANG | os.WNOWAIT) is None:

@@ -187,7 +187,8 @@ def run(trial: Trial) -> None:
     """All of it."""
     bits = Bits(trial)
     bits.bits()
-    for part in (bits.sectors, bits.doors, lambda: older(trial, bits.path, bits.text)):
-        part()
+    bits.sectors()
+    bits.doors()
+    older(trial, bits.path, bits.text)
     if not trial.is_late():
         unknown(trial, bits.path, bits.text)

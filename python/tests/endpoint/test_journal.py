@@ -12,8 +12,9 @@ from unittest import mock
 from wisangub.endpoint import records
 from wisangub.endpoint.clock import Moment
 from wisangub.endpoint.files import NotKept, opened
-from wisangub.endpoint.journal import MOST_OWED, Journal
+from wisangub.endpoint.journal import Journal
 from wisangub.endpoint.keeper import Keeper
+from wisangub.endpoint.owed import MOST_EXACT
 from wisangub.endpoint.records import Head
 from wisangub.refusal import Refusal
 
@@ -358,20 +359,20 @@ def test_lines_that_wait_for_a_disk_are_written_part_by_part() -> None:
         path = f"{folder}/journal"
         keeper = Keeper(Journal.opened(path, HEAD))
         keeper.journal.__class__ = Refusing
-        for at in range(20 * MOST_OWED):
+        for at in range(20 * MOST_EXACT):
             keeper.tick(7, 10.0)
             keeper.heard(by_kept=False)
-        assert len(keeper.journal.owed.first) == MOST_OWED
-        wanted = [b"ticks 7", b"heard"] * (MOST_OWED // 2)
+        assert len(keeper.journal.owed.first) == MOST_EXACT
+        wanted = [b"ticks 7", b"heard"] * (MOST_EXACT // 2)
         keeper.journal.__class__ = Half
         assert not keeper.keep([b"datagram 31"])
-        assert len(keeper.journal.owed.first) == MOST_OWED and keeper.journal.owed.polls
+        assert len(keeper.journal.owed.first) == MOST_EXACT and keeper.journal.owed.polls
         keeper.journal.__class__ = Journal
         assert keeper.keep([b"datagram 32"]) and not keeper.journal.owed
         keeper.journal.close()
         lines = kept(path)
-        assert lines[:MOST_OWED] == wanted and lines[-1] == b"datagram 32"
-        assert sum(int(line[6:]) for line in lines if line.startswith(b"ticks")) == 7 * 20 * MOST_OWED
+        assert lines[:MOST_EXACT] == wanted and lines[-1] == b"datagram 32"
+        assert sum(int(line[6:]) for line in lines if line.startswith(b"ticks")) == 7 * 20 * MOST_EXACT
         assert all(int(line[6:]) < 60 for line in lines if line.startswith(b"ticks"))
 
 
@@ -381,7 +382,7 @@ class Half(Journal):
     parts = 2
 
     def append(self, lines: list[bytes], synced: bool) -> None:
-        assert len(lines) <= MOST_OWED
+        assert len(lines) <= MOST_EXACT
         self.parts -= 1
         if self.parts < 0:
             raise NotKept("the disk is full", 1)

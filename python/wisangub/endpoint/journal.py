@@ -24,8 +24,7 @@ from .files import (
     synced_folder,
     written_anew,
 )
-from .owed import MOST_EXACT as MOST_OWED
-from .owed import Owed
+from .owed import MOST_EXACT, Owed
 from .reading import Found
 from .records import FORM, Head, records
 
@@ -187,7 +186,7 @@ class Journal:
 
     def keep(self, lines: list[bytes]) -> None:
         """These lines are on the disk after it, and what was owed before them; raises NotKept where they are not."""
-        while self.owed.polls or len(self.owed.first) > MOST_OWED:
+        while self.owed.polls or len(self.owed.first) > MOST_EXACT:
             self.pay()
         self.append(self.owed.first + lines, synced=True)
         self.owed.first.clear()

@@ -86,15 +86,20 @@ def integer_of(octets: bytes, begin: int, end: int, least: int = -(2**31)) -> in
     return number
 
 
+def _number_of(octets: bytes) -> int:
+    """The number that octets spell, seven bits in each."""
+    number = 0
+    for octet in octets:
+        number = SHORT * number + octet % SHORT
+    return number
+
+
 @functools.lru_cache(maxsize=4096)
 def numbers_of(held: bytes) -> Name | None:
     """The numbers of a name's content, the first two of which stand in one; None where it spells no name."""
     if not NAMES.fullmatch(held):
         return None
-    first, *rest = (
-        functools.reduce(lambda number, octet: SHORT * number + octet % SHORT, octets, 0)
-        for octets in NUMBERS.findall(held)
-    )
+    first, *rest = map(_number_of, NUMBERS.findall(held))
     root = min(first // 40, 2)
     return (root, first - 40 * root, *rest)
 

@@ -13,6 +13,7 @@ from building.kit import Kit
 from building.plan import Plan
 from building.proofs import Proofs
 from building.static import Static
+from tries.libraries import whole_plan
 
 ARM = "aarch64-unknown-linux-gnu"
 KIT = """#!/bin/sh
@@ -41,14 +42,14 @@ def plan(tmp_path: pathlib.Path, monkeypatch: pytest.MonkeyPatch) -> Plan:
     monkeypatch.setattr(planning, "TOP", tmp_path)
     monkeypatch.setattr(static_library, "gathered", lambda *_: None)
     monkeypatch.setenv("PATH", f"{tmp_path}/bin", prepend=":")
-    return static_library.whole_plan()
+    return whole_plan()
 
 
 def proved(plan: Plan, *names: str) -> Proofs:
     """What an earlier tools/build.py left of these crates."""
     room = plan.crates[plan.program].folder / "out/proved"
     room.mkdir(parents=True, exist_ok=True)
-    made = Proofs(static_library.whole_plan(), Kit(planning.TOP), room)
+    made = Proofs(whole_plan(), Kit(planning.TOP), room)
     for name in names:
         made.made(name).touch()
         made.stamp(name).write_text(made.sum_of(name), encoding="ascii")
@@ -60,7 +61,7 @@ def asked(standing: bool = True, target: str | None = None, cpu: str | None = No
 
 
 def status(**words: object) -> int:
-    return static_library.over_what_stands(static_library.whole_plan(), asked(**words))  # type: ignore[arg-type]
+    return static_library.over_what_stands(whole_plan(), asked(**words))  # type: ignore[arg-type]
 
 
 def test_it_is_made_once_of_the_same_sources(plan: Plan) -> None:
