@@ -28,16 +28,20 @@ def base(top: pathlib.Path) -> str | None:
     return known[0] if known else None
 
 
-def changed_python(top: pathlib.Path) -> list[str] | None:
-    """The files in Python that are not as main has them; nothing where git does not tell."""
+def _not_as_main(top: pathlib.Path, pattern: str) -> set[str] | None:
+    """What of a pattern is not as main has it, committed or not, or is not tracked; nothing where git does not tell."""
     since = base(top)
     if since is None:
         return None
-    tracked = told(top, "diff", "--name-only", "--no-renames", "-z", since, "--", "*.py")
-    others = told(top, "ls-files", "--others", "--exclude-standard", "-z", "--", "*.py")
-    if tracked is None or others is None:
-        return None
-    return sorted(name for name in {*tracked.split("\0"), *others.split("\0")} if name and (top / name).is_file())
+    tracked = told(top, "diff", "--name-only", "--no-renames", "-z", since, "--", pattern)
+    others = told(top, "ls-files", "--others", "--exclude-standard", "-z", "--", pattern)
+    return None if tracked is None or others is None else {*tracked.split("\0"), *others.split("\0")}
+
+
+def changed_python(top: pathlib.Path) -> list[str] | None:
+    """The files in Python that are not as main has them; nothing where git does not tell."""
+    names = _not_as_main(top, "*.py")
+    return None if names is None else sorted(name for name in names if name and (top / name).is_file())
 
 
 def names_of(paths: Iterable[str]) -> set[str]:
@@ -46,12 +50,7 @@ def names_of(paths: Iterable[str]) -> set[str]:
 
 def changed(top: pathlib.Path) -> list[str] | None:
     """The crates of which a file that a check reads is not as main has it; nothing where git does not tell."""
-    since = base(top)
-    if since is None:
+    paths = _not_as_main(top, "crates")
+    if paths is None:
         return None
-    tracked = told(top, "diff", "--name-only", "--no-renames", "-z", since, "--", "crates")
-    others = told(top, "ls-files", "--others", "--exclude-standard", "-z", "--", "crates")
-    if tracked is None or others is None:
-        return None
-    names = names_of([*tracked.split("\0"), *others.split("\0")])
-    return sorted(name for name in names if (top / "crates" / name / "src").is_dir())
+    return sorted(name for name in names_of(paths) if (top / "crates" / name / "src").is_dir())

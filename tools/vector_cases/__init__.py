@@ -3,4 +3,5 @@
 import pathlib
 import sys
 
-sys.path.append(str(pathlib.Path(__file__).resolve().parents[2]))  # where the model is
+TOP = pathlib.Path(__file__).resolve().parents[2]
+sys.path += [str(TOP), str(TOP / "python")]  # where the model is, and the package

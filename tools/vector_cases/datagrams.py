@@ -3,7 +3,7 @@
 from collections.abc import Iterable, Iterator
 
 from model import wire
-from model.names import KINDS, TYPES
+from wisangub.snmp.names import KINDS, TYPES
 
 from .messages import GET_STATUS, NULL, Case, cell, request
 

@@ -4,8 +4,8 @@ from collections.abc import Sequence
 from typing import Any
 
 from model import wire
-from model.names import COLUMNS, SCALARS
 from model.objects import DMS
+from wisangub.snmp.names import COLUMNS, SCALARS
 
 Case = dict[str, Any]  # a line of a file of vectors, as JSON has it
 Bindings = Sequence[wire.Binding]

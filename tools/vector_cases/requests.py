@@ -3,9 +3,9 @@
 from collections.abc import Iterator
 
 from model import text, wire
-from model.names import COLUMNS, SCALARS
 from model.objects import DMS
 from model.sign import Sign
+from wisangub.snmp.names import COLUMNS, SCALARS
 
 from .messages import NULL, Case, cell, request, scalar
 
@@ -121,9 +121,9 @@ def requests() -> Iterator[Named]:
 def cases() -> Iterator[Case]:
     for name, octets in requests():
         sign = Sign(text.bench())
-        before = {key: repr(held) for key, held in vars(sign).items()}
+        before = {key: repr(held) for key, held in vars(sign.state).items()}
         reply, _ = sign.receive(octets)
-        changes = before != {key: repr(held) for key, held in vars(sign).items()}
+        changes = before != {key: repr(held) for key, held in vars(sign.state).items()}
         yield {
             "name": name,
             "request": octets.hex(),

@@ -9,6 +9,7 @@ import time
 
 from model import wire
 from model.text import BENCH
+from trials.doors.disks import fill
 
 from . import records
 from .doors import MOST_REPLY, Door
@@ -44,13 +45,7 @@ class Mounted:
     def fill(self) -> pathlib.Path:
         """No octet is left on the disk: the file that has them."""
         filler = self.folder / "filler"
-        with open(filler, "wb", buffering=0) as file:
-            for size in (512, 1):
-                try:
-                    while file.write(b"\0" * size):
-                        pass
-                except OSError:
-                    pass
+        fill(filler)
         return filler
 
     def end(self) -> None:

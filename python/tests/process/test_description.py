@@ -2,10 +2,12 @@
 
 import hashlib
 import pathlib
+import re
 import tempfile
 
 from model.text import BENCH
 from wisangub.process import description
+from wisangub.process.places import TOP
 from wisangub.refusal import Refusal
 
 
@@ -25,6 +27,15 @@ def test_a_description_ends_with_its_line_end_and_a_newline() -> None:
         found = read(BENCH.rstrip(b"\n") + after)
         assert found == BENCH and description.digest(BENCH) == hashlib.sha256(BENCH).hexdigest(), after
     assert description.BENCH == BENCH and description.digest(None) == "bench"
+
+
+def test_the_bench_sign_is_the_programs_own_and_that_of_the_profile() -> None:
+    source = (TOP / "crates/dms_sign_text/src/bench_sign.rt").read_bytes()
+    found = re.search(rb'pub const BENCH: &str = "([^"]*)";', source)
+    assert found and found[1] == BENCH
+    page = (TOP / "docs/PROFILE.md").read_text(encoding="utf-8").split("## The bench sign\n")[1]
+    lines = re.findall(r"(?m)^    (.*)$", page.split("\n## ")[0])
+    assert "".join(line + "\n" for line in lines).encode() == BENCH
 
 
 def test_what_is_no_description_is_refused_by_its_line() -> None:

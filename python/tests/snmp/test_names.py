@@ -1,7 +1,8 @@
 """Names of objects and words of values, beside the MIB's and the model's."""
 
-from model import names as model
-from model.objects import DMS
+from model.objects import DMS, Objects
+from model.state import State
+from model.text import bench
 from wisangub.snmp import names
 from wisangub.snmp.mib import Mib
 
@@ -15,10 +16,10 @@ def test_names_are_those_of_the_mib() -> None:
     assert mib.name(names.cell("dmsMessageStatus", names.Memory.CHANGEABLE, 7)) == "dmsMessageStatus.3.7"
 
 
-def test_names_and_words_are_those_of_the_model() -> None:
+def test_all_scalars_and_columns_of_the_model_have_a_name() -> None:
     assert names.DMS == DMS
-    for word in ("COLUMNS", "SCALARS", "KINDS", "TYPES"):
-        assert getattr(names, word) == getattr(model, word)
+    scalars = {name[len(DMS) : -1] for name in Objects(State(bench())).names if len(name) == len(DMS) + 3}
+    assert scalars == set(names.SCALARS) and sorted(names.COLUMNS) == list(range(1, 10))
 
 
 def test_statuses_of_rows_are_those_of_the_mib() -> None:

@@ -5,25 +5,10 @@ import re
 
 from wisangub.refusal import Refusal, reason
 
+from .places import TOP
+
 # the sign that the program has where it is handed no description (docs/PROFILE.md, "The bench sign")
-BENCH = b"""size 23 14
-communities public admin
-rows 2 1
-order high
-has 1 0
-defaults 0 9 5 5 1 3 2 30 0
-first 1
-permanent 42 - 0 0 100
-font 1 height 7 space 1 line 1 version 0001
-glyph 49 2 7554
-glyph 65 5 7463f8c620
-glyph 66 5 f463e8c7c0
-glyph 91 3 f24938
-glyph 93 3 e49278
-font 2 height 5 space 1 line 1 version 0002
-glyph 65 3 57da
-end
-"""
+BENCH = (TOP / "signs/bench.sign").read_bytes()
 FIRST = re.compile(rb"^first ([0-9]{1,10})(?=\r?$)", re.MULTILINE)
 COMMUNITIES = re.compile(rb"^communities ([^ \n]+) ([^ \n]+?)\r?$", re.MULTILINE)
 
