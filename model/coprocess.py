@@ -21,7 +21,7 @@ def without_newline(line: bytes) -> bytes:
     return line[:-1].removesuffix(b"\r") if line.endswith(b"\n") else line
 
 
-def say(*lines: str) -> None:
+def print_lines(*lines: str) -> None:
     """Writes lines; where nobody reads them any more, that is the end."""
     try:
         os.write(1, "".join(line + "\n" for line in lines).encode())
@@ -108,10 +108,10 @@ def main() -> int:
         try:
             described = text.described(b"".join(lines))
         except text.Bad as bad:
-            say(f"line {bad.line}")
+            print_lines(f"line {bad.line}")
             return 1
         except text.TooLong:
-            say("too long")
+            print_lines("too long")
             return 1
     world = text.World(described)
     assert isinstance(world.centre, Centre)
@@ -121,9 +121,9 @@ def main() -> int:
             parts = line.split(b" ")
             if b"" in parts or len(line) > MOST_LINE:
                 raise ValueError
-            say(*answer(world, parts))
+            print_lines(*answer(world, parts))
         except ValueError:
-            say("bad line")
+            print_lines("bad line")
     return 0
 
 

@@ -39,7 +39,7 @@ class Found:
         for cycle in cycles:
             self.places.setdefault(cycle, []).append(place)
 
-    def say(self, fault: str, of: str) -> None:
+    def hold_against(self, fault: str, of: str) -> None:
         if fault:
             self.failed += 1
             print(f"{of}: {fault}")
@@ -79,12 +79,12 @@ def judge(found: Found, is_code_read: bool) -> None:
     for cycle, places in sorted(found.places.items()):
         is_row = any(set(cycle) <= set(row.cycle) for row in BOUNDS)
         of = f"{' -> '.join(cycle)} ({', '.join(places)})"
-        found.say("" if is_row else "calls itself, and no row of tools/depths/bounds.py says how deep", of)
+        found.hold_against("" if is_row else "calls itself, and no row of tools/depths/bounds.py says how deep", of)
     for row in BOUNDS:
         is_seen = any(set(cycle) <= set(row.cycle) for cycle in found.places)
         is_of_code = not row.cycle[0].startswith(own) or "+Destruct" in row.cycle[0]
         gone = "" if is_seen or (is_of_code and not is_code_read) else "it calls itself no more, so its row goes"
-        found.say(gone or row.fault(TOP), " -> ".join(row.cycle))
+        found.hold_against(gone or row.fault(TOP), " -> ".join(row.cycle))
 
 
 def main() -> int:

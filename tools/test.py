@@ -104,7 +104,7 @@ class Run:
         self.left, self.begun = Left(together, alone, processors), time.monotonic()
         self.found: list[Outcome] = []
 
-    def say(self) -> None:
+    def _print_progress(self) -> None:
         """How many steps are over, since when it runs, and how long the rest takes."""
         seconds, steps = time.monotonic() - self.begun, len(self.left.ends)
         words = f"{len(self.found)} of {steps} steps in {seconds:.0f} s"
@@ -114,11 +114,11 @@ class Run:
     def outcomes(self) -> list[Outcome]:
         """What came of each step."""
         for steps, processors in ((self.together, self.processors), *(([step], 1) for step in self.alone)):
-            for step, outcome in ended(steps, self.program, processors, self.say):
+            for step, outcome in ended(steps, self.program, processors, self._print_progress):
                 self.found.append(outcome)
                 self.left.end(step.name, time.monotonic() - self.begun)
                 print(outcome.said, flush=True)
-                self.say()
+                self._print_progress()
         return self.found
 
 

@@ -4,6 +4,10 @@ import os
 import sys
 from typing import Callable
 
+from wisangub.output import LOG, print_line
+
+say, tell = LOG.info, print_line  # what the control room calls them
+
 
 class Refusal(Exception):
     """Why a door does not go on, in words. Status 2: what it was given is not in order; 1: something failed."""
@@ -17,25 +21,6 @@ def reason(fault: OSError) -> str:
     """The system's words for a fault, with the file's name where it has one."""
     words = fault.strerror or str(fault)
     return f"{fault.filename}: {words}" if fault.filename else words
-
-
-def say(words: str) -> None:
-    """A line on standard error, as far as that can be written."""
-    try:
-        if sys.stderr is not None:
-            print(words, file=sys.stderr, flush=True)
-    except (OSError, ValueError):
-        pass
-
-
-def tell(words: str) -> None:
-    """A line on standard output; where nobody reads it any more a door goes on."""
-    try:
-        print(words.encode("utf-8", "backslashreplace").decode(), flush=True)
-    except UnicodeEncodeError:
-        tell(words.encode("ascii", "backslashreplace").decode())
-    except (OSError, ValueError):
-        os.dup2(os.open(os.devnull, os.O_WRONLY), 1)
 
 
 def keep_standard_files() -> None:
@@ -60,13 +45,13 @@ def status_of(door: Callable[[], int]) -> int:
     try:
         return door()
     except Refusal as refused:
-        say(str(refused))
+        LOG.error(str(refused))
         return refused.status
     except OSError as fault:
-        say(reason(fault))
+        LOG.error(reason(fault))
         return 1
     except MemoryError:
-        say("out of memory")
+        LOG.error("out of memory")
         return 1
     except KeyboardInterrupt:
         return 1

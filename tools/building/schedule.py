@@ -69,7 +69,7 @@ class Schedule:
             self.done.add(one.crate.name)
             self.timed.add(one.crate.name)
             self.seconds += seconds * one.processors
-            self.say(f"{one.crate.name} in {seconds:.0f} s")
+            self._print_progress(f"{one.crate.name} in {seconds:.0f} s")
         return one
 
     def left(self) -> float:
@@ -80,13 +80,13 @@ class Schedule:
         timed = sum(work[name] for name in self.timed)
         return max(longest, rest / self.processors) * (self.seconds / timed if timed else SECONDS_A_LINE)
 
-    def say(self, what: str) -> None:
+    def _print_progress(self, what: str) -> None:
         rest = f"some {self.left() / 60:.0f} minutes left"
         print(f"{len(self.done)} of {len(self.wanted)} crates: {what}; {rest}", file=sys.stderr, flush=True)
 
     def run(self, way: Way) -> Running | None:
         """Proves all that are wanted, and returns the first that failed."""
-        self.say("at the start")
+        self._print_progress("at the start")
         try:
             while self.done != self.wanted:
                 self.start_ready(way)

@@ -12,6 +12,7 @@ from wisangub.endpoint.files import NotKept
 from wisangub.endpoint.journal import Journal
 from wisangub.endpoint.keeper import Keeper
 from wisangub.endpoint.records import whole
+from wisangub.output import LOG
 
 from .form1 import older
 from .test_journal import HEAD, LINES, NOW, kept, made
@@ -114,9 +115,7 @@ def test_each_minute_it_is_said_what_the_next_start_will_not_know() -> None:
     with tempfile.TemporaryDirectory() as folder:
         disk = Disk(errno.ENOSPC)
         made(f"{folder}/journal")
-        with disk.patches(), mock.patch("wisangub.endpoint.keeper.say", told.append), mock.patch(
-            "wisangub.endpoint.journal.say", told.append
-        ):
+        with disk.patches(), mock.patch.object(LOG, "info", told.append):
             keeper = Keeper(Journal.opened(f"{folder}/journal", HEAD, is_patient=True))
             keeper.start(LATER, None, is_patient=True)
             for second in range(1, 200):

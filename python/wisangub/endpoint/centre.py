@@ -20,8 +20,9 @@ import argparse
 import math
 import sys
 
+from wisangub.output import LOG, print_line
 from wisangub.process import description
-from wisangub.refusal import Refusal, say, status_of, tell
+from wisangub.refusal import Refusal, status_of
 
 from . import commands
 from .centre_door import CentreDoor, last_command
@@ -70,11 +71,11 @@ def main() -> int:
     with connected(*host_and_port(asked.to)) as socket:
         journal = journal_of(asked, Head("centre", description.digest(text), first)) if asked.journal else None
         if journal is None:
-            say(f"request numbers begin at {first}: no journal tells which were used")
+            LOG.info(f"request numbers begin at {first}: no journal tells which were used")
         elif journal.head.first is not None:
             first = begun_with(journal.head.first, asked.first, asked.fresh)
             if journal.is_new:
-                say(f"{asked.journal}: a new journal, whose request numbers begin at {first}")
+                LOG.info(f"{asked.journal}: a new journal, whose request numbers begin at {first}")
         centre = begun(asked, "centre", description.with_first(text, first), journal)
         questions = Questions(asked.signtool, text)
         operator = CentreDoor(centre, socket, journal, log, asked.tick, asked.wait, questions)
@@ -83,7 +84,7 @@ def main() -> int:
         is_well = operator.finish([], asked.wait) if operator.is_busy else True
         for line in commands.lines(operator.waiting):
             if line is None:
-                tell("bad line: no UTF-8, or longer than 65536 octets")
+                print_line("bad line: no UTF-8, or longer than 65536 octets")
             is_well = line is not None and operator.carry_out(line) and is_well
         centre.end()
     return 0 if is_well and not operator.waiting.is_stopped else 1

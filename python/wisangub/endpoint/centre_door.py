@@ -5,8 +5,9 @@ import socket
 import time
 from typing import Iterable
 
+from wisangub.output import LOG, print_line
 from wisangub.process.coprocess import CoProcess
-from wisangub.refusal import Refusal, reason, say, tell
+from wisangub.refusal import Refusal, reason
 from wisangub.snmp import wire
 from wisangub.snmp.mib import Mib
 
@@ -75,7 +76,7 @@ class CentreDoor:
         """Sends a datagram."""
         fault = sent(self.door, octets)
         if fault is not None:
-            say(f"a request is lost: {reason(fault)}")
+            LOG.info(f"a request is lost: {reason(fault)}")
         if self.log:
             self.log.datagram("out", self.to, octets)
 
@@ -112,7 +113,7 @@ class CentreDoor:
         is_done = self.carry_on(wait)
         if not is_done:
             why = "stopped" if self.waiting.is_stopped else f"given up after {wait:g} seconds"
-            tell(f"{why}: the job is not done")
+            print_line(f"{why}: the job is not done")
         now, known = self.status(), set(before[2:])
         self.show([*now[:2], *(line for line in now[2:] if line not in known)])
         if is_done:
@@ -126,11 +127,11 @@ class CentreDoor:
         if self.questions and ending is not None and ending.number > 0 and endings.is_in_error(how):
             said = self.questions.verdict(self.to, self.waiting, -ending.number, self.line, self.log)
         if words := endings.explained(how, named(self.to), said):
-            say(words)
+            LOG.info(words)
 
     def show(self, lines: list[str]) -> None:
         """Prints lines of a status."""
-        tell("\n".join(ended(self.mib, line) for line in lines))
+        print_line("\n".join(ended(self.mib, line) for line in lines))
 
     def carry_out(self, line: str) -> bool:
         """Whether a line of the operator's was in order, and ended accepted if it was a command."""
@@ -140,10 +141,10 @@ class CentreDoor:
         try:
             command = published(line) if line.split(" ")[0] == "publish-text" else line
         except Refusal as refused:
-            tell(f"bad line: {refused}")
+            print_line(f"bad line: {refused}")
             return False
         if command.split(" ")[0] not in COMMANDS:
-            tell("bad line")
+            print_line("bad line")
             return False
         return self.command(command)
 
@@ -162,10 +163,10 @@ class CentreDoor:
         try:
             answer = self.hand(command.encode("utf-8")).decode("latin-1")
         except NotKept as refused:
-            tell(f"not begun: it cannot be recorded: {refused}")
+            print_line(f"not begun: it cannot be recorded: {refused}")
             return False
         if answer.split(" ")[0] in ("refused", "bad"):
-            tell(answer)
+            print_line(answer)
             return False
         return self.finish(before, self.wait)
 

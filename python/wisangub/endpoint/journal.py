@@ -5,7 +5,8 @@ import os
 from dataclasses import replace
 from typing import Iterator
 
-from wisangub.refusal import Refusal, reason, say
+from wisangub.output import LOG
+from wisangub.refusal import Refusal, reason
 
 from . import older, reading
 from .clock import Moment
@@ -57,7 +58,7 @@ class Journal:
             except NotKept as refused:
                 if not is_patient:
                     raise
-                journal.tell(str(refused))
+                journal._log_refused(str(refused))
         except Refusal:
             journal.close()
             raise
@@ -75,7 +76,7 @@ class Journal:
         journal = Journal(path, head)
         journal.file, aside = put_aside(path, begun)
         journal.is_written = True
-        say(f"{path}: put aside as {aside}")
+        LOG.info(f"{path}: put aside as {aside}")
         journal.read(False)
         journal.prepare()
         journal.is_new = True
@@ -89,7 +90,7 @@ class Journal:
             if not is_patient:
                 raise
             self.file = opened_to_read(self.path)
-            self.tell(str(refused))
+            self._log_refused(str(refused))
 
     def text(self) -> mmap.mmap | bytes:
         """The file's octets."""
@@ -155,7 +156,7 @@ class Journal:
     def cut_off(self, size: int, length: int) -> None:
         """Puts what stands behind the kept records into a file of its own, and then cuts it away."""
         name = kept_aside(self.file, size, length, self.path)
-        say(f"{self.path}: {length - size} octets from octet {size} on are cut away, and kept as {name}")
+        LOG.info(f"{self.path}: {length - size} octets from octet {size} on are cut away, and kept as {name}")
         cut(self.file, size, self.path)
         self.since = self.number
 
@@ -170,7 +171,7 @@ class Journal:
         self.found = replace(found, head=self.head, size=self.size, length=self.size, number=self.number)
         more = found.length - found.size
         also = f", alone with {more} octets that were not finished" if more else ""
-        say(f"{self.path}: written anew in form {FORM}; as it was it is kept as {aside}{also}")
+        LOG.info(f"{self.path}: written anew in form {FORM}; as it was it is kept as {aside}{also}")
 
     def copy(self, text: mmap.mmap | bytes, size: int, file: int) -> int:
         """Writes the records of a journal of form 1 in form 2, each of which is on the disk when the file has its name:
@@ -218,9 +219,9 @@ class Journal:
                 self.prepare()
             self.write(lines, synced)
         except NotKept as refused:
-            self.tell(str(refused))
+            self._log_refused(str(refused))
             raise
-        self.tell("")
+        self._log_refused("")
 
     def write(self, lines: list[bytes], synced: bool) -> None:
         """Writes records. After a write that failed the file is cut back; what is on the disk is not known where that,
@@ -244,10 +245,12 @@ class Journal:
             os.close(self.file)
         self.file, self.is_written = -1, False
 
-    def tell(self, refused: str) -> None:
+    def _log_refused(self, refused: str) -> None:
         """Says why the disk refuses, once, and when it takes records again."""
         if refused != self.refused:
-            say(f"{refused}: what is not recorded is not answered" if refused else f"{self.path}: it is written again")
+            LOG.info(
+                f"{refused}: what is not recorded is not answered" if refused else f"{self.path}: it is written again"
+            )
         self.refused = refused
 
 

@@ -1,6 +1,6 @@
 """What a sign's door records, and when: datagrams before they are handed over, seconds and polls after."""
 
-from wisangub.refusal import say
+from wisangub.output import LOG
 
 from .clock import Moment, down
 from .files import NotKept
@@ -49,11 +49,11 @@ class Keeper:
         if self.journal.is_paid():
             self.journal.owe(now.clock())
         if self.journal.refused:
-            self.tell()
+            self._log_lost()
 
-    def tell(self) -> None:
+    def _log_lost(self) -> None:
         """What is lost if the door ends now."""
-        say(f"{self.journal.refused}: {self.lost} seconds are not recorded, and will be lost at the next start")
+        LOG.info(f"{self.journal.refused}: {self.lost} seconds are not recorded, and will be lost at the next start")
 
     def count(self) -> None:
         """The seconds so far go with the next record, in one line where they are in a row."""
@@ -84,6 +84,6 @@ class Keeper:
         try:
             self.journal.keep([Moment.at(up).clock()])
         except NotKept:
-            self.tell()
+            self._log_lost()
             return False
         return True

@@ -5,7 +5,8 @@ import json
 import os
 import stat
 
-from wisangub.refusal import Refusal, reason, say
+from wisangub.output import LOG
+from wisangub.refusal import Refusal, reason
 from wisangub.snmp.datagrams import fields_of
 from wisangub.snmp.mib import Mib
 
@@ -53,13 +54,13 @@ class Log:
             written = os.write(self.file, octets)
         except OSError as fault:
             if not self.left_out:
-                say(f"the log {self.path} is not written: {fault.strerror}")
+                LOG.info(f"the log {self.path} is not written: {fault.strerror}")
             self.left_out += 1
             self.is_given_up = self.path == "-" and isinstance(fault, BrokenPipeError)
             return
         self.is_torn = written < len(octets)
         if self.left_out and not self.is_torn:
-            say(f"the log {self.path} is written again, without {self.left_out} events")
+            LOG.info(f"the log {self.path} is written again, without {self.left_out} events")
             self.left_out = 0
 
 

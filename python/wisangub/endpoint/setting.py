@@ -5,9 +5,10 @@ import argparse
 import dataclasses
 import os
 
+from wisangub.output import LOG
 from wisangub.process.coprocess import CoProcess
 from wisangub.process.places import SIGNTOOL, add_version
-from wisangub.refusal import Refusal, say
+from wisangub.refusal import Refusal
 
 from .files import octets_aside, opened
 from .journal import Journal
@@ -106,5 +107,5 @@ def begun(asked: argparse.Namespace, end: str, text: bytes | None, journal: Jour
             raise Refusal(f"{asked.signtool} has no line `ticks`, which a journal needs")
         process.replay(journal.lines())
     else:
-        say("nothing is kept: no --journal")
+        LOG.info("nothing is kept: no --journal")
     return process

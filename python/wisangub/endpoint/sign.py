@@ -20,9 +20,10 @@ import wisangub.endpoint.interrupts  # noqa: F401, before all else
 import argparse
 import sys
 
+from wisangub.output import print_line
 from wisangub.process import description
 from wisangub.process.coprocess import CoProcess
-from wisangub.refusal import Refusal, status_of, tell
+from wisangub.refusal import Refusal, status_of
 
 from .clock import Moment, running
 from .keeper import Keeper
@@ -89,9 +90,9 @@ def main() -> int:
         who, limit = description.communities_of(text), Limit[Heard](asked.most_recorded)
         with watched(asked, text, sign, copy, lines) as (watcher, page):
             if not asked.quiet:
-                tell(f"a sign at {named(at if ':' in at[0] else (asked.host, at[1]))}")
+                print_line(f"a sign at {named(at if ':' in at[0] else (asked.host, at[1]))}")
             if page and not asked.quiet:
-                tell(f"a page at {page}")
+                print_line(f"a page at {page}")
             served = SignDoor(sign, door, keeper, log, up, asked.lose, asked.quiet, who, limit, watcher)
             is_kept = served.serve(waiting, not asked.no_ticks)
     sign.end()

@@ -3,8 +3,9 @@
 import socket
 from binascii import hexlify, unhexlify
 
+from wisangub.output import LOG, print_line
 from wisangub.process.coprocess import CoProcess
-from wisangub.refusal import Refusal, reason, say, tell
+from wisangub.refusal import Refusal, reason
 from wisangub.snmp.wire import MOST_DATAGRAM
 
 from .clock import running
@@ -160,7 +161,7 @@ class SignDoor:
         try:
             self.door.sendto(octets, sender)
         except OSError as fault:
-            say(f"a reply is lost: {reason(fault)}")
+            LOG.info(f"a reply is lost: {reason(fault)}")
         if self.log:
             self.log.datagram("out", sender, octets)
         return True
@@ -168,6 +169,6 @@ class SignDoor:
     def accepted(self, code: str, sender: Address) -> None:
         """Tells of an activation."""
         if not self.is_quiet:
-            tell(f"accepted {code}")
+            print_line(f"accepted {code}")
         if self.log:
             self.log.event("accepted", sender, {"code": code})
