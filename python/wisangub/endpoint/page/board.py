@@ -125,10 +125,11 @@ class Board(Watcher):
         self.look()
 
     def turn(self, door: "SignDoor") -> None:
-        if self.presses.are_done(door):
-            self.is_due = True
-        if self.wait(running()) == 0.0:
+        pressed = self.presses.done_by(door)
+        if pressed or self.wait(running()) == 0.0:
             self.look()
+        for one in pressed:
+            one.done.set()
 
     # --- what is looked at --------------------------------------------------------------------------------------------
 

@@ -10,7 +10,7 @@ from wisangub.endpoint.clock import MOST_MADE_UP, MOST_SECONDS, Moment, running
 if TYPE_CHECKING:
     from wisangub.endpoint.sign_door import SignDoor
 
-PATIENCE = 5.0  # seconds that a button waits for the door
+PATIENCE = 30.0  # seconds that a button waits for the door
 MOST_LOST = 50  # datagrams that are to be lost at once
 NAMES = ("seconds", "power-lost", "power-back", "lose-request", "lose-reply")
 MOST = {"seconds": MOST_MADE_UP, "power-back": MOST_SECONDS}  # of the number that goes with it
@@ -54,18 +54,16 @@ class Presses:
         self.replies, is_lost = max(0, self.replies - 1), self.replies > 0
         return is_lost
 
-    def are_done(self, door: "SignDoor") -> bool:
-        """Does what was pressed so far, in the door's thread: whether that was anything."""
-        found = False
+    def done_by(self, door: "SignDoor") -> list[Press]:
+        """Does what was pressed so far, in the door's thread: the presses, whose pages wait for a word."""
+        found: list[Press] = []
+        try:
+            os.read(self.file, 4096)  # first, so that a press after this wakes the door again
+        except BlockingIOError:
+            pass
         while not self.waiting.empty():
-            one, found = self.waiting.get(), True
-            one.fault = self.do(one, door)
-            one.done.set()
-        if found:
-            try:
-                os.read(self.file, 4096)
-            except BlockingIOError:
-                pass
+            found.append(self.waiting.get())
+            found[-1].fault = self.do(found[-1], door)
         return found
 
     def do(self, one: Press, door: "SignDoor") -> str:

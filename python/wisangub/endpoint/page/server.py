@@ -21,13 +21,13 @@ from .presses import MOST, NAMES
 
 HOST = "127.0.0.1"  # and no other
 STATIC = pathlib.Path(__file__).with_name("static")
-FILES = {"/page.css": "text/css; charset=utf-8", "/page.js": "text/javascript; charset=utf-8"}
 SVG, PLAIN, JSON = "image/svg+xml", "text/plain; charset=utf-8", "application/json"
+FILES = {"/page.css": "text/css; charset=utf-8", "/page.js": "text/javascript; charset=utf-8", "/page.svg": SVG}
 MOST_AT_ONCE = 40  # requests; a page that listens is one
 MOST_BODY = 100  # octets of what is posted
 LOOK = 0.25  # seconds from one look at what has changed to the next
 SILENCE = 10.0  # seconds after which a browser that listens is told that the page is there
-PATIENCE = 10.0  # seconds that a browser may take to ask, or to take what it is sent
+PATIENCE = 30.0  # seconds that a browser may take to ask, or to take what it is sent
 
 
 class Server(socketserver.ThreadingTCPServer):
@@ -143,30 +143,35 @@ class Handler(http.server.BaseHTTPRequestHandler):
 
     def do_POST(self) -> None:
         """A button that is pressed."""
-        name, server = self.path[1:], self.server
+        name, server, body = self.path[1:], self.server, self.body()
         if not server.guard.is_of_here(self.headers):
             self.refuse(HTTPStatus.FORBIDDEN, "this is no name of this page")
         elif not server.guard.may_press(self.headers):
             self.refuse(HTTPStatus.FORBIDDEN, "only the page itself presses its buttons")
         elif name not in NAMES:
             self.refuse(HTTPStatus.NOT_FOUND, "there is no such button")
-        elif (amount := self.amount(MOST.get(name, 0))) is None:
+        elif (amount := amount_of(body, MOST.get(name, 0))) is None:
             self.refuse(HTTPStatus.BAD_REQUEST, "this is no number of seconds")
         elif why := server.board.presses.press(name, amount if amount >= 0 else None):
             self.refuse(HTTPStatus.CONFLICT, why)
         else:
             self.answer(b"", status=HTTPStatus.OK)
 
-    def amount(self, most: int) -> int | None:
-        """The number that was posted, up to this one; -1 where there is none, and None where it is no such number."""
+    def body(self) -> bytes | None:
+        """What is posted; None where that is more than a button needs."""
         size = self.headers.get("Content-Length", "0")
-        if not (size.isascii() and size.isdigit() and int(size) <= MOST_BODY):
-            return None
-        fields = urllib.parse.parse_qs(self.rfile.read(int(size)).decode("latin-1"))
-        found = fields.get("amount", [""])[0]
-        if not found:
-            return -1
-        return int(found) if found.isascii() and found.isdigit() and int(found) <= most else None
+        is_small = size.isascii() and size.isdigit() and int(size) <= MOST_BODY
+        return self.rfile.read(int(size)) if is_small else None
+
+
+def amount_of(body: bytes | None, most: int) -> int | None:
+    """The number that was posted, up to this one; -1 where there is none, and None where it is no such number."""
+    if body is None:
+        return None
+    found = urllib.parse.parse_qs(body.decode("latin-1")).get("amount", [""])[0]
+    if not found:
+        return -1
+    return int(found) if found.isascii() and found.isdigit() and int(found) <= most else None
 
 
 def listed(parts: dict[str, str]) -> str:
