@@ -6,7 +6,7 @@ from collections.abc import Iterator
 from .tree import Tree
 
 WIDTH, ROW = 120, 200
-LONGEST = {"README.md": 170, "docs/MAP.md": 200}
+LONGEST = {"README.md": 180, "docs/MAP.md": 200}
 LINK = re.compile(r"\]\(([^)\s]+)\)")
 FENCE = "```"
 
