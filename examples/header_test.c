@@ -45,6 +45,7 @@ static void without_a_sign(void)
         struct wisangub_sign *none = turn ? &sign : NULL;
         REFUSED(wisangub_sign_receive(none, "", 0, buffer, sizeof buffer, &size));
         REFUSED(wisangub_sign_tick(none));
+        REFUSED(wisangub_sign_ticks(none, 1));
         REFUSED(wisangub_sign_heard(none));
         REFUSED(wisangub_sign_power_lost(none));
         REFUSED(wisangub_sign_power_back(none, 1));
@@ -348,11 +349,44 @@ static void shown_text(void)
     assert(size == 1 && room[0] == 'A' && untouched(1, 16));
 }
 
+/* Seconds one by one and at once are the same to a message that is shown for a minute. */
+static void seconds(void)
+{
+    static const char command[] = "blank 1 5 255 192.0.2.1";
+    struct wisangub_shown shown;
+    size_t community = 0;
+    wisangub_centre_free(&centre);
+    DONE(wisangub_sign_writer(&sign, buffer, sizeof buffer, &community));
+    DONE(wisangub_centre_new(&centre, buffer, community, WISANGUB_HIGH, 100));
+    DONE(wisangub_centre_command(&centre, command, sizeof command - 1, room, WISANGUB_DATAGRAM, &size));
+    DONE(wisangub_sign_receive(&sign, room, size, room + 2000, WISANGUB_DATAGRAM, &size));
+    DONE(wisangub_sign_shown(&sign, &shown));
+    assert(shown.memory == 7 && shown.number == 1 && shown.minutes == 5);
+    DONE(wisangub_sign_ticks(&sign, 0));
+    DONE(wisangub_sign_ticks(&sign, 179));
+    DONE(wisangub_sign_shown(&sign, &shown));
+    assert(shown.minutes == 3);
+    DONE(wisangub_sign_tick(&sign));
+    DONE(wisangub_sign_shown(&sign, &shown));
+    assert(shown.minutes == 2);
+    DONE(wisangub_sign_ticks(&sign, UINT32_C(100000)));
+    DONE(wisangub_sign_shown(&sign, &shown));
+    assert(shown.minutes == 65535);
+}
+
+/* The library is of this header's version. */
+static void version(void)
+{
+    assert(strcmp(wisangub_version(), WISANGUB_VERSION) == 0 && WISANGUB_OF_THIS_VERSION == 1);
+}
+
 int main(int count, char **words)
 {
-    assert(count == 2);
-    FILE *file = fopen(words[1], "rb");
-    assert(file != NULL);
+    FILE *file = count == 2 ? fopen(words[1], "rb") : NULL;
+    if (file == NULL) {
+        return fputs("usage: header_test DESCRIPTION\n", stderr), 2;
+    }
+    version();
     size_t text_size = fread(text, 1, sizeof text, file);
     fclose(file);
     without_a_sign();
@@ -371,6 +405,7 @@ int main(int count, char **words)
     waiting();
     published();
     shown_text();
+    seconds();
     wisangub_centre_free(&centre);
     wisangub_sign_free(&sign);
     assert(sign.at == NULL && centre.at == NULL);

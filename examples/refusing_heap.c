@@ -1,12 +1,7 @@
 /* A heap for tests: the call whose number stands in the environment's REFUSED_CALL, counted from 1, finds no memory. */
-#include <stddef.h>
-#include <stdint.h>
 #include <stdlib.h>
 
-struct had {
-    uint64_t has;
-    void *at;
-};
+#include "wisangub.h"
 
 static char none;
 
@@ -20,20 +15,16 @@ static int is_refused(void)
     return ++calls == refused;
 }
 
-static struct had had(void *at) { return (struct had){at != NULL, at != NULL ? at : &none}; }
+static struct rattle_had had(void *at) { return (struct rattle_had){at != NULL, at != NULL ? at : &none}; }
 
-struct had rattle_alloc(size_t size, size_t align);
-struct had rattle_realloc(void *at, size_t old, size_t size, size_t align);
-void rattle_dealloc(void *at);
-
-struct had rattle_alloc(size_t size, size_t align)
+struct rattle_had rattle_alloc(size_t size, size_t align)
 {
     return had(is_refused() ? NULL : malloc(size != 0 ? size : align));
 }
 
-struct had rattle_realloc(void *at, size_t old, size_t size, size_t align)
+struct rattle_had rattle_realloc(void *at, size_t kept, size_t size, size_t align)
 {
-    (void)old;
+    (void)kept;
     return had(is_refused() ? NULL : realloc(at, size != 0 ? size : align));
 }
 

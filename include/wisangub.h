@@ -1,5 +1,10 @@
 /*
- * The proved sign and the proved central system of Wisangub for C (C11) and C++.
+ * The proved sign and the proved central system of Wisangub for C (C11) and C++ (C++11).
+ *
+ * Targets: 64-bit Linux on x86-64 and on ARM64. On x86-64 the library wants a processor of the level x86-64-v2 (SSE4.2
+ * and POPCNT; since about 2009), and an older one ends the program by SIGILL; `make -C examples CPU=x86-64` builds it
+ * for any x86-64. There is none for 32 bits and none for bare metal: docs/C.md, "Targets". What a call takes at most of
+ * heap, stack and instructions stands there too, as it was measured.
  *
  * What each function of the library does is proved: docs/PROVED.md, "Beside", has the contracts. Not proved is what
  * this header and its callers have to keep:
@@ -8,19 +13,24 @@
  *   - `at` is null before the first use, and after that what the library wrote there: nobody else writes it, and a
  *     struct is not copied, for two copies of a struct wisangub_sign are one sign. A sign is used only between
  *     wisangub_sign_new, which answered WISANGUB_DONE, and wisangub_sign_free.
- *   - One sign is used by one thread at a time; two signs may be used by two threads at once. No function is called
- *     from a signal handler.
+ *   - One sign is used by one thread at a time, also by calls that take it as `const`; two signs may be used by two
+ *     threads at once, where the heap may. A sign may go from one thread to another by a lock. No function is called
+ *     from a signal handler, an interrupt, or a forked child of a process with threads.
  *   - A pointer that comes with a size points to at least so many octets, and no two pointers of one call overlap.
- *   - malloc, realloc and free are those of the C library, or others that keep its promises and align to 16 octets.
+ *   - The heap keeps what is said of rattle_alloc below.
  *
  * There is no global state, no thread, no exit and no abort. wisangub_sign_new and wisangub_centre_new take memory (by
- * malloc), and wisangub_sign_free and wisangub_centre_free give it back; the two calls that draw pages, and the command
- * of a central system, take memory and give it back before they answer; a central system takes some for its ledger,
- * where its command or tick answers MEMORY if there is none; no other call takes any. Sizes are octets and times are
- * seconds. The functions answer one of enum wisangub_answer.
+ * rattle_alloc), and wisangub_sign_free and wisangub_centre_free give it back; the two calls that draw pages, and the
+ * command of a central system, take memory and give it back before they answer; a central system takes some for its
+ * ledger, where its command or tick answers MEMORY if there is none; no other call takes any. Sizes are octets and
+ * times are seconds. The functions answer one of enum wisangub_answer. What is `const` is only read.
  *
  * A call that fills a buffer gives the size that it needs in *size. Where the room is smaller it answers TOO_SMALL and
  * does nothing else, and may be called again; null with a room of 0 asks for the size alone.
+ *
+ * The functions of this header are in the library too, under the same names (wisangub.c, beside this header), for
+ * callers in other languages: examples/from_python.py and examples/from_rust.rs. To these an enum is 32 bits, as an
+ * argument and as an answer.
  */
 #ifndef WISANGUB_H
 #define WISANGUB_H
@@ -28,9 +38,38 @@
 #include <stddef.h>
 #include <stdint.h>
 
+#if SIZE_MAX != UINT64_MAX
+#error "wisangub: the library is for 64-bit targets alone (docs/C.md, Targets)"
+#endif
+
 #ifdef __cplusplus
 extern "C" {
 #endif
+
+/* The version of this header; wisangub_version() is that of the library. */
+#define WISANGUB_VERSION "1.0.0"
+
+/* A name of the library that has its version in it, and the value 1: each program that makes a sign or a central system
+ * asks for it, so that a header and a library of two versions do not link. */
+#define WISANGUB_OF_THIS_VERSION wisangub_1_0_0
+extern const uint8_t WISANGUB_OF_THIS_VERSION;
+
+const char *wisangub_version(void);
+
+/*
+ * The heap is the caller's: these three functions are not in the library. examples/heap.c has them over malloc
+ * (libwisangub_heap.a), and examples/arena.c over a static array. A block is aligned to `align`, a power of two of at
+ * most 16, and stays where it is until it is given to rattle_realloc or rattle_dealloc. Where there is no memory `has`
+ * is 0, and a block that was to grow stays as it was; `at` is never null, in no answer. `old` is the size that a block
+ * was asked for. Two threads that use two signs may call them at once.
+ */
+struct rattle_had {
+    uint64_t has; /* 1 where there is memory, else 0 */
+    void *at;
+};
+struct rattle_had rattle_alloc(size_t size, size_t align);
+struct rattle_had rattle_realloc(void *at, size_t kept, size_t size, size_t align);
+void rattle_dealloc(void *at);
 
 /* The most octets of a datagram, and the least room for a reply. */
 #define WISANGUB_DATAGRAM 1472
@@ -148,7 +187,53 @@ struct wisangub_status {
     uint8_t why;    /* enum wisangub_why, else 0 */
 };
 
-/* What the library exports, as the compiler of the library lays it out. Use the functions below, which refuse null. */
+/* Layouts are fixed: a compiler that lays a struct out otherwise than the library does not compile this header. */
+#ifdef __cplusplus
+#define WISANGUB_FIXED(is_so) static_assert(is_so, "wisangub: not the layout of the library")
+#else
+#define WISANGUB_FIXED(is_so) _Static_assert(is_so, "wisangub: not the layout of the library")
+#endif
+#define WISANGUB_AT(type, field, offset) WISANGUB_FIXED(offsetof(struct wisangub_##type, field) == (offset))
+#define WISANGUB_SIZE(type, size) WISANGUB_FIXED(sizeof(struct wisangub_##type) == (size))
+WISANGUB_FIXED(sizeof(enum wisangub_answer) == 4 && sizeof(void *) == 8 && sizeof(struct rattle_had) == 16);
+WISANGUB_SIZE(sign, 8);
+WISANGUB_SIZE(centre, 8);
+WISANGUB_SIZE(shown, 16);
+WISANGUB_AT(shown, minutes, 0);
+WISANGUB_AT(shown, number, 4);
+WISANGUB_AT(shown, checksum, 6);
+WISANGUB_AT(shown, memory, 8);
+WISANGUB_AT(shown, mode, 9);
+WISANGUB_AT(shown, priority, 10);
+WISANGUB_AT(shown, beacon, 11);
+WISANGUB_AT(shown, pixel, 12);
+WISANGUB_SIZE(text_fault, 16);
+WISANGUB_AT(text_fault, place, 0);
+WISANGUB_AT(text_fault, code, 8);
+WISANGUB_SIZE(code, 12);
+WISANGUB_AT(code, minutes, 0);
+WISANGUB_AT(code, number, 2);
+WISANGUB_AT(code, checksum, 4);
+WISANGUB_AT(code, priority, 6);
+WISANGUB_AT(code, memory, 7);
+WISANGUB_AT(code, address, 8);
+WISANGUB_SIZE(entry, 32);
+WISANGUB_AT(entry, status, 0);
+WISANGUB_AT(entry, number, 8);
+WISANGUB_AT(entry, outcome, 12);
+WISANGUB_AT(entry, code, 14);
+WISANGUB_SIZE(status, 24);
+WISANGUB_AT(status, value, 0);
+WISANGUB_AT(status, entries, 8);
+WISANGUB_AT(status, busy, 16);
+WISANGUB_AT(status, last, 17);
+WISANGUB_AT(status, step, 18);
+WISANGUB_AT(status, why, 19);
+#undef WISANGUB_AT
+#undef WISANGUB_SIZE
+#undef WISANGUB_FIXED
+
+/* What is proved, as the compiler of the library lays it out. Use the functions below, which refuse null. */
 uint32_t wisangub_sign_new_at(const uint8_t *text, size_t text_size, struct wisangub_sign *sign, uint32_t *first,
                               size_t *line);
 uint32_t wisangub_sign_receive_at(struct wisangub_sign *sign, const uint8_t *datagram, size_t datagram_size,
@@ -158,16 +243,18 @@ void wisangub_sign_power_lost_at(struct wisangub_sign *sign);
 void wisangub_sign_power_back_at(struct wisangub_sign *sign, uint32_t seconds);
 void wisangub_sign_heard_at(struct wisangub_sign *sign);
 void wisangub_sign_free_at(struct wisangub_sign *sign);
-void wisangub_sign_shown_at(struct wisangub_sign *sign, struct wisangub_shown *shown);
-void wisangub_sign_matrix_at(struct wisangub_sign *sign, uint16_t *width, uint16_t *height);
-uint32_t wisangub_sign_text_at(struct wisangub_sign *sign, uint8_t *text, size_t room, size_t *size);
-uint32_t wisangub_sign_reader_at(struct wisangub_sign *sign, uint8_t *community, size_t room, size_t *size);
-uint32_t wisangub_sign_writer_at(struct wisangub_sign *sign, uint8_t *community, size_t room, size_t *size);
-uint32_t wisangub_sign_check_at(struct wisangub_sign *sign, const uint8_t *text, size_t text_size, size_t *pages,
+void wisangub_sign_shown_at(const struct wisangub_sign *sign, struct wisangub_shown *shown);
+void wisangub_sign_matrix_at(const struct wisangub_sign *sign, uint16_t *width, uint16_t *height);
+uint32_t wisangub_sign_text_at(const struct wisangub_sign *sign, uint8_t *text, size_t room, size_t *size);
+uint32_t wisangub_sign_reader_at(const struct wisangub_sign *sign, uint8_t *community, size_t room, size_t *size);
+uint32_t wisangub_sign_writer_at(const struct wisangub_sign *sign, uint8_t *community, size_t room, size_t *size);
+uint32_t wisangub_sign_check_at(const struct wisangub_sign *sign, const uint8_t *text, size_t text_size, size_t *pages,
                                 struct wisangub_text_fault *fault);
-uint32_t wisangub_sign_pages_at(struct wisangub_sign *sign, uint8_t layer, uint8_t *pages, size_t room, size_t *size);
-uint32_t wisangub_sign_text_pages_at(struct wisangub_sign *sign, const uint8_t *text, size_t text_size, uint8_t layer,
-                                     uint8_t *pages, size_t room, size_t *size, struct wisangub_text_fault *fault);
+uint32_t wisangub_sign_pages_at(const struct wisangub_sign *sign, uint8_t layer, uint8_t *pages, size_t room,
+                                size_t *size);
+uint32_t wisangub_sign_text_pages_at(const struct wisangub_sign *sign, const uint8_t *text, size_t text_size,
+                                     uint8_t layer, uint8_t *pages, size_t room, size_t *size,
+                                     struct wisangub_text_fault *fault);
 uint32_t wisangub_row_bits_at(const uint8_t *looks, size_t count, uint8_t *bits, size_t room, size_t *size);
 uint16_t wisangub_crc_at(const uint8_t *text, size_t text_size, uint8_t beacon, uint8_t pixel);
 uint32_t wisangub_message_code_at(uint8_t order, const struct wisangub_code *parts, uint8_t *code, size_t room,
@@ -184,9 +271,14 @@ uint32_t wisangub_centre_receive_at(struct wisangub_centre *centre, const uint8_
 uint32_t wisangub_centre_tick_at(struct wisangub_centre *centre, uint8_t *request, size_t request_room,
                                  size_t *request_size);
 void wisangub_centre_restart_at(struct wisangub_centre *centre);
-void wisangub_centre_status_at(struct wisangub_centre *centre, struct wisangub_status *status);
-uint32_t wisangub_centre_entry_at(struct wisangub_centre *centre, size_t index, struct wisangub_entry *entry);
+void wisangub_centre_status_at(const struct wisangub_centre *centre, struct wisangub_status *status);
+uint32_t wisangub_centre_entry_at(const struct wisangub_centre *centre, size_t index, struct wisangub_entry *entry);
 void wisangub_centre_free_at(struct wisangub_centre *centre);
+
+/* The functions below are compiled with each file that includes this one, and once into the library. */
+#ifndef WISANGUB_INLINE
+#define WISANGUB_INLINE static inline
+#endif
 
 /* A buffer, or a place for none where its room is 0. */
 static inline uint8_t *wisangub_buffer(void *buffer, size_t room, uint8_t *none)
@@ -199,10 +291,11 @@ static inline uint8_t *wisangub_buffer(void *buffer, size_t room, uint8_t *none)
  * DONE, with the number of the first request of its central system in *first; FAULT, with the line for which the
  * description is refused in *line, counted from 1; MEMORY; or NULL, also where the sign is made already.
  */
-static inline enum wisangub_answer wisangub_sign_new(struct wisangub_sign *sign, const void *text, size_t text_size,
-                                                     uint32_t *first, size_t *line)
+WISANGUB_INLINE enum wisangub_answer wisangub_sign_new(struct wisangub_sign *sign, const void *text, size_t text_size,
+                                                       uint32_t *first, size_t *line)
 {
-    if (sign == NULL || sign->at != NULL || text == NULL || first == NULL || line == NULL) {
+    if (sign == NULL || sign->at != NULL || text == NULL || first == NULL || line == NULL
+        || !WISANGUB_OF_THIS_VERSION) {
         return WISANGUB_NULL;
     }
     return (enum wisangub_answer)wisangub_sign_new_at((const uint8_t *)text, text_size, sign, first, line);
@@ -213,9 +306,9 @@ static inline enum wisangub_answer wisangub_sign_new(struct wisangub_sign *sign,
  * sign drops the datagram (*reply_size is 0); TOO_SMALL, where reply_room is below WISANGUB_DATAGRAM: the sign has not
  * heard the datagram, the buffer is as it was, and *reply_size is WISANGUB_DATAGRAM; or NULL. No memory is taken.
  */
-static inline enum wisangub_answer wisangub_sign_receive(struct wisangub_sign *sign, const void *datagram,
-                                                         size_t datagram_size, void *reply, size_t reply_room,
-                                                         size_t *reply_size)
+WISANGUB_INLINE enum wisangub_answer wisangub_sign_receive(struct wisangub_sign *sign, const void *datagram,
+                                                           size_t datagram_size, void *reply, size_t reply_room,
+                                                           size_t *reply_size)
 {
     if (sign == NULL || sign->at == NULL || datagram == NULL || reply == NULL || reply_size == NULL) {
         return WISANGUB_NULL;
@@ -225,7 +318,7 @@ static inline enum wisangub_answer wisangub_sign_receive(struct wisangub_sign *s
 }
 
 /* A second passes: call it once in each second, also while the power is off. Answers DONE or NULL. */
-static inline enum wisangub_answer wisangub_sign_tick(struct wisangub_sign *sign)
+WISANGUB_INLINE enum wisangub_answer wisangub_sign_tick(struct wisangub_sign *sign)
 {
     if (sign == NULL || sign->at == NULL) {
         return WISANGUB_NULL;
@@ -235,10 +328,25 @@ static inline enum wisangub_answer wisangub_sign_tick(struct wisangub_sign *sign
 }
 
 /*
+ * So many seconds pass: as many calls of wisangub_sign_tick, and as long as these take, so that a process that was
+ * stopped for an hour tells it in one call. Answers DONE or NULL.
+ */
+WISANGUB_INLINE enum wisangub_answer wisangub_sign_ticks(struct wisangub_sign *sign, uint32_t seconds)
+{
+    if (sign == NULL || sign->at == NULL) {
+        return WISANGUB_NULL;
+    }
+    for (uint32_t second = 0; second < seconds; second++) {
+        wisangub_sign_tick_at(sign);
+    }
+    return WISANGUB_DONE;
+}
+
+/*
  * The power is lost; the sign drops every datagram until it is back. Without power nothing changes. Answers DONE or
  * NULL.
  */
-static inline enum wisangub_answer wisangub_sign_power_lost(struct wisangub_sign *sign)
+WISANGUB_INLINE enum wisangub_answer wisangub_sign_power_lost(struct wisangub_sign *sign)
 {
     if (sign == NULL || sign->at == NULL) {
         return WISANGUB_NULL;
@@ -248,7 +356,7 @@ static inline enum wisangub_answer wisangub_sign_power_lost(struct wisangub_sign
 }
 
 /* The power is back after so many seconds. With power nothing changes. Answers DONE or NULL. */
-static inline enum wisangub_answer wisangub_sign_power_back(struct wisangub_sign *sign, uint32_t seconds)
+WISANGUB_INLINE enum wisangub_answer wisangub_sign_power_back(struct wisangub_sign *sign, uint32_t seconds)
 {
     if (sign == NULL || sign->at == NULL) {
         return WISANGUB_NULL;
@@ -261,7 +369,7 @@ static inline enum wisangub_answer wisangub_sign_power_back(struct wisangub_sign
  * The silence is over, as after a Get that was answered. It is for one who goes on from a journal, where Gets are
  * recorded by this alone (docs/JOURNAL.md). Answers DONE or NULL.
  */
-static inline enum wisangub_answer wisangub_sign_heard(struct wisangub_sign *sign)
+WISANGUB_INLINE enum wisangub_answer wisangub_sign_heard(struct wisangub_sign *sign)
 {
     if (sign == NULL || sign->at == NULL) {
         return WISANGUB_NULL;
@@ -271,7 +379,7 @@ static inline enum wisangub_answer wisangub_sign_heard(struct wisangub_sign *sig
 }
 
 /* What the sign shows, but for its text. Answers DONE or NULL. */
-static inline enum wisangub_answer wisangub_sign_shown(struct wisangub_sign *sign, struct wisangub_shown *shown)
+WISANGUB_INLINE enum wisangub_answer wisangub_sign_shown(const struct wisangub_sign *sign, struct wisangub_shown *shown)
 {
     if (sign == NULL || sign->at == NULL || shown == NULL) {
         return WISANGUB_NULL;
@@ -281,7 +389,8 @@ static inline enum wisangub_answer wisangub_sign_shown(struct wisangub_sign *sig
 }
 
 /* The columns, 1 to 256, and the rows, 1 to 64, of the sign's matrix. Answers DONE or NULL. */
-static inline enum wisangub_answer wisangub_sign_matrix(struct wisangub_sign *sign, uint16_t *width, uint16_t *height)
+WISANGUB_INLINE enum wisangub_answer wisangub_sign_matrix(const struct wisangub_sign *sign, uint16_t *width,
+                                                          uint16_t *height)
 {
     if (sign == NULL || sign->at == NULL || width == NULL || height == NULL) {
         return WISANGUB_NULL;
@@ -291,7 +400,8 @@ static inline enum wisangub_answer wisangub_sign_matrix(struct wisangub_sign *si
 }
 
 /* The MULTI text that the sign shows, at most 512 octets. Answers DONE, TOO_SMALL or NULL. */
-static inline enum wisangub_answer wisangub_sign_text(struct wisangub_sign *sign, void *text, size_t room, size_t *size)
+WISANGUB_INLINE enum wisangub_answer wisangub_sign_text(const struct wisangub_sign *sign, void *text, size_t room,
+                                                        size_t *size)
 {
     uint8_t none = 0, *buffer = wisangub_buffer(text, room, &none);
     if (sign == NULL || sign->at == NULL || buffer == NULL || size == NULL) {
@@ -301,8 +411,8 @@ static inline enum wisangub_answer wisangub_sign_text(struct wisangub_sign *sign
 }
 
 /* The community that may only read, 1 to 32 octets. Answers DONE, TOO_SMALL or NULL. */
-static inline enum wisangub_answer wisangub_sign_reader(struct wisangub_sign *sign, void *community, size_t room,
-                                                        size_t *size)
+WISANGUB_INLINE enum wisangub_answer wisangub_sign_reader(const struct wisangub_sign *sign, void *community,
+                                                          size_t room, size_t *size)
 {
     uint8_t none = 0, *buffer = wisangub_buffer(community, room, &none);
     if (sign == NULL || sign->at == NULL || buffer == NULL || size == NULL) {
@@ -312,8 +422,8 @@ static inline enum wisangub_answer wisangub_sign_reader(struct wisangub_sign *si
 }
 
 /* The community that may read and write, 1 to 32 octets. Answers DONE, TOO_SMALL or NULL. */
-static inline enum wisangub_answer wisangub_sign_writer(struct wisangub_sign *sign, void *community, size_t room,
-                                                        size_t *size)
+WISANGUB_INLINE enum wisangub_answer wisangub_sign_writer(const struct wisangub_sign *sign, void *community,
+                                                          size_t room, size_t *size)
 {
     uint8_t none = 0, *buffer = wisangub_buffer(community, room, &none);
     if (sign == NULL || sign->at == NULL || buffer == NULL || size == NULL) {
@@ -326,8 +436,9 @@ static inline enum wisangub_answer wisangub_sign_writer(struct wisangub_sign *si
  * Whether a MULTI text can be shown on the sign under the defaults of its description. Answers DONE, with the number of
  * its pages, 1 to 6, in *pages; FAULT, with what is wrong in *fault; or NULL.
  */
-static inline enum wisangub_answer wisangub_sign_check(struct wisangub_sign *sign, const void *text, size_t text_size,
-                                                       size_t *pages, struct wisangub_text_fault *fault)
+WISANGUB_INLINE enum wisangub_answer wisangub_sign_check(const struct wisangub_sign *sign, const void *text,
+                                                         size_t text_size, size_t *pages,
+                                                         struct wisangub_text_fault *fault)
 {
     if (sign == NULL || sign->at == NULL || text == NULL || pages == NULL || fault == NULL) {
         return WISANGUB_NULL;
@@ -340,8 +451,8 @@ static inline enum wisangub_answer wisangub_sign_check(struct wisangub_sign *sig
  * octet for each cell, row by row from the top, each row from the left; `layer` says what of a cell. So a page has
  * 3 + width * height octets. Answers DONE, TOO_SMALL, MEMORY or NULL.
  */
-static inline enum wisangub_answer wisangub_sign_pages(struct wisangub_sign *sign, enum wisangub_layer layer,
-                                                       void *pages, size_t room, size_t *size)
+WISANGUB_INLINE enum wisangub_answer wisangub_sign_pages(const struct wisangub_sign *sign, enum wisangub_layer layer,
+                                                         void *pages, size_t room, size_t *size)
 {
     uint8_t none = 0, *buffer = wisangub_buffer(pages, room, &none);
     if (sign == NULL || sign->at == NULL || buffer == NULL || size == NULL) {
@@ -354,10 +465,10 @@ static inline enum wisangub_answer wisangub_sign_pages(struct wisangub_sign *sig
  * The pages of a MULTI text on the sign under the defaults of its description, as wisangub_sign_pages gives them.
  * Answers DONE, TOO_SMALL, MEMORY or NULL; or FAULT, with what is wrong with the text in *fault.
  */
-static inline enum wisangub_answer wisangub_sign_text_pages(struct wisangub_sign *sign, const void *text,
-                                                            size_t text_size, enum wisangub_layer layer, void *pages,
-                                                            size_t room, size_t *size,
-                                                            struct wisangub_text_fault *fault)
+WISANGUB_INLINE enum wisangub_answer wisangub_sign_text_pages(const struct wisangub_sign *sign, const void *text,
+                                                              size_t text_size, enum wisangub_layer layer, void *pages,
+                                                              size_t room, size_t *size,
+                                                              struct wisangub_text_fault *fault)
 {
     uint8_t none = 0, *buffer = wisangub_buffer(pages, room, &none);
     if (sign == NULL || sign->at == NULL || text == NULL || buffer == NULL || size == NULL || fault == NULL) {
@@ -371,11 +482,11 @@ static inline enum wisangub_answer wisangub_sign_text_pages(struct wisangub_sign
  * Which of so many cells are lit, of their looks, for a driver of lamps: eight cells an octet from the left, the first
  * in the highest bit. Answers DONE, TOO_SMALL or NULL.
  */
-static inline enum wisangub_answer wisangub_row_bits(const uint8_t *looks, size_t count, void *bits, size_t room,
-                                                     size_t *size)
+WISANGUB_INLINE enum wisangub_answer wisangub_row_bits(const uint8_t *looks, size_t count, void *bits, size_t room,
+                                                       size_t *size)
 {
     uint8_t none = 0, *buffer = wisangub_buffer(bits, room, &none);
-    if (looks == NULL || buffer == NULL || size == NULL) {
+    if (looks == NULL || buffer == NULL || size == NULL || !WISANGUB_OF_THIS_VERSION) {
         return WISANGUB_NULL;
     }
     return (enum wisangub_answer)wisangub_row_bits_at(looks, count, buffer, room, size);
@@ -385,10 +496,10 @@ static inline enum wisangub_answer wisangub_row_bits(const uint8_t *looks, size_
  * Gives the checksum of a message (dmsMessageCRC) in *crc: of its text and its two bits, each 0 or 1. Answers DONE or
  * NULL.
  */
-static inline enum wisangub_answer wisangub_crc(const void *text, size_t text_size, uint8_t beacon, uint8_t pixel,
-                                                uint16_t *crc)
+WISANGUB_INLINE enum wisangub_answer wisangub_crc(const void *text, size_t text_size, uint8_t beacon, uint8_t pixel,
+                                                  uint16_t *crc)
 {
-    if (text == NULL || crc == NULL) {
+    if (text == NULL || crc == NULL || !WISANGUB_OF_THIS_VERSION) {
         return WISANGUB_NULL;
     }
     *crc = wisangub_crc_at((const uint8_t *)text, text_size, beacon, pixel);
@@ -396,30 +507,30 @@ static inline enum wisangub_answer wisangub_crc(const void *text, size_t text_si
 }
 
 /* The five octets of a message's name (MessageIDCode). Answers DONE, TOO_SMALL or NULL. */
-static inline enum wisangub_answer wisangub_message_code(enum wisangub_order order, const struct wisangub_code *parts,
-                                                         void *code, size_t room, size_t *size)
+WISANGUB_INLINE enum wisangub_answer wisangub_message_code(enum wisangub_order order, const struct wisangub_code *parts,
+                                                           void *code, size_t room, size_t *size)
 {
     uint8_t none = 0, *buffer = wisangub_buffer(code, room, &none);
-    if (parts == NULL || buffer == NULL || size == NULL) {
+    if (parts == NULL || buffer == NULL || size == NULL || !WISANGUB_OF_THIS_VERSION) {
         return WISANGUB_NULL;
     }
     return (enum wisangub_answer)wisangub_message_code_at((uint8_t)order, parts, buffer, room, size);
 }
 
 /* The twelve octets that activate a message (MessageActivationCode). Answers DONE, TOO_SMALL or NULL. */
-static inline enum wisangub_answer wisangub_activation_code(enum wisangub_order order,
-                                                            const struct wisangub_code *parts, void *code, size_t room,
-                                                            size_t *size)
+WISANGUB_INLINE enum wisangub_answer wisangub_activation_code(enum wisangub_order order,
+                                                              const struct wisangub_code *parts, void *code,
+                                                              size_t room, size_t *size)
 {
     uint8_t none = 0, *buffer = wisangub_buffer(code, room, &none);
-    if (parts == NULL || buffer == NULL || size == NULL) {
+    if (parts == NULL || buffer == NULL || size == NULL || !WISANGUB_OF_THIS_VERSION) {
         return WISANGUB_NULL;
     }
     return (enum wisangub_answer)wisangub_activation_code_at((uint8_t)order, parts, buffer, room, size);
 }
 
 /* Gives the sign's memory back and sets `at` to null. A sign that is not made stays as it is. */
-static inline void wisangub_sign_free(struct wisangub_sign *sign)
+WISANGUB_INLINE void wisangub_sign_free(struct wisangub_sign *sign)
 {
     if (sign != NULL && sign->at != NULL) {
         wisangub_sign_free_at(sign);
@@ -432,10 +543,11 @@ static inline void wisangub_sign_free(struct wisangub_sign *sign)
  * (docs/JOURNAL.md). Answers DONE; FAULT, where the community has another size; MEMORY; or NULL, also where it is made
  * already.
  */
-static inline enum wisangub_answer wisangub_centre_new(struct wisangub_centre *centre, const void *community,
-                                                       size_t community_size, enum wisangub_order order, uint32_t first)
+WISANGUB_INLINE enum wisangub_answer wisangub_centre_new(struct wisangub_centre *centre, const void *community,
+                                                         size_t community_size, enum wisangub_order order,
+                                                         uint32_t first)
 {
-    if (centre == NULL || centre->at != NULL || community == NULL) {
+    if (centre == NULL || centre->at != NULL || community == NULL || !WISANGUB_OF_THIS_VERSION) {
         return WISANGUB_NULL;
     }
     return (enum wisangub_answer)wisangub_centre_new_at((const uint8_t *)community, community_size, (uint8_t)order,
@@ -449,9 +561,9 @@ static inline enum wisangub_answer wisangub_centre_new(struct wisangub_centre *c
  * not taken; TOO_SMALL, where request_room is below WISANGUB_DATAGRAM; MEMORY, which an entry of the ledger takes; or
  * NULL. In all but DONE the central system is as before.
  */
-static inline enum wisangub_answer wisangub_centre_command(struct wisangub_centre *centre, const void *line,
-                                                           size_t line_size, void *request, size_t request_room,
-                                                           size_t *request_size)
+WISANGUB_INLINE enum wisangub_answer wisangub_centre_command(struct wisangub_centre *centre, const void *line,
+                                                             size_t line_size, void *request, size_t request_room,
+                                                             size_t *request_size)
 {
     if (centre == NULL || centre->at == NULL || line == NULL || request == NULL || request_size == NULL) {
         return WISANGUB_NULL;
@@ -464,9 +576,9 @@ static inline enum wisangub_answer wisangub_centre_command(struct wisangub_centr
  * Hands the central system a datagram. Answers DONE, with the request that it sends next; NOTHING, where it sends none;
  * TOO_SMALL, where request_room is below WISANGUB_DATAGRAM: it has not heard the datagram; or NULL. No memory is taken.
  */
-static inline enum wisangub_answer wisangub_centre_receive(struct wisangub_centre *centre, const void *datagram,
-                                                           size_t datagram_size, void *request, size_t request_room,
-                                                           size_t *request_size)
+WISANGUB_INLINE enum wisangub_answer wisangub_centre_receive(struct wisangub_centre *centre, const void *datagram,
+                                                             size_t datagram_size, void *request, size_t request_room,
+                                                             size_t *request_size)
 {
     if (centre == NULL || centre->at == NULL || datagram == NULL || request == NULL || request_size == NULL) {
         return WISANGUB_NULL;
@@ -480,8 +592,8 @@ static inline enum wisangub_answer wisangub_centre_receive(struct wisangub_centr
  * TOO_SMALL, as above; MEMORY, which an entry of the ledger takes: nothing has changed, and the next tick tries again;
  * or NULL.
  */
-static inline enum wisangub_answer wisangub_centre_tick(struct wisangub_centre *centre, void *request,
-                                                        size_t request_room, size_t *request_size)
+WISANGUB_INLINE enum wisangub_answer wisangub_centre_tick(struct wisangub_centre *centre, void *request,
+                                                          size_t request_room, size_t *request_size)
 {
     if (centre == NULL || centre->at == NULL || request == NULL || request_size == NULL) {
         return WISANGUB_NULL;
@@ -490,7 +602,7 @@ static inline enum wisangub_answer wisangub_centre_tick(struct wisangub_centre *
 }
 
 /* Starts again, as after a loss of power: the next number and the ledger stay, and a job ends. Answers DONE or NULL. */
-static inline enum wisangub_answer wisangub_centre_restart(struct wisangub_centre *centre)
+WISANGUB_INLINE enum wisangub_answer wisangub_centre_restart(struct wisangub_centre *centre)
 {
     if (centre == NULL || centre->at == NULL) {
         return WISANGUB_NULL;
@@ -500,8 +612,8 @@ static inline enum wisangub_answer wisangub_centre_restart(struct wisangub_centr
 }
 
 /* How the central system stands. Answers DONE or NULL. */
-static inline enum wisangub_answer wisangub_centre_status(struct wisangub_centre *centre,
-                                                          struct wisangub_status *status)
+WISANGUB_INLINE enum wisangub_answer wisangub_centre_status(const struct wisangub_centre *centre,
+                                                            struct wisangub_status *status)
 {
     if (centre == NULL || centre->at == NULL || status == NULL) {
         return WISANGUB_NULL;
@@ -514,8 +626,8 @@ static inline enum wisangub_answer wisangub_centre_status(struct wisangub_centre
  * The entry of this index, from 0, of the ledger: the codes that were sent. Answers DONE, FAULT where there is none, or
  * NULL.
  */
-static inline enum wisangub_answer wisangub_centre_entry(struct wisangub_centre *centre, size_t index,
-                                                         struct wisangub_entry *entry)
+WISANGUB_INLINE enum wisangub_answer wisangub_centre_entry(const struct wisangub_centre *centre, size_t index,
+                                                           struct wisangub_entry *entry)
 {
     if (centre == NULL || centre->at == NULL || entry == NULL) {
         return WISANGUB_NULL;
@@ -524,7 +636,7 @@ static inline enum wisangub_answer wisangub_centre_entry(struct wisangub_centre 
 }
 
 /* Gives the central system's memory back and sets `at` to null. */
-static inline void wisangub_centre_free(struct wisangub_centre *centre)
+WISANGUB_INLINE void wisangub_centre_free(struct wisangub_centre *centre)
 {
     if (centre != NULL && centre->at != NULL) {
         wisangub_centre_free_at(centre);

@@ -15,11 +15,6 @@
 
 enum { PASSES = 40, TIMES = 2000, STACK = 1 << 20, PAGES_MOST = 6 * (WISANGUB_PAGE_HEAD + 256 * 64), NAMED_MOST = 16 };
 
-struct had {
-    uint64_t has;
-    void *at;
-};
-
 struct named {
     char name[64];
     uint8_t octets[WISANGUB_DATAGRAM];
@@ -33,32 +28,28 @@ static struct named named[NAMED_MOST];
 static size_t count, live, most, calls;
 
 /* A heap that counts. The size of a block stands before it. */
-struct had rattle_alloc(size_t size, size_t align);
-struct had rattle_realloc(void *at, size_t old, size_t size, size_t align);
-void rattle_dealloc(void *at);
-
-static struct had counted(size_t *block, size_t old, size_t size)
+static struct rattle_had counted(size_t *block, size_t old, size_t size)
 {
     if (block == NULL) {
-        return (struct had){0, &none};
+        return (struct rattle_had){0, &none};
     }
     *block = size;
     live += size - old;
     most = live > most ? live : most;
     calls++;
-    return (struct had){1, block + 2};
+    return (struct rattle_had){1, block + 2};
 }
 
-struct had rattle_alloc(size_t size, size_t align)
+struct rattle_had rattle_alloc(size_t size, size_t align)
 {
     (void)align;
     return counted(malloc(size + 16), 0, size);
 }
 
-struct had rattle_realloc(void *at, size_t old, size_t size, size_t align)
+struct rattle_had rattle_realloc(void *at, size_t kept, size_t size, size_t align)
 {
     size_t *block = (size_t *)at - 2, before = *block;
-    (void)old;
+    (void)kept;
     (void)align;
     return counted(realloc(block, size + 16), before, size);
 }

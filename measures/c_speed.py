@@ -111,7 +111,8 @@ def compiled(folder: pathlib.Path, library: pathlib.Path) -> None:
     """The examples and the programs of the measures."""
     cc = ["cc", "-std=c11", "-O2", f"-I{TOP / 'include'}"]
     measures = TOP / "measures"
-    subprocess.run([*cc, "-o", folder / "speed", measures / "c_speed.c", library, "-lpthread"], check=True)
+    sources = [measures / "c_speed.c", TOP / "include/wisangub.c"]
+    subprocess.run([*cc, "-o", folder / "speed", *sources, library, "-lpthread"], check=True)
     subprocess.run([*cc, "-o", folder / "requests", measures / "c_requests.c"], check=True)
     make = ["make", "-s", f"LIBRARY={library}", f"OUT={folder}", str(folder / "signd")]
     subprocess.run(make, cwd=TOP / "examples", check=True)

@@ -10,8 +10,9 @@ a C compiler; what else is not here is printed as `skipped NAME: why`. Every dat
 vectors/ goes through the library, with the sanitizers of addresses and of undefined behaviour and under valgrind; talks
 of many lines are compared with the program's, with the whole walk after every call; each allocation of a talk is
 refused once; signd and wisangub-sign go on from each other's journals, which are changed, cut, and refused by the
-disk; strangers do not fill them; C++, CMake and pkg-config build with it; and mutated datagrams go in for --seconds.
-With --aarch64 the vectors go through that library too, for ARM64, under qemu-user.
+disk; strangers do not fill them; C++, CMake, pkg-config, Python and Rust build with it;
+and mutated datagrams go in for --seconds. With --aarch64 the vectors go through that
+library too, for ARM64, under qemu-user.
 
 The short form makes the library over crates that stand proved alone, in 1000 seconds at most. Once it is there nothing
 begins after 230 seconds, and all is stopped after 280: what there is no time for is skipped by name. In the long form
@@ -32,7 +33,18 @@ import time
 from functools import partial
 from typing import Callable
 
-from trials.library import against_program, against_vectors, builds, disks, hostile, journals, powers, strangers, tested
+from trials.library import (
+    against_program,
+    against_vectors,
+    builds,
+    disks,
+    hostile,
+    journals,
+    languages,
+    powers,
+    strangers,
+    tested,
+)
 from trials.library.trial import AARCH64, PLAIN, REFUSING, SANITIZE, SANITIZED, TOP, UNDER_VALGRIND, Late, Trial, Way
 
 SHORT, MOST_MADE, LONG = 230.0, 1000.0, 3600.0  # seconds of the short form, of making the library in it, and else
@@ -127,6 +139,8 @@ def all_tried(trial: Trial, library: pathlib.Path, for_aarch64: pathlib.Path | N
         ("strangers", partial(strangers.run, trial)),
         ("power", partial(powers.run, trial)),
         ("disks", partial(disks.run, trial)),
+        ("languages", partial(languages.run, trial)),
+        ("the largest sign", partial(tested.arena, trial, library)),
     ]
     parts += [(way.name, partial(against_vectors.run, trial, way)) for way in by[1:]]
     if UNDER_VALGRIND in by:

@@ -2,14 +2,25 @@
 
 from __future__ import annotations
 
+import functools
 import pathlib
+import re
 import shutil
+import subprocess
+import sys
 
-from .trial import AARCH64, TOP, Trial
+from .trial import AARCH64, PLAIN, TOP, Trial
 
 WARNINGS = ("-Wall", "-Wextra", "-Werror", "-pedantic")
 ROADSIDE = str(TOP / "signs" / "roadside.sign")
 PARTS = ("examples", "include")
+
+
+@functools.cache
+def version() -> str:
+    """The version that the program says."""
+    words = [sys.executable, str(TOP / "tools/version.py")]
+    return subprocess.run(words, capture_output=True, text=True, check=True).stdout.strip()
 
 
 def copied(trial: Trial, name: str, library: pathlib.Path) -> pathlib.Path:
@@ -31,13 +42,17 @@ def cpp(trial: Trial, library: pathlib.Path) -> None:
     """The header and the header test in C++17, over the heap in C."""
     if not trial.has("C++", "g++"):
         return
-    folder, heap = trial.folder / "cpp", str(trial.folder / "heap.o")
-    words = ["cc", "-std=c11", *WARNINGS, "-c", "-o", heap, str(TOP / "examples/heap.c")]
-    trial.check("C++: the heap", trial.ran(words) == (0, ""))
-    source = ["-x", "c++", str(TOP / "examples/header_test.c"), "-x", "none", heap, str(library)]
-    status, said = trial.ran(["g++", "-std=c++17", *WARNINGS, f"-I{TOP / 'include'}", "-o", str(folder), *source])
-    if trial.check("C++: compile", status == 0, said):
-        runs(trial, "C++", folder)
+    folder, include = trial.folder / "cpp", f"-I{TOP / 'include'}"
+    parts = {"heap.o": TOP / "examples/heap.c", "wisangub.o": TOP / "include/wisangub.c"}
+    for name, part in parts.items():
+        words = ["cc", "-std=c11", *WARNINGS, include, "-c", "-o", str(trial.folder / name), str(part)]
+        trial.check(f"C++: {name}", trial.ran(words) == (0, ""))
+    made = [*(str(trial.folder / name) for name in parts), str(library)]
+    source = ["-x", "c++", str(TOP / "examples/header_test.c"), "-x", "none", *made]
+    for standard in ("c++11", "c++17"):
+        status, said = trial.ran(["g++", f"-std={standard}", *WARNINGS, include, "-o", str(folder), *source])
+        if trial.check(f"{standard}: compile", status == 0, said):
+            runs(trial, standard, folder)
 
 
 def cmake(trial: Trial, library: pathlib.Path) -> None:
@@ -81,17 +96,58 @@ def is_for_aarch64(trial: Trial) -> bool:
     return all(trial.has("aarch64", needed) for needed in ("aarch64-linux-gnu-gcc", AARCH64.by[0]))
 
 
+def functions() -> set[str]:
+    """The functions of the header, but for those of the proved crate and of the heap."""
+    header = (TOP / "include/wisangub.h").read_text(encoding="utf-8")
+    found = re.findall(r"(?m)^WISANGUB_INLINE \w[\w ]* (wisangub_\w+)\(", header)
+    return {*found, "wisangub_version"}
+
+
+def of_version() -> str:
+    """The name that the version is in."""
+    return f"wisangub_{version().replace('.', '_')}"
+
+
 def declared(trial: Trial) -> None:
-    """Each function of the header is called by the header test."""
+    """Each function of the header is called by the header test, and its version is the one of the program."""
     header = (TOP / "include/wisangub.h").read_text(encoding="utf-8")
     test = (TOP / "examples/header_test.c").read_text(encoding="utf-8")
-    names = {line.split("(")[0].split()[-1] for line in header.split("\n") if line.startswith("static inline")}
-    for name in sorted(names - {"*wisangub_buffer"}):
+    for name in sorted(functions()):
         trial.check(f"header_test calls {name}", f"{name}(" in test)
+    trial.check("the header's version", f'#define WISANGUB_VERSION "{version()}"' in header)
+    trial.check("the name of the version", f"#define WISANGUB_OF_THIS_VERSION {of_version()}\n" in header)
+
+
+def exported(trial: Trial) -> None:
+    """The archive has the functions of the header, and the shared library has them and nothing else."""
+    if not trial.has("names", "nm"):
+        return
+    wanted = functions() | {of_version()}
+    for name, words in {"libwisangub.a": (), "shared/libwisangub.so": ("-D",)}.items():
+        status, said = trial.ran(["nm", *words, "--defined-only", "-g", str(trial.folder / PLAIN.folder / name)])
+        found = {line.split()[-1] for line in said.splitlines() if re.match(r"[0-9a-f]+ [TRV] ", line)}
+        is_so = wanted <= found if name.endswith(".a") else wanted == found
+        trial.check(f"{name} exports the functions of the header", status == 0 and is_so, (wanted ^ found, said[:200]))
+
+
+def other_version(trial: Trial) -> None:
+    """A program with the header of another version does not link with this library."""
+    folder = trial.folder / "other"
+    folder.mkdir()
+    header = (TOP / "include/wisangub.h").read_text(encoding="utf-8")
+    (folder / "wisangub.h").write_text(header.replace(of_version(), "wisangub_0_0_0"), encoding="utf-8")
+    libraries = [f"-L{trial.folder / PLAIN.folder}", "-lwisangub", "-lwisangub_heap"]
+    for include, is_linked in ((TOP / "include", True), (folder, False)):
+        words = ["cc", "-std=c11", "-O2", f"-I{include}", "-o", str(folder / "program")]
+        status, said = trial.ran([*words, str(TOP / "examples/header_test.c"), *libraries])
+        is_so = status == 0 if is_linked else status != 0 and "wisangub_0_0_0" in said
+        trial.check(f"a header of {'this' if is_linked else 'another'} version", is_so, said)
 
 
 def run(trial: Trial, library: pathlib.Path) -> None:
     declared(trial)
+    exported(trial)
+    other_version(trial)
     for part in (cpp, cmake, pkg_config):
         if trial.left() > 0:
             part(trial, library)

@@ -3,6 +3,7 @@
 from __future__ import annotations
 
 import os
+import pathlib
 import tempfile
 
 from .against_program import walk
@@ -53,7 +54,20 @@ def against_program(trial: Trial, count: int) -> None:
     trial.same("the program after what is recorded", after[len(recorded) :], found[len(lines) :])
 
 
+ARENAS = {"roadside": 1 << 18, "gantry": 1 << 20}  # docs/C.md, "What it takes"
+
+
+def arena(trial: Trial, library: pathlib.Path) -> None:
+    """The header test and a talk over a static arena, which is as large as the page says that a sign takes."""
+    for sign, octets in ARENAS.items():
+        way = Way(f"an arena for {sign}", f"arena_{sign}", words=("HEAP=arena.c", f"EXTRA=-DARENA_OCTETS={octets}"))
+        if not trial.compiled(way, library):
+            continue
+        says_ok(trial, way, "header_test", str(TOP / "signs" / f"{sign}.sign"))
+
+
 def tried(trial: Trial, way: Way, step: str, count: int) -> None:
+    says_ok(trial, way, "arena_test", "1")
     says_ok(trial, way, "records_test", step)
     with tempfile.TemporaryDirectory(dir=trial.folder) as folder:
         says_ok(trial, way, "journal_test", folder)

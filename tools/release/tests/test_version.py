@@ -25,6 +25,17 @@ def test_the_package_is_of_this_version() -> None:
     assert re.findall(r'(?m)^__version__ = "(.*?)"', text) == [version()]
 
 
+def test_the_header_for_c_is_of_this_version() -> None:
+    text = (TOP / "include/wisangub.h").read_text(encoding="utf-8")
+    assert re.findall(r'(?m)^#define WISANGUB_VERSION "(.*?)"', text) == [version()]
+    names = re.findall(r"(?m)^#define WISANGUB_OF_THIS_VERSION (\w+)", text)
+    assert names == [f"wisangub_{version().replace('.', '_')}"]
+    rust = (TOP / "examples/from_rust.rs").read_text(encoding="utf-8")
+    assert set(re.findall(r"wisangub_[0-9]\w+", rust)) == set(names)
+    python = (TOP / "examples/from_python.py").read_text(encoding="utf-8")
+    assert re.findall(r'(?m)^VERSION = "(.*?)"', python) == [version()]
+
+
 def test_one_place(tmp_path: pathlib.Path) -> None:
     folder = tmp_path / "crates/one/src"
     folder.mkdir(parents=True)
