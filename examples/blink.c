@@ -1,28 +1,42 @@
 /* Publishes a MULTI text to the sign of a description and shows its pages in colour: blink TEXT < DESCRIPTION. */
+#define _POSIX_C_SOURCE 200809L
 #include <stdio.h>
 #include <string.h>
-#include <threads.h>
+#include <time.h>
+
+#include "publish.h"
 #include "wisangub.h"
 
 static struct wisangub_sign sign = {NULL};
 static struct wisangub_centre centre = {NULL};
-static char description[1 << 20], line[1 << 19] = "publish 3 1 ";
-static uint8_t pages[6 * (WISANGUB_PAGE_HEAD + 256 * 64)], request[WISANGUB_DATAGRAM], reply[WISANGUB_DATAGRAM];
+static char description[1 << 20];
+static uint8_t pages[6 * (WISANGUB_PAGE_HEAD + 256 * 64)];
 
-/* Hands requests, replies and seconds over until a command is carried out: 0, or the step at which it failed. */
-static int carry_out(const char *command, size_t size)
+/* What is wrong with a text (dmsMultiSyntaxError). */
+static const char *const faults[14] = {[3] = "no such tag",
+                                       [4] = "a value that the tag does not take",
+                                       [5] = "no room for it on the matrix, or over 512 octets",
+                                       [6] = "no such font",
+                                       [7] = "a character that the font does not have",
+                                       [8] = "no such field device",
+                                       [9] = "a field device at fault",
+                                       [10] = "a region that cannot flash",
+                                       [11] = "a tag against one before it",
+                                       [12] = "over six pages",
+                                       [13] = "another version of the font"};
+
+/* Whether the text can be shown; else says why not, and where. */
+static int is_shown(const char *text)
 {
-    struct wisangub_status status;
-    enum wisangub_answer sends = wisangub_centre_command(&centre, command, size, request, sizeof request, &size);
-    while (wisangub_centre_status(&centre, &status) == WISANGUB_DONE && status.busy) {
-        while (sends == WISANGUB_DONE) {
-            wisangub_sign_receive(&sign, request, size, reply, sizeof reply, &size);
-            sends = wisangub_centre_receive(&centre, reply, size, request, sizeof request, &size);
-        }
-        wisangub_sign_tick(&sign);
-        sends = wisangub_centre_tick(&centre, request, sizeof request, &size);
+    struct wisangub_text_fault fault = {0, 0};
+    size_t count = 0;
+    if (wisangub_sign_check(&sign, text, strlen(text), &count, &fault) == WISANGUB_DONE) {
+        return 1;
     }
-    return status.step;
+    const char *why = fault.code < 14 && faults[fault.code] != NULL ? faults[fault.code] : "another fault";
+    fprintf(stderr, "blink: the text is refused at octet %zu: %s (%u)\n", fault.place, why, fault.code);
+    fprintf(stderr, "    %s\n    %*s^\n", text, (int)fault.place, "");
+    return 0;
 }
 
 /* Shows a page for its time: colours 0 to 9 of MULTI as a terminal has them; what flashes blinks. */
@@ -33,34 +47,56 @@ static void show(const uint8_t *page, size_t width, size_t cells)
         int look = page[WISANGUB_PAGE_HEAD + cell], blinks = look & WISANGUB_FLASHES ? 5 : 0;
         printf("\033[%d;48;5;%dm %s", blinks, colours[look & WISANGUB_COLOUR], (cell + 1) % width ? "" : "\033[0m\n");
     }
-    thrd_sleep(&(struct timespec){page[0] / 10, page[0] % 10 * 100000000L}, NULL);
+    nanosleep(&(struct timespec){page[0] / 10, page[0] % 10 * 100000000L}, NULL);
 }
 
-int main(int count, char **words)
+static void show_all(void)
 {
-    size_t size = fread(description, 1, sizeof description - 1, stdin), fault = 0;
-    uint32_t first = 0;
     uint16_t width = 0, height = 0;
-    if (count != 2 || wisangub_sign_new(&sign, description, size, &first, &fault) != WISANGUB_DONE) {
-        return fprintf(stderr, "blink TEXT < DESCRIPTION (line %zu of it is refused)\n", fault), 2;
-    }
-    wisangub_sign_writer(&sign, request, sizeof request, &size);
-    if (wisangub_centre_new(&centre, request, size, strstr(description, "\norder swapped") != NULL, first)
-        != WISANGUB_DONE) {
-        wisangub_sign_free(&sign);
-        return fputs("blink: out of memory\n", stderr), 2;
-    }
-    char *to = line + strlen(line);
-    for (const char *text = words[1]; *text != '\0'; text++) {
-        to += sprintf(to, "%02x", (unsigned)(unsigned char)*text);
-    }
-    int failed_at = carry_out(line, strlen(strcat(line, " - 0 0 200 65535 255 127.0.0.1")));
+    size_t size = 0;
     wisangub_sign_matrix(&sign, &width, &height);
     wisangub_sign_pages(&sign, WISANGUB_LOOK, pages, sizeof pages, &size);
     for (const uint8_t *page = pages; page < pages + size; page += WISANGUB_PAGE_HEAD + (size_t)width * height) {
         show(page, width, (size_t)width * height);
     }
+}
+
+/* Makes both ends: 1, or says why not. */
+static int is_made(size_t description_size)
+{
+    uint32_t first = 0;
+    size_t line = 0, size = 0;
+    uint8_t community[32];
+    enum wisangub_answer made = wisangub_sign_new(&sign, description, description_size, &first, &line);
+    if (made == WISANGUB_FAULT) {
+        return fprintf(stderr, "blink: line %zu of the description is refused\n", line), 0;
+    }
+    wisangub_sign_writer(&sign, community, sizeof community, &size);
+    enum wisangub_order order = strstr(description, "\norder swapped") != NULL ? WISANGUB_SWAPPED : WISANGUB_HIGH;
+    if (made != WISANGUB_DONE || wisangub_centre_new(&centre, community, size, order, first) != WISANGUB_DONE) {
+        return fputs("blink: out of memory\n", stderr), 0;
+    }
+    return 1;
+}
+
+int main(int count, char **words)
+{
+    char line[PUBLICATION_MOST];
+    struct wisangub_status status = {.step = 0};
+    int failed = 2;
+    if (count != 2) {
+        return fputs("usage: blink TEXT < DESCRIPTION\n", stderr), 2;
+    }
+    if (is_made(fread(description, 1, sizeof description - 1, stdin)) && is_shown(words[1])) {
+        status = carry_out(&sign, &centre, line, publication(line, words[1], strlen(words[1]), 65535));
+        failed = status.step;
+        if (failed != 0) {
+            fprintf(stderr, "blink: it failed at step %d, and why is %d of enum wisangub_why\n", failed, status.why);
+        } else {
+            show_all();
+        }
+    }
     wisangub_centre_free(&centre);
     wisangub_sign_free(&sign);
-    return failed_at;
+    return failed;
 }

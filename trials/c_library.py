@@ -10,7 +10,7 @@ a C compiler; what else is not here is printed as `skipped NAME: why`. Every dat
 vectors/ goes through the library, with the sanitizers of addresses and of undefined behaviour and under valgrind; talks
 of many lines are compared with the program's, with the whole walk after every call; each allocation of a talk is
 refused once; signd and wisangub-sign go on from each other's journals, which are changed, cut, and refused by the
-disk; strangers do not fill them; C++, CMake, pkg-config, Python and Rust build with it;
+disk; strangers do not fill them; C++, CMake, pkg-config, Python and Rust build with it; a panel's lamps are looked at;
 and mutated datagrams go in for --seconds. With --aarch64 the vectors go through that
 library too, for ARM64, under qemu-user.
 
@@ -41,6 +41,7 @@ from trials.library import (
     hostile,
     journals,
     languages,
+    panels,
     powers,
     strangers,
     tested,
@@ -140,12 +141,14 @@ def all_tried(trial: Trial, library: pathlib.Path, for_aarch64: pathlib.Path | N
         ("power", partial(powers.run, trial)),
         ("disks", partial(disks.run, trial)),
         ("languages", partial(languages.run, trial)),
+        ("panel", partial(panels.run, trial)),
         ("the largest sign", partial(tested.arena, trial, library)),
     ]
     parts += [(way.name, partial(against_vectors.run, trial, way)) for way in by[1:]]
     if UNDER_VALGRIND in by:
         parts.append(("valgrind of a talk", partial(hostile.under_valgrind, trial)))
         parts.append(("valgrind of tests in C", partial(tested.under_valgrind, trial)))
+        parts.append(("valgrind of the panel", partial(panels.under_valgrind, trial)))
     for name, part in parts:
         begun = time.monotonic()
         if trial.left() <= 0:

@@ -85,7 +85,7 @@ def mutated(trial: Trial, way: Way, seconds: int, seed: int) -> None:
 
 
 def blinked(trial: Trial) -> None:
-    """examples/blink.c publishes a text and draws its cells; a text that is at fault is told by the step."""
+    """examples/blink.c publishes a text and draws its cells, and says why a text is refused, and where."""
     sign = described("roadside")
     for way in {PLAIN, trial.way}:
         status, said = trial.ran(trial.called(way, "blink", "[pt1o0]AB"), sign)
@@ -95,6 +95,7 @@ def blinked(trial: Trial) -> None:
         trial.check(f"{way.name}: blink", status == 0 and cells == [width] * height, (status, cells))
         trial.check(f"{way.name}: blink draws", len(set(said.split("m ")[0:-1])) > 1, said[:200])
         status, said = trial.ran(trial.called(way, "blink", "A["), sign)
-        trial.check(f"{way.name}: blink with a text at fault", status != 0, (status, said[-200:]))
+        is_told = status == 2 and "at octet 1: no such tag (3)\n    A[\n     ^\n" in said
+        trial.check(f"{way.name}: blink with a text at fault", is_told, (status, said[-200:]))
         status, said = trial.ran(trial.called(way, "blink", "A"), "size 1 x\n")
         trial.check(f"{way.name}: blink without a description", status == 2 and "line 1" in said, (status, said))

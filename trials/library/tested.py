@@ -64,6 +64,8 @@ def arena(trial: Trial, library: pathlib.Path) -> None:
         if not trial.compiled(way, library):
             continue
         says_ok(trial, way, "header_test", str(TOP / "signs" / f"{sign}.sign"))
+        status, said = trial.ran(trial.called(way, "panel_test", str(TOP / "signs" / f"{sign}.sign"), "3"), "41\n")
+        trial.check(f"{way.name}: panel_test", status == 0 and len(said.splitlines()) == 3, said[-300:])
 
 
 def tried(trial: Trial, way: Way, step: str, count: int) -> None:

@@ -1,0 +1,31 @@
+/* What a sign shows, as bits of lamps at each tenth of a second. */
+#ifndef PICTURES_H
+#define PICTURES_H
+
+#include <stddef.h>
+#include <stdint.h>
+
+#include "lamps.h"
+#include "wisangub.h"
+
+enum { PICTURE_OCTETS = 6 * (WISANGUB_PAGE_HEAD + 256 * 64), LAYERS = 3 };
+
+struct picture {
+    uint16_t width, height;
+    size_t size;                            /* of each layer; 0 where nothing is drawn yet */
+    uint8_t layers[LAYERS][PICTURE_OCTETS]; /* of enum wisangub_layer */
+};
+
+enum drawn { PICTURE_SAME, PICTURE_NEW, PICTURE_NO_MEMORY };
+
+/* Draws what the sign shows, in one thread. Where there is no memory the picture stays as it was. */
+enum drawn picture_draw(struct picture *picture, const struct wisangub_sign *sign);
+
+/*
+ * The lamps that are lit when the picture has been up for so many tenths of a second: the pages take turns, each for
+ * its time, and what flashes is lit and dark by turns, from where its page comes up. A picture of one page without a
+ * time after it stays, and so does the last of pages without any time.
+ */
+void picture_frame(const struct picture *picture, uint64_t tenth, struct frame *frame);
+
+#endif
