@@ -96,6 +96,7 @@ tree() {
     done
     gzip -9nc "$source/CHANGELOG.md" > "$usr/share/doc/wisangub/changelog.gz"
     cp "$source/NOTICE" "$usr/share/doc/wisangub/"
+    cp -R "$source"/licences "$usr/share/doc/wisangub/"
     [ -d "$room/completions" ] || completions "$room/completions"
     mkdir -p "$usr/share/bash-completion"
     cp -R "$room/completions" "$usr/share/bash-completion/"
