@@ -11,8 +11,8 @@ vectors/ goes through the library, with the sanitizers of addresses and of undef
 of many lines are compared with the program's, with the whole walk after every call; each allocation of a talk is
 refused once; signd and wisangub-sign go on from each other's journals, which are changed, cut, and refused by the
 disk; strangers do not fill them; C++, CMake, pkg-config, Python and Rust build with it; a panel's lamps are looked at;
-and mutated datagrams go in for --seconds. With --aarch64 the vectors go through that
-library too, for ARM64, under qemu-user.
+and mutated datagrams go in for --seconds, and what libFuzzer makes too. With --aarch64 the vectors go through that
+library too, for ARM64, under qemu-user, and with --plain through that for any x86-64.
 
 The short form makes the library over crates that stand proved alone, in 1000 seconds at most. Once it is there nothing
 begins after 230 seconds, and all is stopped after 280: what there is no time for is skipped by name. In the long form
@@ -38,6 +38,7 @@ from trials.library import (
     against_vectors,
     builds,
     disks,
+    fuzzed,
     hostile,
     journals,
     languages,
@@ -143,6 +144,7 @@ def all_tried(trial: Trial, library: pathlib.Path, for_aarch64: pathlib.Path | N
         ("languages", partial(languages.run, trial)),
         ("panel", partial(panels.run, trial)),
         ("the largest sign", partial(tested.arena, trial, library)),
+        ("fuzzing", lambda: fuzzed.run(trial, trial.seconds(seconds), seed)),
     ]
     parts += [(way.name, partial(against_vectors.run, trial, way)) for way in by[1:]]
     if UNDER_VALGRIND in by:

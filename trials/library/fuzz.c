@@ -1,0 +1,209 @@
+/*
+ * Inputs of libFuzzer at the library for C: FUZZED=datagrams|descriptions|texts FUZZ_SIGN=DESCRIPTION fuzz .., built by
+ * trials/library/fuzzed.py. What goes in and what comes out stands at the end of a page behind which none may be read
+ * or written, since the library itself is not instrumented; what it answers leads the fuzzer on, by counters.
+ *
+ * An input of `datagrams` is calls of both ends, one after the other: an octet that says which, two octets that say how
+ * much belongs to it, and so much. Each input begins with new ends, so that it can be tried again.
+ */
+#define _GNU_SOURCE
+#include <stdint.h>
+#include <stdio.h>
+#include <stdlib.h>
+#include <string.h>
+#include <sys/mman.h>
+
+#include "wisangub.h"
+
+enum { ROOM = 1 << 20, PAGE = 1 << 16, COUNTERS = 1 << 15, PAGES_MOST = 6 * (WISANGUB_PAGE_HEAD + 256 * 64) };
+
+/* Which calls an input of datagrams has. */
+enum { TO_SIGN, TO_CENTRE, SIGN_TICK, CENTRE_TICK, POWER_LOST, POWER_BACK, COMMAND, PAGES, HEARD, RESTART, CALLS };
+
+__attribute__((section("__libfuzzer_extra_counters"))) static uint8_t counters[COUNTERS];
+
+static char description[ROOM];
+static size_t description_size;
+static uint8_t *input, *output; /* the ends of their pages */
+static void (*fuzz)(const uint8_t *octets, size_t size);
+
+int LLVMFuzzerInitialize(int *count, char ***words);
+int LLVMFuzzerTestOneInput(const uint8_t *octets, size_t size);
+
+/* The library promises something else. */
+static void must(int is_so, const char *what)
+{
+    if (!is_so) {
+        fprintf(stderr, "broken: %s\n", what);
+        abort();
+    }
+}
+
+/* One more outcome that the fuzzer sees. */
+static void seen(unsigned call, uint32_t answer, size_t more)
+{
+    uint64_t mixed = ((uint64_t)call << 32 | answer) * UINT64_C(0x9E3779B97F4A7C15);
+    mixed ^= more * UINT64_C(0xC2B2AE3D27D4EB4F);
+    counters[(mixed ^ mixed >> 29) % COUNTERS]++;
+}
+
+static uint8_t *guarded(void)
+{
+    uint8_t *made = mmap(NULL, ROOM + PAGE, PROT_READ | PROT_WRITE, MAP_PRIVATE | MAP_ANONYMOUS, -1, 0);
+    must(made != MAP_FAILED && mprotect(made + ROOM, PAGE, PROT_NONE) == 0, "mmap");
+    return made + ROOM;
+}
+
+/* The octets where none may be read behind them. */
+static const uint8_t *put(const uint8_t *octets, size_t size)
+{
+    return memcpy(input - size, octets, size);
+}
+
+/* The error-status and the error-index of a reply, and how large it is, in one number. */
+static size_t outcome_of(const uint8_t *reply, size_t size)
+{
+    size_t at = reply[1] & 128 ? 2 + (reply[1] & 127U) : 2;
+    at += 3;                                         /* the version */
+    at += 2U + (at + 1 < size ? reply[at + 1] : 0U); /* the community */
+    at += at + 1 < size && reply[at + 1] & 128 ? 2 + (reply[at + 1] & 127U) : 2;
+    at += 2U + (at + 1 < size ? reply[at + 1] : 0U); /* the number */
+    return at + 5 < size ? (size_t)reply[at + 2] << 24 | (size_t)reply[at + 5] << 16 | size : size;
+}
+
+static void looked_at(unsigned call, enum wisangub_answer answer, size_t size)
+{
+    must(answer != WISANGUB_NULL && answer != WISANGUB_TOO_SMALL && size <= WISANGUB_DATAGRAM, "an answer");
+    seen(call, answer, answer == WISANGUB_DONE ? outcome_of(output - WISANGUB_DATAGRAM, size) : 0);
+}
+
+/* ---- datagrams */
+
+static void draw(struct wisangub_sign *sign)
+{
+    struct wisangub_shown shown;
+    size_t size = 0, needed = 0;
+    must(wisangub_sign_shown(sign, &shown) == WISANGUB_DONE, "what is shown");
+    seen(PAGES, (uint32_t)shown.memory << 16 | shown.number, (size_t)shown.mode << 8 | shown.priority);
+    must(wisangub_sign_pages(sign, WISANGUB_LOOK, NULL, 0, &needed) == WISANGUB_TOO_SMALL, "the room of pages");
+    must(needed <= PAGES_MOST, "how large pages are");
+    must(wisangub_sign_pages(sign, WISANGUB_LOOK, output - needed, needed, &size) == WISANGUB_DONE && size == needed,
+         "pages");
+}
+
+static void call(struct wisangub_sign *sign, struct wisangub_centre *centre, unsigned kind, const uint8_t *octets,
+                 size_t size)
+{
+    uint8_t *to = output - WISANGUB_DATAGRAM;
+    const size_t most = WISANGUB_DATAGRAM;
+    size_t made = 0;
+    const uint8_t *from = put(octets, size);
+    enum wisangub_answer answer = WISANGUB_NOTHING;
+    switch (kind) {
+    case TO_SIGN: answer = wisangub_sign_receive(sign, from, size, to, most, &made); break;
+    case TO_CENTRE: answer = wisangub_centre_receive(centre, from, size, to, most, &made); break;
+    case SIGN_TICK: wisangub_sign_ticks(sign, 1U + (uint32_t)size); break;
+    case CENTRE_TICK: answer = wisangub_centre_tick(centre, to, most, &made); break;
+    case POWER_LOST: wisangub_sign_power_lost(sign); break;
+    case POWER_BACK: wisangub_sign_power_back(sign, size > 3 ? UINT32_MAX : (uint32_t)size); break;
+    case COMMAND: answer = wisangub_centre_command(centre, from, size, to, most, &made); break;
+    case PAGES: draw(sign); break;
+    case HEARD: wisangub_sign_heard(sign); break;
+    default: wisangub_centre_restart(centre); break;
+    }
+    looked_at(kind, answer, made);
+}
+
+static void datagrams(const uint8_t *octets, size_t size)
+{
+    struct wisangub_sign sign = {NULL};
+    struct wisangub_centre centre = {NULL};
+    uint32_t first = 0;
+    size_t line = 0, part = 0;
+    must(wisangub_sign_new(&sign, description, description_size, &first, &line) == WISANGUB_DONE, "a sign");
+    must(wisangub_sign_writer(&sign, output - 32, 32, &part) == WISANGUB_DONE, "a community");
+    must(wisangub_centre_new(&centre, output - 32, part, WISANGUB_HIGH, first) == WISANGUB_DONE, "a central system");
+    for (const uint8_t *at = octets, *end = octets + size; end - at >= 3; at += 3 + part) {
+        part = (size_t)at[1] << 8 | at[2];
+        part = part < (size_t)(end - at) - 3 ? part : (size_t)(end - at) - 3;
+        call(&sign, &centre, at[0] % CALLS, at + 3, part);
+    }
+    draw(&sign);
+    wisangub_centre_free(&centre);
+    wisangub_sign_free(&sign);
+}
+
+/* ---- texts */
+
+/* What `check` says is what all layers of the pages say. */
+static void texts(const uint8_t *octets, size_t size)
+{
+    static struct wisangub_sign sign = {NULL};
+    struct wisangub_text_fault fault = {0, 0}, again = {0, 0};
+    uint32_t first = 0;
+    size_t line = 0, pages = 0, made = 0, needed = 0;
+    if (sign.at == NULL) {
+        must(wisangub_sign_new(&sign, description, description_size, &first, &line) == WISANGUB_DONE, "a sign");
+    }
+    const uint8_t *text = put(octets, size);
+    enum wisangub_answer answer = wisangub_sign_check(&sign, text, size, &pages, &fault), drawn;
+    seen(0, answer, answer == WISANGUB_DONE ? pages : (size_t)fault.code << 16 | fault.place);
+    must(answer == WISANGUB_DONE || (answer == WISANGUB_FAULT && fault.place <= size), "a check");
+    for (int layer = 0; layer < 3; layer++) {
+        drawn = wisangub_sign_text_pages(&sign, text, size, (enum wisangub_layer)layer, NULL, 0, &needed, &again);
+        must(drawn == (answer == WISANGUB_DONE ? WISANGUB_TOO_SMALL : answer), "the room of pages of a text");
+        if (answer != WISANGUB_DONE) {
+            must(again.code == fault.code && again.place == fault.place, "the same fault");
+            continue;
+        }
+        drawn = wisangub_sign_text_pages(&sign, text, size, (enum wisangub_layer)layer, output - needed, needed, &made,
+                                         &again);
+        must(drawn == WISANGUB_DONE && made == needed && made % pages == 0, "pages of a text");
+        for (const uint8_t *page = output - needed; page < output; page += made / pages) {
+            seen(1U + (unsigned)layer, page[0], page[1]);
+        }
+    }
+}
+
+/* ---- descriptions */
+
+static void descriptions(const uint8_t *octets, size_t size)
+{
+    struct wisangub_sign sign = {NULL};
+    uint32_t first = 0;
+    size_t line = 0;
+    enum wisangub_answer answer = wisangub_sign_new(&sign, put(octets, size), size, &first, &line);
+    must(answer == WISANGUB_DONE || (answer == WISANGUB_FAULT && sign.at == NULL && line > 0), "a description");
+    seen(0, answer, line);
+    if (answer == WISANGUB_DONE) {
+        uint16_t width = 0, height = 0;
+        wisangub_sign_matrix(&sign, &width, &height);
+        must(width >= 1 && width <= 256 && height >= 1 && height <= 64, "the matrix");
+        wisangub_sign_tick(&sign);
+        draw(&sign);
+    }
+    wisangub_sign_free(&sign);
+}
+
+int LLVMFuzzerInitialize(int *count, char ***words)
+{
+    const char *kind = getenv("FUZZED"), *path = getenv("FUZZ_SIGN");
+    FILE *file = path != NULL ? fopen(path, "rb") : NULL;
+    (void)count;
+    (void)words;
+    must(kind != NULL && file != NULL, "FUZZED and FUZZ_SIGN stand in the environment");
+    description_size = fread(description, 1, sizeof description, file);
+    fclose(file);
+    fuzz = strcmp(kind, "texts") == 0 ? texts : strcmp(kind, "descriptions") == 0 ? descriptions : datagrams;
+    input = guarded();
+    output = guarded();
+    return 0;
+}
+
+int LLVMFuzzerTestOneInput(const uint8_t *octets, size_t size)
+{
+    if (size <= ROOM) {
+        fuzz(octets, size);
+    }
+    return 0;
+}

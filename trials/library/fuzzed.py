@@ -1,0 +1,110 @@
+"""libFuzzer over the library for C: datagrams and other calls of both ends, descriptions, and texts."""
+
+from __future__ import annotations
+
+import pathlib
+import re
+
+from model import text
+
+from .against_vectors import cases
+from .trial import PLAIN, TOP, Trial, described
+
+KINDS = {"datagrams": 20000, "descriptions": 60000, "texts": 600}  # the most octets of an input
+FUZZER = ("-std=c11", "-Wall", "-Wextra", "-Werror", "-O1", "-g", "-fsanitize=fuzzer,address,undefined")
+FUZZER += ("-fno-sanitize-recover=all",)
+TO_SIGN, TO_CENTRE, SIGN_TICK, CENTRE_TICK, POWER_LOST, POWER_BACK, COMMAND, PAGES, HEARD, RESTART = range(10)
+DONE = re.compile(r"Done (\d+) runs in (\d+) second")
+MOST_START = 60  # seconds beside those that are asked for
+
+
+def call(kind: int, octets: bytes = b"") -> bytes:
+    """A call as trials/library/fuzz.c reads it."""
+    return bytes([kind]) + len(octets).to_bytes(2, "big") + octets
+
+
+def event(line: str) -> bytes:
+    """What an event of a script is; what a central system would have sent before is not known here."""
+    word, _, rest = line.partition(" ")
+    kinds = {
+        "sign-tick": call(SIGN_TICK),
+        "centre-tick": call(CENTRE_TICK),
+        "centre-restart": call(RESTART),
+        "power-lost": call(POWER_LOST),
+        "power-back": call(POWER_BACK, b"..."[: int(rest) if rest.isdigit() and len(rest) < 2 else 3]),
+    }
+    if word in ("publish", "blank", "activate"):
+        return call(COMMAND, line.encode("latin-1"))
+    if word in ("forge-sign", "forge-centre"):
+        return call(TO_SIGN if word == "forge-sign" else TO_CENTRE, bytes.fromhex(rest.replace("-", "")))
+    return kinds.get(word, b"")
+
+
+def descriptions() -> list[bytes]:
+    """Those of scripts, of signs/ and of the vectors' sign."""
+    found = [case["script"].split("\nend\n")[0] + "\nend\n" for case in cases("scripts")]
+    return [text.BENCH, *(described(sign).encode("latin-1") for sign in ("roadside", "gantry"))] + [
+        one.encode("latin-1") for one in found
+    ]
+
+
+def inputs(kind: str) -> list[bytes]:
+    """What the fuzzer begins with: all that the vectors have."""
+    if kind == "texts":
+        return [case["text"].encode("latin-1") for case in cases("texts")]
+    if kind == "descriptions":
+        return descriptions()
+    requests = [bytes.fromhex(case["request"]) for case in cases("requests")]
+    datagrams = [bytes.fromhex(case["octets"]) for case in cases("datagrams")]
+    scripts = [b"".join(map(event, case["script"].split("\n"))) for case in cases("scripts") if "report" in case]
+    both = [call(TO_SIGN, octets) + call(SIGN_TICK) + call(PAGES) for octets in requests]
+    return both + [call(TO_SIGN, octets) + call(TO_CENTRE, octets) for octets in datagrams] + scripts
+
+
+def corpus(trial: Trial, kind: str) -> pathlib.Path:
+    folder = trial.folder / "corpus" / kind
+    folder.mkdir(parents=True)
+    for number, octets in enumerate(dict.fromkeys(inputs(kind))):
+        (folder / f"{number:05}").write_bytes(octets)
+    return folder
+
+
+def compiled(trial: Trial) -> pathlib.Path | None:
+    """The fuzzer, where clang and its runtime are here; else it is skipped by name."""
+    if not trial.has("fuzzing", "clang"):
+        return None
+    empty, made = trial.folder / "fuzzer.c", trial.folder / "fuzz"
+    empty.write_text(
+        "int LLVMFuzzerTestOneInput(const char *at, unsigned long size) { return at && size > 9 ? 0 : 0; }"
+    )
+    if trial.ran(["clang", "-fsanitize=fuzzer,address,undefined", "-o", str(made), str(empty)])[0]:
+        trial.skip("fuzzing", "this clang has no runtime of the fuzzer (Debian: libclang-rt-14-dev)")
+        return None
+    library = str(trial.folder / PLAIN.folder)
+    words = ["clang", *FUZZER, f"-I{TOP / 'include'}", "-o", str(made), str(TOP / "trials/library/fuzz.c")]
+    status, said = trial.ran([*words, f"-L{library}", "-lwisangub", "-lwisangub_heap"])
+    return made if trial.check("fuzzing: compile", status == 0, said) else None
+
+
+def fuzz(trial: Trial, made: pathlib.Path, kind: str, seconds: int, seed: int) -> None:
+    """Fuzzes one kind of input for so many seconds."""
+    bench = trial.folder / "fuzz.sign"
+    bench.write_bytes(text.BENCH)
+    words = [str(made), f"-max_total_time={seconds}", f"-max_len={KINDS[kind]}", f"-seed={seed}", "-timeout=20"]
+    words += ["-rss_limit_mb=4096", f"-artifact_prefix={trial.folder}/{kind}-", "-print_final_stats=0", "-verbosity=1"]
+    status, said = trial.ran(
+        [*words, str(corpus(trial, kind))], "", seconds + MOST_START, FUZZED=kind, FUZZ_SIGN=str(bench)
+    )
+    done = DONE.search(said)
+    trial.check(f"fuzzing {kind}", status == 0 and done is not None, said[-2000:])
+    features = re.findall(r" ft: (\d+) ", said)
+    count, outcomes = (done[1] if done else "no"), (features[-1] if features else "0")
+    print(f"fuzzing {kind}, {seconds} s: {count} inputs, {outcomes} outcomes", flush=True)
+
+
+def run(trial: Trial, seconds: int, seed: int) -> None:
+    """All kinds, a share of the seconds each."""
+    made = compiled(trial)
+    for kind in KINDS if made else ():
+        assert made is not None
+        fuzz(trial, made, kind, max(1, seconds // len(KINDS)), seed)
