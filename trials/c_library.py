@@ -2,8 +2,7 @@
 passed, N failed`.
 
     python3 -m trials.c_library [--short] [--library crates/wisangub_c/out/libwisangub_c.a] [--aarch64 LIBRARY]
-        [--program PATH]
-        [--seconds 60] [--seed 1]
+        [--plain LIBRARY] [--program PATH] [--seconds 60] [--seed 1]
 
 Without --library it is taken as it stands, and made where it is of other sources, by tools/static_library.py. Needed is
 a C compiler; what else is not here is printed as `skipped NAME: why`. Every datagram, request, text, code and script of
@@ -30,6 +29,7 @@ import subprocess
 import sys
 import tempfile
 import time
+from dataclasses import dataclass
 from functools import partial
 from typing import Callable
 
@@ -47,7 +47,19 @@ from trials.library import (
     strangers,
     tested,
 )
-from trials.library.trial import AARCH64, PLAIN, REFUSING, SANITIZE, SANITIZED, TOP, UNDER_VALGRIND, Late, Trial, Way
+from trials.library.trial import (
+    AARCH64,
+    ANY,
+    PLAIN,
+    REFUSING,
+    SANITIZE,
+    SANITIZED,
+    TOP,
+    UNDER_VALGRIND,
+    Late,
+    Trial,
+    Way,
+)
 
 SHORT, MOST_MADE, LONG = 230.0, 1000.0, 3600.0  # seconds of the short form, of making the library in it, and else
 LACKS = 3  # the status of tools/static_library.py where it skipped the library and said why
@@ -99,16 +111,28 @@ def sanitized(trial: Trial, library: pathlib.Path) -> bool:
     return trial.compiled(SANITIZED, library)
 
 
-def ways(trial: Trial, library: pathlib.Path, for_aarch64: pathlib.Path | None) -> list[Way]:
+@dataclass(frozen=True)
+class Others:
+    """The libraries of other processors, where they are named."""
+
+    aarch64: pathlib.Path | None
+    plain: pathlib.Path | None
+
+
+def ways(trial: Trial, library: pathlib.Path, others: Others) -> list[Way]:
     """How the vectors go through the library here."""
     found = [SANITIZED] if sanitized(trial, library) else [PLAIN]
     trial.way = found[0]
     if trial.has("valgrind", "valgrind"):
         found.append(UNDER_VALGRIND)
-    if for_aarch64 is None:
+    if others.aarch64 is None:
         trial.skip("aarch64", "no library for it was named")
-    elif builds.is_for_aarch64(trial) and trial.compiled(AARCH64, for_aarch64):
+    elif builds.is_for_aarch64(trial) and trial.compiled(AARCH64, others.aarch64):
         found.append(AARCH64)
+    if others.plain is None:
+        trial.skip("any x86-64", "no library for it was named")
+    elif builds.is_for_any(trial, others.plain) and trial.compiled(ANY, others.plain):
+        found.append(ANY)
     return found
 
 
@@ -120,12 +144,12 @@ def told_of(trial: Trial, name: str, late: Late) -> None:
         trial.check(name, False, late)
 
 
-def all_tried(trial: Trial, library: pathlib.Path, for_aarch64: pathlib.Path | None, seconds: int, seed: int) -> None:
+def all_tried(trial: Trial, library: pathlib.Path, others: Others, seconds: int, seed: int) -> None:
     """What there is time for."""
     try:
         if not all(trial.compiled(way, library) for way in (PLAIN, REFUSING)):
             return
-        by = ways(trial, library, for_aarch64)
+        by = ways(trial, library, others)
     except Late as late:
         told_of(trial, "compiling", late)
         return
@@ -170,18 +194,19 @@ def main() -> int:
     words.add_argument(
         "--aarch64", type=pathlib.Path, metavar="LIBRARY", help="of `tools/static_library.py --target`, for ARM64"
     )
+    words.add_argument("--plain", type=pathlib.Path, metavar="LIBRARY", help="of `--cpu x86-64`, for any x86-64")
     words.add_argument("--program", type=pathlib.Path, default=TOP / "crates/signtool/out/signtool")
     words.add_argument("--seconds", type=int, default=60, help="of mutated datagrams")
     words.add_argument("--seed", type=int, default=1)
     asked = words.parse_args()
-    for_aarch64 = asked.aarch64.absolute() if asked.aarch64 else None
+    others = Others(*(path.absolute() if path else None for path in (asked.aarch64, asked.plain)))
     with tempfile.TemporaryDirectory(prefix="c-library-") as folder:
         trial = Trial(pathlib.Path(folder), asked.program.absolute(), random.Random(asked.seed))
         library = asked.library or built(trial, asked.short)
         if asked.short:
             trial.ends = time.monotonic() + SHORT
         if library is not None:
-            all_tried(trial, library.absolute(), for_aarch64, asked.seconds, asked.seed)
+            all_tried(trial, library.absolute(), others, asked.seconds, asked.seed)
     print(f"{trial.passed} passed, {trial.failed} failed")
     return 1 if trial.failed else 0
 

@@ -96,6 +96,23 @@ def is_for_aarch64(trial: Trial) -> bool:
     return all(trial.has("aarch64", needed) for needed in ("aarch64-linux-gnu-gcc", AARCH64.by[0]))
 
 
+# what x86-64-v2 has over plain x86-64 (System V ABI): SSE3, SSSE3, SSE4.1, SSE4.2, POPCNT, CMPXCHG16B, LAHF
+OF_V2 = r"""popcnt\w?|crc32\w?|cmpxchg16b|[ls]ahf|addsubp[sd]|h(?:add|sub)p[sd]|mov(?:s[hl]|d)dup|lddqu|fisttp\w*
+    |pshufb|palignr|pabs[bwd]|ph(?:add|sub)\w+|psign[bwd]|pmaddubsw|pmulhrsw|p?blend\w+|pmov[sz]x\w+
+    |p(?:max|min)(?:s[bd]|u[wd])|pextr[bdq]|pinsr[bdq]|ptest|pcmp(?:eq|gt)q|pcmp[ei]str[im]|round[sp][sd]
+    |packusdw|insertps|extractps|dpp[sd]|mpsadbw|pmuldq|pmulld|phminposuw|movntdqa"""
+
+
+def is_for_any(trial: Trial, library: pathlib.Path) -> bool:
+    """Whether the library has only instructions that each x86-64 has."""
+    if not trial.has("any x86-64", "objdump"):
+        return False
+    status, said = trial.ran(["objdump", "-d", "--no-show-raw-insn", str(library)])
+    found = set(re.findall(rf"(?mx)^\s*[0-9a-f]+:\s+({OF_V2})(?=\s|$)", said))
+    found |= set(re.findall(r"%[yz]mm", said))
+    return trial.check("any x86-64: instructions", status == 0 and not found and "ret" in said, found)
+
+
 def functions() -> set[str]:
     """The functions of the header, but for those of the proved crate and of the heap."""
     header = (TOP / "include/wisangub.h").read_text(encoding="utf-8")

@@ -11,8 +11,8 @@ from .against_vectors import cases
 from .trial import PLAIN, TOP, Trial, described
 
 KINDS = {"datagrams": 20000, "descriptions": 60000, "texts": 600}  # the most octets of an input
-FUZZER = ("-std=c11", "-Wall", "-Wextra", "-Werror", "-O1", "-g", "-fsanitize=fuzzer,address,undefined")
-FUZZER += ("-fno-sanitize-recover=all",)
+FUZZER = ["-std=c11", "-Wall", "-Wextra", "-Werror", "-O1", "-g", "-fsanitize=fuzzer,address,undefined"]
+FUZZER += ["-fno-sanitize-recover=all"]
 TO_SIGN, TO_CENTRE, SIGN_TICK, CENTRE_TICK, POWER_LOST, POWER_BACK, COMMAND, PAGES, HEARD, RESTART = range(10)
 DONE = re.compile(r"Done (\d+) runs in (\d+) second")
 MOST_START = 60  # seconds beside those that are asked for

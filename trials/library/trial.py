@@ -37,6 +37,7 @@ SANITIZED = Way("sanitizers", "sanitized", words=(f"EXTRA={SANITIZE}",))
 REFUSING = Way("refused memory", "refusing", words=("HEAP=refusing_heap.c",))
 UNDER_VALGRIND = Way("valgrind", "plain", VALGRIND)
 AARCH64 = Way("aarch64", "aarch64", QEMU, ("TARGET=aarch64",))
+ANY = Way("any x86-64", "any")
 
 
 class Late(Exception):
