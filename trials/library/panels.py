@@ -42,7 +42,7 @@ class Face:
     """The lamps of a sign's texts, by the model."""
 
     def __init__(self, sign: str) -> None:
-        self.face = text.World(text.described(described(sign).encode("latin-1"))).sign.face
+        self.face = text.World(text.described(described(sign).encode("latin-1"))).sign.state.face
         self.stride = (self.face.width + 7) // 8
 
     def frame(self, shown: str, tenth: int) -> bytes:
@@ -285,7 +285,7 @@ def live(trial: Trial) -> None:
 def unit(trial: Trial) -> None:
     """The unit says what it should, and systemd reads it."""
     read = configparser.ConfigParser(strict=False, interpolation=None)
-    read.optionxform = str  # type: ignore[method-assign, assignment]
+    read.optionxform = str  # type: ignore[assignment]
     read.read_string(UNIT.read_text(encoding="utf-8"))
     service = read["Service"]
     wanted = {"Type": "notify", "Restart": "always", "WatchdogSec": "5", "AmbientCapabilities": "CAP_NET_BIND_SERVICE"}

@@ -148,7 +148,8 @@ def test_stands_on(made: MakesTree) -> None:
 
 
 def test_passed(made: MakesTree) -> None:
-    page = "### File by file\n\n- room/send.py -> first way.rt and\n  far/end.rt -> second gone.rt\n\n## More\n\nother.rt\n"
+    passed = "- room/send.py -> first way.rt and\n  far/end.rt -> second gone.rt\n"
+    page = f"### File by file\n\n{passed}\n## More\n\nother.rt\n"
     texts = {"crates__first__src__way_rt": "", "crates__first__src__far__end_rt": "", "crates__second__src__lib_rt": ""}
     tree = made(**texts, crates_txt=LISTED, docs__ARCHITECTURE_md=f"# Crates\n\n{page}")
     assert drawing.passed(tree) == [
