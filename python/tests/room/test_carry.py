@@ -45,7 +45,7 @@ def test_what_is_not_kept_does_not_go_out(tmp_path: pathlib.Path, where: str, mo
 
     with bench(tmp_path, where) as at:
         command, found = at.ask(BLANK), at.session("first")
-        monkeypatch.setattr(found.store, "keep", refused)
+        monkeypatch.setattr(found.store.lines, "keep", refused)
         with pytest.raises(Failed):
             begin(found)
             carried_on(found, 3)

@@ -290,7 +290,7 @@ def test_a_command_is_waited_for_while_the_server_starts(monkeypatch: pytest.Mon
         return found
 
     monkeypatch.setattr(command, "LOOK", 0.01)
-    store: Any = types.SimpleNamespace(how=how)
+    store: Any = types.SimpleNamespace(commands=types.SimpleNamespace(how=how))
     assert command.waited(store, 1, 20.0) == "accepted" and not said
     said += [None]
     assert command.waited(store, 1, 0.0) is None

@@ -57,7 +57,7 @@ def test_a_sign_is_asked_after_a_worker_died(
             if any(one.how is not None for one in news):
                 raise KeyboardInterrupt
 
-        monkeypatch.setattr(worker.store, "keep", dies)
+        monkeypatch.setattr(worker.store.lines, "keep", dies)
         with pytest.raises(KeyboardInterrupt):
             at.ended(worker, command)
         assert at.store.commands.how(command) is None and worker.verdicts.to_ask == []
