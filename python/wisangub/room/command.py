@@ -57,7 +57,7 @@ def explain(store: Store, command: int, how: str) -> None:
 
 
 def main() -> int:
-    parser = options.parser("wisangub-control command", __doc__)
+    parser = options.command_options(__doc__, "wisangub-control command")
     options.add_database(parser)
     parser.add_argument("--who", default=getpass.getuser(), metavar="NAME", help="who asks; else the user")
     parser.add_argument(

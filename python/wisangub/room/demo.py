@@ -83,7 +83,7 @@ def _enter(where: str) -> None:
 
 
 def main() -> int:
-    parser = options.parser("wisangub-control demo", __doc__)
+    parser = options.command_options(__doc__, "wisangub-control demo")
     parser.add_argument("--listen", default=LISTEN, metavar="HOST:PORT")
     parser.add_argument("--fleet", type=pathlib.Path, default=_FLEET, metavar="FILE")
     parser.add_argument("--signtool", default=str(SIGNTOOL), metavar="PATH")

@@ -15,8 +15,8 @@ _WHERE = "a file of SQLite, or postgresql://USER@HOST/NAME"
 _CREATE = "make the database, where there is none: without it another name is no new database"
 
 
-def parser(command: str, words: str | None) -> argparse.ArgumentParser:
-    """The options of a command, which is explained by the words of its module."""
+def command_options(words: str | None, command: str) -> argparse.ArgumentParser:
+    """The options of a command, none yet, and its help: the words of its module."""
     return argparse.ArgumentParser(
         prog=called(command), description=words, formatter_class=argparse.RawDescriptionHelpFormatter
     )

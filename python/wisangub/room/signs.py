@@ -20,7 +20,7 @@ from . import options
 
 
 def _arguments() -> argparse.ArgumentParser:
-    parser = options.parser("wisangub-control signs", __doc__)
+    parser = options.command_options(__doc__, "wisangub-control signs")
     options.add_database(parser)
     calls = parser.add_subparsers(dest="call", required=True, metavar="CALL")
     calls.add_parser("list")

@@ -181,7 +181,7 @@ def _advanced(where: str, who: str, first: int | None) -> str:
 
 
 def _arguments() -> argparse.ArgumentParser:
-    parser = options.parser("wisangub-control backup", __doc__)
+    parser = options.command_options(__doc__, "wisangub-control backup")
     parser.add_argument("what", choices=("copy", "restore", "advance"))
     options.add_database(parser)
     parser.add_argument("--to", type=pathlib.Path, metavar="FILE", help="where the copy goes")

@@ -124,7 +124,7 @@ def asked_password() -> str:
 
 
 def _arguments() -> argparse.ArgumentParser:
-    parser = options.parser("wisangub-control users", __doc__)
+    parser = options.command_options(__doc__, "wisangub-control users")
     options.add_database(parser, may_create=True)
     calls = parser.add_subparsers(dest="call", required=True, metavar="CALL")
     for name, wanted in (("add", 2), ("password", 1), ("role", 2), ("disable", 1), ("enable", 1), ("list", 0)):
