@@ -1,10 +1,12 @@
 """A service with pages as a process, somebody who asks for its pages, and the programs that end beside it: for chaos
 and for tests."""
 
+import contextlib
 import pathlib
 import re
 import subprocess
 import sys
+import time
 import urllib.parse
 import urllib.request
 from concurrent.futures import ThreadPoolExecutor
@@ -84,16 +86,31 @@ class Service:
         until_answers(self.port, lambda: self.is_standing)
 
     @property
+    def pids(self) -> list[int]:
+        """Its processes: the worker, and those that it began."""
+        assert self.process is not None
+        pid = self.process.pid
+        return [pid, *map(int, pathlib.Path(f"/proc/{pid}/task/{pid}/children").read_text().split())]
+
+    def open_files(self, of: str) -> list[str]:
+        """What its processes have open whose name begins so."""
+        return [name for pid in self.pids for name in open_files(pid, of)]
+
+    @property
     def is_standing(self) -> bool:
         """Whether it was started, and has not ended by itself."""
         return self.process is not None and self.process.poll() is None
 
     def kill(self) -> None:
-        """Ends it at once."""
+        """Ends the worker at once, and returns when the pages have ended with it."""
         if self.process is not None:
+            pids = self.pids if self.is_standing else []
             self.process.kill()
             self.process.wait()
             self.process = None
+            ends = time.monotonic() + PATIENCE
+            while any(pathlib.Path(f"/proc/{pid}").exists() for pid in pids) and time.monotonic() < ends:
+                time.sleep(0.02)
 
     def end(self) -> int:
         """Its exit status, after a SIGTERM."""
@@ -105,11 +122,10 @@ class Service:
 def open_files(pid: int, of: str) -> list[str]:
     """What a process has open whose name begins so."""
     found = []
-    for place in pathlib.Path(f"/proc/{pid}/fd").iterdir():
-        try:
-            found.append(str(place.readlink()))
-        except OSError:
-            continue  # it was closed meanwhile
+    with contextlib.suppress(OSError):  # it ended meanwhile
+        for place in pathlib.Path(f"/proc/{pid}/fd").iterdir():
+            with contextlib.suppress(OSError):  # it was closed meanwhile
+                found.append(str(place.readlink()))
     return sorted(name for name in found if name.startswith(of))
 
 

@@ -68,7 +68,7 @@ class Beside(threading.Thread):
     def look(self) -> None:
         """No file of the database is deleted under the service."""
         assert self.service.process is not None
-        files = beside.open_files(self.service.process.pid, self.where)
+        files = self.service.open_files(self.where)
         self.faults += [f"the service has {name}" for name in files if name.endswith("(deleted)")]
         self.most_connections = max(self.most_connections, files.count(self.where))
 

@@ -127,6 +127,7 @@ def main() -> int:
                 f"{held}/database",
                 "--listen",
                 f"127.0.0.1:{port}",
+                "--no-worker",
             ],
             cwd=TOP,
             stdin=subprocess.DEVNULL,

@@ -72,13 +72,12 @@ def test_programs_that_end_beside_a_service_take_nothing_from_it(tmp_path: pathl
         service = service_of(at, tmp_path)
         try:
             service.start()
-            assert service.process is not None
             browser = Browser(service.address)
             browser.look()
             blank(at, browser, 1)
-            assert beside.open_files(service.process.pid, where).count(where) > 2, "it has several connections"
+            assert service.open_files(where).count(where) > 2, "it has several connections"
             wrong = programs_end(at, tmp_path, 2)
-            lost = [name for name in beside.open_files(service.process.pid, where) if name.endswith("(deleted)")]
+            lost = [name for name in service.open_files(where) if name.endswith("(deleted)")]
             for number in (3, 4):
                 blank(at, browser, number)
             service.kill()

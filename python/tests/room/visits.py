@@ -96,9 +96,9 @@ Visitors = Callable[[], Visitor]
 class Bench:
     """A room with a user of each role; the names of the users are those of their roles."""
 
-    def __init__(self, folder: pathlib.Path, where: str, is_behind_tls: bool = False) -> None:
+    def __init__(self, folder: pathlib.Path, where: str, is_behind_tls: bool = False, **settings: Any) -> None:
         database.opened(where).close()
-        self.settings = Settings(where, PROGRAM, is_behind_tls, zone_of("Europe/Berlin"), look=0.05)
+        self.settings = Settings(where, PROGRAM, is_behind_tls, zone_of("Europe/Berlin"), look=0.05, **settings)
         self.service = Service(self.settings, fleet.read(entered(folder)))
         self.store = Store(database.opened(where))
         for role in Role:
@@ -153,12 +153,12 @@ class Bench:
 Act = Callable[[Bench, Visitors], Awaitable[None]]
 
 
-def run(folder: pathlib.Path, where: str, act: Act, is_behind_tls: bool = False) -> None:
+def run(folder: pathlib.Path, where: str, act: Act, is_behind_tls: bool = False, **settings: Any) -> None:
     """What visitors do."""
     before, passwords.COST = passwords.COST, 2**4
 
     async def acted() -> None:
-        bench = Bench(folder, where, is_behind_tls)
+        bench = Bench(folder, where, is_behind_tls, **settings)
         async with bench.standing() as visitor:
             await asyncio.wait_for(act(bench, visitor), 120)
         bench.store.database.close()

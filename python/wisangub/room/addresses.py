@@ -54,6 +54,15 @@ def looked_up(place: _Place, flags: int = 0) -> Found:
     return Found(ordered[0][1], frozenset(_spelled(one[4]) for one in found))
 
 
+def is_this_machine(host: str) -> bool:
+    """Whether only this machine reaches what listens there: all that the host stands for is of the loopback."""
+    try:
+        found = socket.getaddrinfo(host, None)
+    except (OSError, UnicodeError):
+        return False
+    return all(ipaddress.ip_address(str(one[4][0]).partition("%")[0]).is_loopback for one in found)
+
+
 @dataclass
 class Addresses:
     """Hosts and what they stand for, as far as it is known. A name that stood for something and is not found any more

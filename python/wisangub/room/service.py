@@ -1,25 +1,24 @@
-"""The pages in a thread of their own, beside the worker or alone."""
+"""The pages in a thread of their own, so that signals are another one's."""
 
 import asyncio
+import logging
 import threading
 from dataclasses import dataclass
+from typing import Any
 
 from aiohttp import web
 
-from wisangub.endpoint.sockets import Waiting
 from wisangub.refusal import Refusal, reason
 from wisangub.room.output import LOG
-from wisangub.room.store.store import Store
 from wisangub.room.web.app import application
 from wisangub.room.web.service import Service
 from wisangub.room.web.settings import Settings
-from wisangub.room.worker.rounds import Pace, Worker
 
 from .fleet import Sign
-from .store import database
-from .waits import waited
 
 _PATIENCE = 20.0  # seconds until the pages stand, or have ended
+_LAST = 2.0  # seconds for what is under way as they end
+_QUIET = logging.Logger("requests", logging.CRITICAL + 1)  # what a request says that is none is nobody's to read
 
 
 @dataclass
@@ -48,23 +47,34 @@ class Pages:
     def serve(self) -> None:
         """The thread."""
         asyncio.set_event_loop(self.loop)
+        self.loop.set_exception_handler(_said)
+        self.runner = web.AppRunner(application(self.service), access_log=None, logger=_QUIET)
         try:
-            self.runner = web.AppRunner(application(self.service), access_log=None)
-            self.loop.run_until_complete(self.runner.setup())
-            site = web.TCPSite(self.runner, self.host, self.port, shutdown_timeout=2.0)
-            self.loop.run_until_complete(site.start())
-            self.port = int(self.runner.addresses[0][1])
+            server = self.loop.run_until_complete(self.begun())
         except (OSError, OverflowError) as fault:
             self.fault = fault
         self.is_up.set()
         if self.fault is None:
             self.loop.run_forever()
-        self.loop.run_until_complete(self.runner.cleanup())
+            server.close()
         self.loop.run_until_complete(self.ended())
         self.loop.close()
 
+    async def begun(self) -> asyncio.base_events.Server:
+        """What listens, and hands each connection over within its limits."""
+        await self.runner.setup()
+        handler = self.runner.server
+        assert handler is not None
+        server = await self.loop.create_server(self.service.limits.factory(handler), self.host, self.port, backlog=128)
+        self.port = int(server.sockets[0].getsockname()[1])
+        return server
+
     async def ended(self) -> None:
         """What still answers ends."""
+        await self.runner.shutdown()
+        if self.runner.server is not None:
+            await self.runner.server.shutdown(_LAST)
+        await self.runner.cleanup()
         left = asyncio.all_tasks() - {asyncio.current_task()}
         for task in left:
             task.cancel()
@@ -86,14 +96,6 @@ class Pages:
         return f"http://{host}:{self.port}/"
 
 
-def work(settings: Settings, signs: list[Sign], pace: Pace, waiting: Waiting) -> None:
-    """The worker, until it is stopped."""
-
-    def begun() -> Worker:
-        store = Store(database.opened(settings.database, may_create=False))
-        return Worker(store, store.signs.enter(signs), settings.program, pace, waiting)
-
-    worker = waited(waiting, begun)
-    if worker is not None:
-        worker.run()
-        worker.store.database.close()
+def _said(_: asyncio.AbstractEventLoop, context: dict[str, Any]) -> None:
+    """A fault of the loop, in one line."""
+    LOG.error(f"the pages: {context.get('message', '')}: {context.get('exception', '')!r}")

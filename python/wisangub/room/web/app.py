@@ -2,6 +2,8 @@
 
 import asyncio
 import contextlib
+import pathlib
+import traceback
 from dataclasses import dataclass
 from functools import partial
 from typing import AsyncIterator, Awaitable, Callable
@@ -13,7 +15,7 @@ from wisangub.room.store import logins
 from wisangub.room.store.database import Failed, Taken
 from wisangub.room.store.users import Role
 
-from . import compose, log_pages, people, picture_pages, record_pages, send, sign_in, sign_pages, wall
+from . import bodies, compose, log_pages, people, picture_pages, record_pages, send, sign_in, sign_pages, wall
 from .events import Hub, events
 from .security import prepare
 from .service import HERE, SERVICE, Service, service_of
@@ -63,28 +65,52 @@ ROUTES = (
 )
 
 
-def _refused(request: web.Request, status: int, words: str) -> web.Response:
+def _refused(request: web.Request, status: int, words: str, keep_alive: bool | None = None) -> web.Response:
     """A page that says why there is no other."""
     if request.path == "/look":
-        return web.json_response({"error": words}, status=status)
-    return service_of(request).page(request, "error.html", status=status, status_code=status, why=words)
+        made = web.json_response({"error": words}, status=status)
+    else:
+        made = service_of(request).page(request, "error.html", status=status, status_code=status, why=words)
+    if keep_alive is False:
+        made.force_close()
+    return made
+
+
+@web.middleware
+async def _limits(request: web.Request, handler: _Handler) -> web.StreamResponse:
+    """A connection waits for its next request once this one was answered."""
+    limits = service_of(request).limits
+    limits.begin(request)
+    try:
+        return await handler(request)
+    finally:
+        limits.end(request)
 
 
 @web.middleware
 async def _faults(request: web.Request, handler: _Handler) -> web.StreamResponse:
-    """What went wrong, in words."""
+    """What went wrong, in words. A fault of the service is one line of the log, whatever was asked for."""
     try:
+        if request.can_read_body:
+            await bodies.check(request, service_of(request).settings.patience.body)
         return await handler(request)
     except web.HTTPRedirection:
         raise
     except web.HTTPException as fault:
         words = fault.text if fault.text and not fault.text.startswith(str(fault.status)) else fault.reason
-        return _refused(request, fault.status, words)
+        return _refused(request, fault.status, words, fault.keep_alive)
     except (Failed, Taken):
         return _refused(request, 503, "The database does not answer. What was asked for may not have been done.")
-    except Exception:
-        LOG.exception("a page failed: %s %s", request.method, request.match_info.route.resource)
+    except Exception as fault:
+        LOG.error(f"a page failed: {request.method} {request.match_info.route.resource}: {_placed(fault)}")
         return _refused(request, 500, "Something went wrong here. The service's log says what.")
+
+
+def _placed(fault: Exception) -> str:
+    """A fault in one line, with the place that it comes from."""
+    frames = traceback.extract_tb(fault.__traceback__)
+    at = f" at {pathlib.Path(frames[-1].filename).name}:{frames[-1].lineno}" if frames else ""
+    return f"{type(fault).__name__}: {str(fault)[:200]!r}{at}"
 
 
 @web.middleware
@@ -126,7 +152,7 @@ async def _end_streams(app: web.Application) -> None:
 
 def application(service: Service) -> web.Application:
     """The pages of a service."""
-    app = web.Application(middlewares=[_faults, _guard], client_max_size=_MOST_BODY)
+    app = web.Application(middlewares=[_limits, _faults, _guard], client_max_size=_MOST_BODY)
     app[SERVICE], app["hub"] = service, Hub(service)
     app["roles"] = {route.handler: route.role for route in ROUTES}
     for route in ROUTES:

@@ -18,6 +18,7 @@ from wisangub.snmp.mib import Mib
 from . import words
 from .connections import Connections
 from .faces import Face, faces_of
+from .limits import Limits
 from .pictures import Pictures
 from .plain import plain_of
 from .progress import because, states
@@ -42,6 +43,7 @@ class Service:
         self.seal = Seal(key_of(held), settings.is_behind_tls)
         self.connections.let_go()
         self.pictures = Pictures(settings.program)
+        self.limits = Limits(settings.patience, settings.is_behind_tls)
         self.mib = Mib.read()
         self.clock = words.Clock(settings.zone)
         self.templates = self.environment()

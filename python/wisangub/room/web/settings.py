@@ -7,12 +7,14 @@ from dataclasses import dataclass
 from wisangub.process.places import SIGNTOOL
 from wisangub.refusal import Refusal
 
+from .limits import Patience
+
 
 @dataclass(frozen=True)
 class Settings:
     """`is_behind_tls`: a proxy on this machine ends TLS, so cookies are Secure and the client's address is the one that
     the proxy tells. `zone`: the one that times are shown in; else the machine's. `look`: seconds between two looks into
-    the database for what has changed."""
+    the database for what has changed. `patience`: how long, and for how many, connections are waited for."""
 
     database: str
     program: str = str(SIGNTOOL)
@@ -20,6 +22,7 @@ class Settings:
     zone: datetime.tzinfo | None = None
     look: float = 0.5
     threads: int = 4
+    patience: Patience = Patience()
 
 
 def zone_of(name: str | None) -> datetime.tzinfo | None:

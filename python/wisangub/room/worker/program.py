@@ -7,12 +7,15 @@ not answer. It ends at an interrupt or a SIGTERM; what was under way is carried 
 
 import argparse
 import sys
+from typing import Callable
 
 from wisangub.endpoint.sockets import Waiting
 from wisangub.refusal import status_of
 from wisangub.room import fleet, options
+from wisangub.room.fleet import Sign
 from wisangub.room.output import print_line
 from wisangub.room.store import database
+from wisangub.room.store.database import Database
 from wisangub.room.store.store import Store
 from wisangub.room.waits import waited
 
@@ -22,7 +25,7 @@ __all__ = ["Pace", "Worker"]
 
 
 def _arguments() -> argparse.ArgumentParser:
-    parser = options.parser("wisangub-control worker", __doc__)
+    parser = options.command_options(__doc__, "wisangub-control worker")
     options.add_fleet(parser)
     options.add_database(parser, may_create=True)
     parser.add_argument("--tick", type=options.seconds, default=Pace.tick, metavar="SECONDS", help="from tick to tick")
@@ -36,21 +39,39 @@ def _arguments() -> argparse.ArgumentParser:
     return parser
 
 
+def work(where: str, program: str, signs: list[Sign], waiting: Waiting, pace: Pace = Pace()) -> None:
+    """A worker over a database that is there, until it is stopped."""
+    _work(lambda: database.opened(where, may_create=False), program, signs, waiting, pace, "")
+
+
+def _work(
+    opened: Callable[[], Database], program: str, signs: list[Sign], waiting: Waiting, pace: Pace, words: str
+) -> None:
+    def begun() -> Worker:
+        store = Store(opened())
+        return Worker(store, store.signs.enter(signs), program, pace, waiting)
+
+    worker = waited(waiting, begun)
+    if worker is not None:
+        if words:
+            print_line(words)
+        worker.run()
+        worker.store.database.close()
+
+
 def main() -> int:
     asked = _arguments().parse_args()
     options.need("wisangub.room.worker.program", asked.database)
     signs, waiting = fleet.read(asked.fleet), Waiting()
     fleet.tell_open(signs)
-
-    def begun() -> Worker:
-        store = Store(database.opened(asked.database, asked.create))
-        return Worker(store, store.signs.enter(signs), asked.signtool, Pace(asked.tick, asked.lease), waiting)
-
-    worker = waited(waiting, begun)
-    if worker is not None:
-        print_line(f"a worker of {len(signs)} signs")
-        worker.run()
-        worker.store.database.close()
+    _work(
+        lambda: database.opened(asked.database, asked.create),
+        asked.signtool,
+        signs,
+        waiting,
+        Pace(asked.tick, asked.lease),
+        f"a worker of {len(signs)} signs",
+    )
     return 0
 
 
