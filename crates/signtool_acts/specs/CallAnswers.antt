@@ -1,7 +1,7 @@
 -- What the calls of the program print (this profile). Whether a text is printed, and with which status a call ends, is
 -- said by `Printed` of the texts and statuses that the calls have.
 use Rattle.std.specs.Prelude.{◌≡◌, ℕ, ◌⊎◌, ◌<◌, List, ◌++◌, length, codes, Option, Some, None, IfSome, Result, Ok}
-use Rattle.std.specs.Prelude.{Err, ⊤, true, false}
+use Rattle.std.specs.Prelude.{Err, ⊤}
 use Rattle.std.specs.Str.Lines.{lines}
 use Rattle.hex.specs.Hex.{encode_lower, decode_of}
 use Rattle.hex.specs.declared.error.FromHexError.{FromHexError}
@@ -91,7 +91,7 @@ OfScript input Printed =
     IfSome input (λ octets. (report : List ℕ) × IsReport octets report × Printed (answer Done report))
     ⊎ ((fault : ReplayFault) × IsScriptFault input fault × Printed (answer Refused (fault_line fault)))
 
--- ---- a call: nothing is said here of what is printed as JSON, of `decode --spaced`, and of conversations
+-- ---- a call: nothing is said here of what is printed as JSON and of conversations
 
 abbrev pub version_line : List ℕ
 version_line = codes "signtool 1.0.0\n"
@@ -103,9 +103,8 @@ CarriesOut (calls.Check text sign Lines) input Printed =
 CarriesOut (calls.Check text sign Json) input Printed = ⊤
 CarriesOut (calls.Pages text sign drawing) input Printed =
     OfSign sign input Printed (λ sign. pages_answer sign.config.face text.now drawing)
-CarriesOut (calls.Decode hex false Lines) input Printed = Printed (decode_answer hex.now)
-CarriesOut (calls.Decode hex false Json) input Printed = ⊤
-CarriesOut (calls.Decode hex true form) input Printed = ⊤
+CarriesOut (calls.Decode hex spaced Lines) input Printed = Printed (decode_answer spaced hex.now)
+CarriesOut (calls.Decode hex spaced Json) input Printed = ⊤
 CarriesOut (calls.Items text Lines) input Printed = Printed (items_answer text.now)
 CarriesOut (calls.Items text Json) input Printed = ⊤
 CarriesOut calls.Version input Printed = Printed (answer Done version_line)

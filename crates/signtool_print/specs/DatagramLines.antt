@@ -1,10 +1,9 @@
 -- What is printed of the fields of a datagram (this profile).
-use Rattle.std.specs.Prelude.{ℕ, ℤ, Bool, nat_le, ◌&&◌, ◌==◌, List, [], ◌∷◌, ◌++◌, codes, decimal, take, drop}
-use Rattle.std.specs.Prelude.{Option, Some, None, Result, Ok, Err, if◌then◌else◌}
+use Rattle.std.specs.Prelude.{ℕ, ℤ, Bool, true, false, nat_le, ◌&&◌, ◌==◌, List, [], ◌∷◌, ◌++◌, codes, decimal}
+use Rattle.std.specs.Prelude.{take, drop, Option, Some, None, Result, Ok, Err, if◌then◌else◌}
 use Rattle.std.specs.Cmp.Lexicographic.{pointwise}
 use Rattle.std.specs.Fmt.{signed_decimal}
 use Rattle.std.specs.List.{flat_map, list_all}
-use Rattle.std.specs.Option.{option_map_or}
 use Rattle.std.specs.Prelude.{nat_eq}
 use Rattle.hex.specs.Hex.{encode_lower, decode_of}
 use Rattle.hex.specs.declared.error.FromHexError.{FromHexError}
@@ -22,6 +21,7 @@ use Rattle.dms_mib.specs.declared.objects.Group.TheVariants.{VmsCfg, MultiCfg, D
 use Rattle.dms_mib.specs.declared.objects.Group.TheVariants.{DmsMessageEntry, SignControl}
 use Rattle.signtool_print.specs.ObjectNames.{name_among}
 use Rattle.signtool_print.specs.Printed.{Answer, answer}
+use Rattle.signtool_print.specs.SpacedDigits.{spaced_octets}
 use Rattle.signtool_print.specs.declared.statuses.ExitStatus.TheVariants.{Done, Refused, Misused}
 
 -- ---- octets
@@ -153,6 +153,12 @@ abbrev pub octets_answer : Result (List ℕ) FromHexError → Answer
 octets_answer (Ok octets) = read_answer (message_at octets)
 octets_answer (Err fault) = answer Misused (codes "not hex\n")
 
--- of `decode`, where nothing may stand between the digits
-abbrev pub decode_answer : List ℕ → Answer
-decode_answer digits = octets_answer (decode_of digits)
+-- likewise, where separators may stand between pairs of digits
+abbrev pub spaced_answer : Option (List ℕ) → Answer
+spaced_answer (Some octets) = read_answer (message_at octets)
+spaced_answer None = answer Misused (codes "not hex\n")
+
+-- of `decode`: with spaces and colons between pairs of digits, or with nothing between digits
+abbrev pub decode_answer : Bool → List ℕ → Answer
+decode_answer true word = spaced_answer (spaced_octets word)
+decode_answer false word = octets_answer (decode_of word)

@@ -8,4 +8,5 @@ pub mod TextAnswers
 pub mod ItemLines
 pub mod ItemWords
 pub mod InstanceNames
+pub mod SpacedDigits
 pub mod DatagramLines

@@ -16,6 +16,7 @@ mod item_words;
 mod json;
 mod names;
 mod reading;
+mod spaced;
 mod statuses;
 mod texts;
 

@@ -1,13 +1,14 @@
 //! Datagrams and texts, read and printed.
 
-ghost use Rattle.std.specs.Prelude.{◌≡◌, ◌⊎◌, false, ℕ, List, Result, Ok, Err, codes, IfOk, IfErr};
+ghost use Rattle.std.specs.Prelude.{◌≡◌, ◌⊎◌, ℕ, List, Result, Ok, Err, codes, IfOk, IfErr};
 ghost use Rattle.hex.specs.Hex.{decode_of};
 ghost use Rattle.hex.specs.declared.error.FromHexError.TheVariants.{OutOfMemory};
 ghost use Rattle.dms_wire_ber.specs.declared.fault.WireFault.{WireFault};
 ghost use Rattle.dms_wire.specs.Message.{SnmpMessage};
 ghost use Rattle.dms_wire.specs.Reading.{message_at};
 ghost use Rattle.dms_wire.specs.View.{snmp_message};
-ghost use Rattle.signtool_print.specs.DatagramLines.{read_answer, decode_answer};
+ghost use Rattle.signtool_print.specs.DatagramLines.{read_answer, octets_answer, spaced_answer, decode_answer};
+ghost use Rattle.signtool_print.specs.SpacedDigits.{spaced_octets};
 ghost use Rattle.signtool_print.specs.declared.statuses.ExitStatus.TheVariants.{Misused};
 ghost use Rattle.signtool_calls.specs.declared.call.Form.TheVariants.{Lines};
 ghost use Rattle.signtool_print.specs.Printed.{Answer, answer, PrintsOrMemory};
@@ -16,6 +17,7 @@ ghost use Rattle.signtool_print.specs.ItemLines.{items_answer, status_by};
 use crate::fields::write_message;
 use crate::item_lines::write_items;
 use crate::json::{put_items, put_message};
+use crate::spaced::spaced_octets;
 use crate::statuses::{ExitStatus, print, print_made, print_memory, print_text, say_memory};
 use dms_multi::SyntaxFault;
 use dms_text_streams::{Failed, Sink};
@@ -33,8 +35,8 @@ pub fn decode<W: Sink, E: Write>(
     writer: &mut W,
     errors: &mut E,
 ) -> Result<ExitStatus, Failed>
-    ensures { words.entry.2 ≡ Lines → words.entry.1 ≡ false → PrintsOrMemory (W.contents writer.old)
-        (W.contents writer.new) (W.failed writer.old) (W.failed writer.new) result (decode_answer words.entry.0.now) }
+    ensures { words.entry.2 ≡ Lines → PrintsOrMemory (W.contents writer.old) (W.contents writer.new)
+        (W.failed writer.old) (W.failed writer.new) result (decode_answer words.entry.1 words.entry.0.now) }
 {
     let (digits, spaced, form) = words;
     if spaced {
@@ -50,9 +52,12 @@ fn decode_spaced<W: Sink, E: Write>(
     words: (&str, Form),
     writer: &mut W,
     errors: &mut E,
-) -> Result<ExitStatus, Failed> {
+) -> Result<ExitStatus, Failed>
+    ensures { words.entry.1 ≡ Lines → PrintsOrMemory (W.contents writer.old) (W.contents writer.new)
+        (W.failed writer.old) (W.failed writer.new) result (spaced_answer (spaced_octets words.entry.0.now)) }
+{
     let (digits, form) = words;
-    match spaced_octets(alloc, digits) {
+    match spaced_octets(alloc, digits.as_bytes()) {
         Ok(datagram) => print_datagram(alloc, datagram.as_slice(), form, writer, errors),
         // what is no digit in the word is a separator in its place
         Err(FromHexError::OddLength) => {
@@ -71,7 +76,7 @@ fn decode_digits<W: Sink, E: Write>(
     errors: &mut E,
 ) -> Result<ExitStatus, Failed>
     ensures { words.entry.1 ≡ Lines → PrintsOrMemory (W.contents writer.old) (W.contents writer.new)
-        (W.failed writer.old) (W.failed writer.new) result (decode_answer words.entry.0.now) }
+        (W.failed writer.old) (W.failed writer.new) result (octets_answer (decode_of words.entry.0.now)) }
 {
     let (digits, form) = words;
     match octets_of(alloc, digits) {
@@ -201,33 +206,6 @@ fn say_items_fault<E: Write>(fault: Option<SyntaxFault>, errors: &mut E) -> Exit
             ExitStatus::Refused
         }
     }
-}
-
-/// The octets that pairs of digits are. Spaces and colons may stand between two pairs.
-fn spaced_octets(alloc: Global, digits: &str) -> Result<Vec<u8>, FromHexError> {
-    let mut pairs = Vec::new(alloc);
-    let mut is_after_separator = false;
-    for (index, digit) in digits.as_bytes().iter().enumerate() {
-        is_after_separator = matches!(*digit, b' ' | b':')
-            && !pairs.is_empty()
-            && pairs.len() % 2 == 0;
-        if !is_after_separator {
-            if !digit.is_ascii_hexdigit() {
-                return Err(FromHexError::InvalidHexCharacter {
-                    c: char::from(*digit),
-                    index,
-                });
-            }
-            if pairs.push(*digit).is_err() {
-                return Err(FromHexError::OutOfMemory);
-            }
-        }
-    }
-    if is_after_separator {
-        let index = digits.len().saturating_sub(1);
-        return Err(FromHexError::InvalidHexCharacter { c: ' ', index });
-    }
-    hex::decode(alloc, pairs.as_slice())
 }
 
 /// Prints that a word is no octets, and says which octet of it is no digit of a pair, or that there is no memory.
