@@ -189,8 +189,8 @@ static void receive(const char *digits)
 static void ticks(const char *word)
 {
     int64_t seconds = read_number(word, UINT32_MAX);
-    for (int64_t second = 0; second < seconds; second++) {
-        wisangub_sign_tick(&sign);
+    if (seconds >= 0) {
+        wisangub_sign_ticks(&sign, (uint32_t)seconds);
     }
     puts(seconds < 0 ? "bad line" : "ok");
 }

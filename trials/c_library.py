@@ -167,7 +167,7 @@ def all_tried(trial: Trial, library: pathlib.Path, others: Others, seconds: int,
         ("disks", partial(disks.run, trial)),
         ("languages", partial(languages.run, trial)),
         ("panel", partial(panels.run, trial)),
-        ("the largest sign", partial(tested.arena, trial, library)),
+        ("arenas", partial(tested.arena, trial, library)),
         ("fuzzing", lambda: fuzzed.run(trial, trial.seconds(seconds), seed)),
     ]
     parts += [(way.name, partial(against_vectors.run, trial, way)) for way in by[1:]]

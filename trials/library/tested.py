@@ -58,13 +58,15 @@ ARENAS = {"roadside": 1 << 18, "gantry": 1 << 20}  # docs/C.md, "What it takes"
 
 
 def arena(trial: Trial, library: pathlib.Path) -> None:
-    """The header test and a talk over a static arena, which is as large as the page says that a sign takes."""
+    """The header test and a panel over a static arena, which is as large as the page says that a sign takes."""
     for sign, octets in ARENAS.items():
-        way = Way(f"an arena for {sign}", f"arena_{sign}", words=("HEAP=arena.c", f"EXTRA=-DARENA_OCTETS={octets}"))
+        name, path = f"arena_{sign}", str(TOP / "signs" / f"{sign}.sign")
+        tests = [str(trial.folder / name / test) for test in ("header_test", "panel_test")]
+        way = Way(f"an arena for {sign}", name, words=("HEAP=arena.c", f"EXTRA=-DARENA_OCTETS={octets}", *tests))
         if not trial.compiled(way, library):
             continue
-        says_ok(trial, way, "header_test", str(TOP / "signs" / f"{sign}.sign"))
-        status, said = trial.ran(trial.called(way, "panel_test", str(TOP / "signs" / f"{sign}.sign"), "3"), "41\n")
+        says_ok(trial, way, "header_test", path)
+        status, said = trial.ran(trial.called(way, "panel_test", path, "3"), "41\n")
         trial.check(f"{way.name}: panel_test", status == 0 and len(said.splitlines()) == 3, said[-300:])
 
 
