@@ -25,8 +25,10 @@ from dataclasses import dataclass, field
 TOP = pathlib.Path(__file__).resolve().parent.parent
 sys.path[:0] = [str(TOP), str(TOP / "python")]
 
+from model import wire  # noqa: E402
+from model.objects import DMS  # noqa: E402
 from model.text import BENCH  # noqa: E402
-from trials import largest_inputs  # noqa: E402
+from trials import largest_inputs, memory_cases  # noqa: E402
 from wisangub.tester.hostile_datagrams import Maker  # noqa: E402
 
 COMMUNITIES = b"communities public admin"  # those of the vectors
@@ -100,13 +102,31 @@ def commands(chance: random.Random) -> Iterator[str]:
             yield from ["tick"] * 61
 
 
+def many() -> Iterator[bytes]:
+    """Requests of one name as often as a datagram has room for it."""
+    names = [DMS + (5, 8, 1, column, memory, 1) for column in range(14) for memory in (2, 3, 4, 5, 7)]
+    names += [DMS + (group, number, 0) for group in (1, 2, 4, 5, 6, 9) for number in range(1, 19)]
+    names += [DMS + (5, 8, 1, 9, 7, 255), DMS + (5, 8, 1, 12, 7), (1, 3, 6, 1), (2, 5)]
+    for name in names:
+        for kind, community, value in (
+            (wire.GET, b"public", memory_cases.NULL),
+            (wire.GET_NEXT, b"public", memory_cases.NULL),
+            (wire.SET, b"admin", (wire.INTEGER, 1)),
+        ):
+            one = len(memory_cases.request(kind, community, (name, value)))
+            each = len(memory_cases.request(kind, community, (name, value), (name, value))) - one
+            for times in ((wire.MOST_DATAGRAM - one) // each, 40, 8, 2):
+                yield memory_cases.request(kind, community, *[(name, value)] * times)
+
+
 def lines(sign: Sign, count: int, seed: int) -> Iterator[str]:
     """All that is called, a line each."""
     chance, maker = random.Random(seed), Maker(seed)
     yield from commands(chance)
     known = [bytes.fromhex(str(case["request"])) for case in cases("requests")]
     known += [bytes.fromhex(str(case["octets"])) for case in cases("datagrams")]
-    known += [octets[:1472] for _, octets in largest_inputs.datagrams()]
+    known += [octets[:1472] for _, octets in largest_inputs.datagrams()] + [*many()]
+    known += [octets for talk in memory_cases.talks().values() for octets in talk]
     for number, octets in enumerate([*known, *(maker.to_sign() for _ in range(count))]):
         yield f"datagram {octets.hex()}"
         if number % 50 == 0:
