@@ -1,10 +1,10 @@
 /*
  * The proved sign and the proved central system of Wisangub for C (C11) and C++ (C++11).
  *
- * Targets: 64-bit Linux on x86-64 and on ARM64. On x86-64 the library wants a processor of the level x86-64-v2 (SSE4 and
- * POPCNT; all since 2013), and an older one ends the program by SIGILL; `make -C examples CPU=x86-64` builds it for any
- * x86-64. There is none for 32 bits and none for bare metal: docs/C.md, "Targets". What a call takes at most of heap,
- * stack and instructions stands there too, as it was measured.
+ * Targets: 64-bit Linux on x86-64 and on ARM64. On x86-64 the library wants a processor of the level x86-64-v2 (SSE4
+ * and POPCNT; all since 2013), and an older one ends the program by SIGILL; `make -C examples CPU=x86-64` builds it for
+ * any x86-64. There is none for 32 bits and none for bare metal: docs/C.md, "Targets". What a call takes at most of
+ * heap, stack and instructions stands there too, as it was measured.
  *
  * What each function of the library does is proved: docs/PROVED.md, "Beside", has the contracts. Not proved is what
  * this header and its callers have to keep:
@@ -59,10 +59,10 @@ const char *wisangub_version(void);
 /*
  * The heap is the caller's: these three functions are not in the library. examples/heap.c has them over malloc
  * (libwisangub_heap.a), and examples/arena.c over a static array. A block is aligned to `align`, a power of two of at
- * most 16, and stays where it is until it is given to rattle_realloc or rattle_dealloc. A size may be 0. Of a block that
- * is to have another size the first `kept` octets stay as they are, also where it moves; they are at most `size`. Where
- * there is no memory `has` is 0, and a block that was to have another size stays as it was; `at` is not null even then.
- * Two threads that use two signs may call these functions at once.
+ * most 16, and stays where it is until it is given to rattle_realloc or rattle_dealloc. A size may be 0. Of a block
+ * that is to have another size the first `kept` octets stay as they are, also where it moves; they are at most `size`.
+ * Where there is no memory `has` is 0, and a block that was to have another size stays as it was; `at` is not null even
+ * then. Two threads that use two signs may call these functions at once.
  */
 struct rattle_had {
     uint64_t has; /* 1 where there is memory, else 0 */
