@@ -44,6 +44,8 @@ def headers(named: Named) -> None:
         words = named.trial.called(named.way, "header_test", str(TOP / "signs" / f"{sign}.sign"))
         status, said = named.trial.ran(words)
         named.check(f"header_test, {sign}", (status, said) == (0, "ok\n"), said)
+    status, said = named.trial.ran(named.trial.called(named.way, "header_test"))
+    named.check("header_test's use", status == 2 and "usage: header_test DESCRIPTION\n" in said, said)
 
 
 def requests(named: Named) -> None:
