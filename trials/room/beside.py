@@ -131,7 +131,7 @@ def open_files(pid: int, of: str) -> list[str]:
 
 def enter(where: str) -> None:
     """The operator who asks for pages."""
-    done = ended(where, "wisangub.room.store.users", "add", NAME, "operator", said=PASSWORD)
+    done = ended(where, "wisangub.room.users", "add", NAME, "operator", said=PASSWORD)
     assert done.returncode == 0, done.stderr
 
 

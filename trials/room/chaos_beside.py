@@ -57,7 +57,7 @@ class Beside(threading.Thread):
             self.faults += [f"a worker that was ended beside it has status {status}"] * (status not in (0, None))
         else:
             words = {
-                0: ("wisangub.room.store.users", "list"),
+                0: ("wisangub.room.users", "list"),
                 2: ("wisangub.room.command", "--wait", "1", self.sign, LINE),
                 3: ("wisangub.room.store.backup", "copy", "--to", str(self.fleet.with_name(f"copy {self.programs}"))),
             }[at]

@@ -56,7 +56,7 @@ def programs_end(at: Bench, folder: pathlib.Path, number: int) -> list[object]:
     """Each program that has a database, to its end: what is wrong with what they said."""
     line = f"blank {number} 65535 255 192.0.2.1"
     said = [
-        (beside.ended(at.where, "wisangub.room.store.users", "list").stdout, f"{beside.NAME} operator\n"),
+        (beside.ended(at.where, "wisangub.room.users", "list").stdout, f"{beside.NAME} operator\n"),
         (beside.ended(at.where, "wisangub.room.command", "--wait", "30", "one", line).stdout, "accepted\n"),
         (beside.worker_ended(at.fleet, at.where, PROGRAM), 0),
         (beside.ended(at.where, "wisangub.room.store.backup", "copy", "--to", str(folder / "copy")).returncode, 0),
@@ -104,7 +104,7 @@ def test_a_connection_opens_no_file_that_is_there(tmp_path: pathlib.Path) -> Non
     log = os.stat(f"{where}-wal").st_ino
     for _ in range(3):
         database.opened(where).close()
-        assert beside.ended(where, "wisangub.room.store.users", "list").returncode == 0
+        assert beside.ended(where, "wisangub.room.users", "list").returncode == 0
     assert not [name for name in beside.open_files(os.getpid(), where) if name.endswith("(deleted)")]
     assert os.stat(f"{where}-wal").st_ino == log, "the log is the one that it was"
     first.close()

@@ -38,10 +38,10 @@ def test_log_ins_that_failed_at_a_time_to_come_shut_nobody_out(tmp_path: pathlib
     async def act(bench: Bench, visitor: Visitors) -> None:
         held = bench.store.database
         jump(held, AHEAD)
-        tries = [logins.attempt(held, "operator", "192.0.2.1") for _ in range(logins.MOST_OF_BOTH + 1)]
-        assert tries[-1] is None and None not in tries[:-1]
+        tries = [logins.attempt(held, "operator", "192.0.2.1") for _ in range(logins.FREE + 1)]
+        assert tries[-1] > 0 and not any(tries[:-1])
         jump(held, 0.0)
-        assert logins.attempt(held, "operator", "192.0.2.1") is not None
+        assert logins.attempt(held, "operator", "192.0.2.1") == 0
 
     run(tmp_path, where, act)
 

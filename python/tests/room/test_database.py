@@ -14,7 +14,7 @@ from wisangub.process.places import TOP
 from wisangub.refusal import Refusal
 from wisangub.room.__main__ import PARTS
 from wisangub.room.fleet import Sign
-from wisangub.room.store import database, users
+from wisangub.room.store import database
 from wisangub.room.store.commands import Command
 from wisangub.room.store.database import Database, Failed, Taken
 from wisangub.room.store.lines import Line, News
@@ -84,7 +84,9 @@ def test_a_name_that_is_no_database_s_makes_none(
     if database.is_url(where):
         assert not database.connected(where).has_table("migrations")
     monkeypatch.setattr(sys, "argv", ["users", "--database", where, "--create", "list"])
-    assert users.main() == 0 and database.opened(where, may_create=False).has_table("signs")
+    assert importlib.import_module(PARTS["users"]).main() == 0 and database.opened(where, may_create=False).has_table(
+        "signs"
+    )
 
 
 def test_what_is_no_database_is_refused(tmp_path: pathlib.Path) -> None:

@@ -1,6 +1,7 @@
 """Logging in and out: cookies, tokens, limits, and what ends a log-in."""
 
 import pathlib
+import re
 
 import pytest
 
@@ -9,7 +10,8 @@ from . import needs
 needs.modules("aiohttp", "jinja2")
 
 from wisangub.refusal import Refusal
-from wisangub.room.store import logins, passwords, users
+from wisangub.room import users as program
+from wisangub.room.store import database, logins, passwords, users
 from wisangub.room.store.users import Role
 from wisangub.room.web.sign_in import local
 
@@ -77,36 +79,136 @@ def test_a_form_without_its_token_logs_nobody_in(tmp_path: pathlib.Path) -> None
     run(tmp_path, str(tmp_path / "database"), act)
 
 
-def test_log_ins_that_fail_are_counted(tmp_path: pathlib.Path, where: str) -> None:
+def later(bench: Bench, seconds: float) -> None:
+    """Log-ins that failed are so much longer ago."""
+    bench.store.database.run("UPDATE failed_logins SET at = at - ?", seconds)
+
+
+def audit(bench: Bench, who: str) -> list[str]:
+    rows = bench.store.database.run("SELECT what FROM audit WHERE who = ? ORDER BY id", who)
+    return [re.sub(r" [0-9]+ failed", " N failed", str(row[0])) for row in rows]
+
+
+def test_who_fails_to_log_in_waits_longer_and_longer(tmp_path: pathlib.Path, where: str) -> None:
     async def act(bench: Bench, visitor: Visitors) -> None:
         one = visitor()
-        for _ in range(logins.MOST_OF_BOTH):
+        for _ in range(logins.FREE):
             assert (await one.log_in("reader", "wrong"))[0] == 403
-        assert (await one.log_in("reader"))[0] == 429, "the right password is no way around"
-        assert (await one.log_in("operator"))[0] == 303, "another user may"
-        lines = [str(row[0]) for row in bench.store.database.run("SELECT what FROM audit WHERE who = 'reader'")]
-        assert lines == ["a log-in failed, from 127.0.0.1"] * logins.MOST_OF_BOTH
-        for number in range(logins.MOST_OF_ADDRESS - logins.MOST_OF_BOTH):
-            assert (await one.log_in(f"nobody{number}", "my secret"))[0] == 403
-        assert (await one.log_in("administrator"))[0] == 429, "so many from one address"
-        held = str(bench.store.database.run("SELECT * FROM failed_logins")) + str(
-            bench.store.database.run("SELECT * FROM audit")
+        for _ in range(2):
+            assert (await one.log_in("reader"))[0] == 429, "the right password is no way around"
+        assert (await one.log_in("operator"))[0] == 303, "another user does not wait"
+        failed, refused = (
+            "a log-in failed, from 127.0.0.1",
+            "a log-in is refused for a while, since N failed, from 127.0.0.1",
         )
-        assert "nobody1" not in held and "my secret" not in held
+        assert audit(bench, "reader") == [failed] * logins.FREE + [refused], "a refusal is noted once"
+        later(bench, logins.wait_after(logins.FREE))
+        assert (await one.log_in("reader", "wrong"))[0] == 403
+        later(bench, logins.wait_after(logins.FREE))
+        assert (await one.log_in("reader"))[0] == 429, "it takes longer now"
+        later(bench, logins.wait_after(logins.FREE + 1))
+        assert (await one.log_in("reader"))[0] == 303
+        assert audit(bench, "reader")[-4:-1] == [refused, failed, refused]
+        held = [str(bench.store.database.run(f"SELECT * FROM {table}")) for table in ("failed_logins", "audit")]
+        for _ in range(logins.FREE + 1):
+            await one.log_in("nobody1", "my secret")
+        held += [str(bench.store.database.run(f"SELECT * FROM {table}")) for table in ("failed_logins", "audit")]
+        assert "nobody1" not in str(held) and "my secret" not in str(held)
+        assert audit(bench, logins.NOBODY) == [refused]
 
     run(tmp_path, where, act)
+
+
+def test_nobody_waits_for_what_others_fail(where: str) -> None:
+    held = database.opened(where)
+    for _ in range(40):
+        logins.attempt(held, "reader", "192.0.2.1")
+        later_by = logins.wait_after(40)
+        held.run("UPDATE failed_logins SET at = at - ?", later_by)
+    held.run("UPDATE failed_logins SET at = {clock}")
+    assert 290 < logins.attempt(held, "reader", "192.0.2.1") <= 300, "and no longer than five minutes"
+    assert logins.attempt(held, "reader", "192.0.2.2") == 0 == logins.attempt(held, "operator", "192.0.2.1")
+
+
+def test_an_administrator_lets_somebody_in_from_the_machine(
+    where: str, monkeypatch: pytest.MonkeyPatch, capsys: pytest.CaptureFixture[str]
+) -> None:
+    held = database.opened(where)
+    monkeypatch.setattr(passwords, "COST", 2**4)
+    users.add(held, "ann", Role.ADMINISTRATOR, PASSWORD, "a test")
+    while not logins.attempt(held, "ann", "192.0.2.1"):
+        pass
+    monkeypatch.setattr("sys.argv", ["users", "--database", where, "unlock", "ann"])
+    assert program.main() == 0 and logins.attempt(held, "ann", "192.0.2.1") == 0
+    assert held.run("SELECT what FROM audit ORDER BY id DESC LIMIT 1") == [
+        ("failed log-ins of user ann are forgotten",)
+    ]
+    monkeypatch.setattr("sys.argv", ["users", "--database", where, "unlock", "eve"])
+    with pytest.raises(Refusal, match="there is no user eve"):
+        program.main()
 
 
 def test_a_success_forgets_what_failed(tmp_path: pathlib.Path) -> None:
     async def act(bench: Bench, visitor: Visitors) -> None:
         one = visitor()
         for _ in range(3):
-            for _ in range(logins.MOST_OF_BOTH - 1):
+            for _ in range(logins.FREE - 1):
                 await one.log_in("reader", "wrong")
             assert (await one.log_in("reader"))[0] == 303
             assert (await one.post("/logout", {}))[2] == "/login"
 
     run(tmp_path, str(tmp_path / "database"), act)
+
+
+def test_guesses_at_the_present_password_wait_too(tmp_path: pathlib.Path, where: str) -> None:
+    async def act(bench: Bench, visitor: Visitors) -> None:
+        one = await bench.logged_in(visitor, "operator")
+        wrong = {"old": "a guess of mine", "new": "another password", "again": "another password"}
+        for status in [403] * logins.FREE + [429]:
+            assert (await one.post("/account", wrong))[0] == status
+        assert (await one.post("/account", {**wrong, "old": PASSWORD}))[0] == 429
+        guess = "a wrong present password was given, from 127.0.0.1"
+        assert audit(bench, "operator")[1 : 1 + logins.FREE] == [guess] * logins.FREE
+        later(bench, logins.wait_after(logins.FREE))
+        assert (await one.post("/account", {**wrong, "old": PASSWORD}))[::2] == (303, "/login")
+
+    run(tmp_path, where, act)
+
+
+def test_refusals_are_in_the_audit(tmp_path: pathlib.Path, where: str) -> None:
+    async def act(bench: Bench, visitor: Visitors) -> None:
+        one = await bench.logged_in(visitor, "reader")
+        assert (await one.get("/users"))[0] == 403
+        assert (await one.answered("/account", {"old": "x"})).status == 403
+        assert audit(bench, "reader")[1:] == [
+            "was refused GET /users, since it is for administrators, from 127.0.0.1",
+            "was refused POST /account, since it came from no page of this service, from 127.0.0.1",
+        ]
+
+    run(tmp_path, where, act)
+
+
+@pytest.mark.parametrize(
+    "kind", ("application/x-www-form-urlencoded", "multipart/form-data", "application/json", "text/plain")
+)
+def test_a_body_that_spells_nothing_is_a_bad_request(tmp_path: pathlib.Path, where: str, kind: str) -> None:
+    async def act(bench: Bench, visitor: Visitors) -> None:
+        one = await bench.logged_in(visitor, "operator")
+        bodies = [
+            b"name=%00",
+            b"\xff\xfe\x00=\x00",
+            b'{"text": ',
+            b"--x\r\nContent-Disposition: none\r\n\r\n",
+            b"[" * 60000,
+        ]
+        for path in ("/login", "/send", "/compose", "/look", "/account", "/nowhere"):
+            for body in bodies:
+                found = await one.answered(path, body, {"Content-Type": f"{kind}; boundary=x; charset=utf-8"})
+                assert found.status == 400 or kind.endswith("urlencoded") and found.status in (403, 404), (path, body)
+            odd = {"Content-Type": "application/x-www-form-urlencoded; charset=none-such"}
+            assert (await one.answered(path, b"name=x", odd)).status == 400
+
+    run(tmp_path, where, act)
 
 
 def test_what_ends_a_log_in(tmp_path: pathlib.Path, where: str) -> None:
@@ -149,11 +251,11 @@ def test_users_from_the_command_line(
     tmp_path: pathlib.Path, monkeypatch: pytest.MonkeyPatch, capsys: pytest.CaptureFixture[str]
 ) -> None:
     monkeypatch.setattr(passwords, "COST", 2**4)
-    monkeypatch.setattr(users, "asked_password", lambda: "a long password")
+    monkeypatch.setattr(program, "asked_password", lambda: "a long password")
 
     def call(*words: str) -> int:
         monkeypatch.setattr("sys.argv", ["users", "--database", str(tmp_path / "database"), *words])
-        return users.main()
+        return program.main()
 
     assert call("--create", "add", "ann", "administrator") == 0 and call("add", "bob", "reader") == 0
     assert call("role", "bob", "operator") == 0 and call("disable", "bob") == 0 and call("list") == 0

@@ -157,7 +157,7 @@ def test_a_file_that_is_damaged_is_a_word(tmp_path: pathlib.Path, name: str) -> 
     fleet.write_text(f'[[sign]]\nname = "one"\naddress = "127.0.0.1:1161"\ndescription = "{TOP}/signs/roadside.sign"\n')
     where.write_bytes(DAMAGES[name](octets))
     words = [
-        ("wisangub.room.store.users", "list"),
+        ("wisangub.room.users", "list"),
         ("wisangub.room.command", "--wait", "1", "one", BLANK),
         ("wisangub.room.signs", "list"),
     ]

@@ -7,7 +7,7 @@ from wisangub import commands
 PARTS = {
     "worker": "wisangub.room.worker.program",
     "command": "wisangub.room.command",
-    "users": "wisangub.room.store.users",
+    "users": "wisangub.room.users",
     "signs": "wisangub.room.signs",
     "backup": "wisangub.room.store.backup",
     "demo": "wisangub.room.demo",

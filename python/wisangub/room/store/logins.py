@@ -1,17 +1,20 @@
-"""Log-ins in the database: how many may fail, which stand, and when they end."""
+"""Log-ins in the database: how long one waits after those that failed, which stand, and when they end."""
 
 import hashlib
 import secrets
 from dataclasses import dataclass
 
+from wisangub.refusal import Refusal
+
 from .audit import note
 from .connection import Database
 from .users import Role
-from .values import SLACK, whole
+from .values import SLACK, time_of, whole
 
 LASTS = 12 * 3600  # seconds of a log-in: a shift
-WINDOW = 300  # seconds in which failed log-ins are counted
-MOST_OF_BOTH, MOST_OF_ADDRESS, _MOST_OF_NAME = 5, 30, 50
+FREE = 3  # log-ins that may fail before the next one has to wait
+_FIRST_WAIT, _MOST_WAIT = 2.0, 300.0  # seconds, doubled by each further one that fails
+NOBODY = "-"  # in the audit, of a name that is no user's
 _KEPT = 86_400  # seconds that a failed log-in is kept
 
 
@@ -37,40 +40,69 @@ def _hidden(word: str) -> str:
     return hashlib.sha256(word.encode()).hexdigest()
 
 
-def attempt(database: Database, name: str, address: str) -> int | None:
-    """The number of an attempt, which counts as failed until it is taken back; None where there were too many. Each is
-    counted before its password is looked at, so that many at once are no way around."""
-    since = "at > {clock} - ?"
-    counts = (
-        ("name = ? AND address = ?", (_hidden(name), address), MOST_OF_BOTH),
-        ("address = ?", (address,), MOST_OF_ADDRESS),
-        ("name = ?", (_hidden(name),), _MOST_OF_NAME),
-    )
+def wait_after(failed: int) -> float:
+    """Seconds from a failed log-in to the next one that is looked at, after so many that failed: of one name from one
+    address, so that nobody else waits for them."""
+    return 0.0 if failed < FREE else min(_MOST_WAIT, _FIRST_WAIT * 2.0 ** min(failed - FREE, 16))
+
+
+def attempt(database: Database, name: str, address: str) -> float:
+    """Seconds to wait before a password is looked at; 0 where it may be, and then the attempt counts as failed until a
+    log-in begins. Each is counted before its password is looked at, so that many at once are no way around. The first
+    refusal after one that failed stands in the audit."""
+    who = (_hidden(name), address)
     with database.transaction(is_alone=True):
         database.run(
             "DELETE FROM failed_logins WHERE at < {clock} - ? OR at > {clock} + ?", _KEPT, SLACK
         )  # the clock jumped
-        for where, values, most in counts:
-            found = database.run(f"SELECT count(*) FROM failed_logins WHERE {where} AND {since}", *values, WINDOW)
-            if whole(found[0][0]) >= most:
-                return None
         rows = database.run(
-            "INSERT INTO failed_logins (at, name, address) VALUES ({clock}, ?, ?) RETURNING id", _hidden(name), address
+            "SELECT count(*), max(at), max(id), {clock} FROM failed_logins WHERE name = ? AND address = ?", *who
         )
-        return whole(rows[0][0])
+        failed, last, newest, now = rows[0]
+        left = 0.0 if last is None else time_of(last) + wait_after(whole(failed)) - time_of(now)
+        if left > 0:
+            _refuse(database, name, whole(newest), f"{whole(failed)} failed, from {address}")
+            return left
+        database.run("INSERT INTO failed_logins (at, name, address) VALUES ({clock}, ?, ?)", *who)
+        return 0.0
 
 
-def failed(database: Database, name: str, address: str) -> None:
-    """The audit of a log-in with a wrong password; a name that is nobody's may be a password, and is not kept."""
-    if database.run("SELECT name FROM users WHERE name = ?", name):
-        note(database, name, f"a log-in failed, from {address}")
+def _refuse(database: Database, name: str, newest: int, words: str) -> None:
+    """The audit of a refusal; a name that is nobody's may be a password, and is not kept."""
+    if database.run("UPDATE failed_logins SET refused = 1 WHERE id = ? AND refused = 0 RETURNING id", newest):
+        note(database, name if _is_user(database, name) else NOBODY, f"a log-in is refused for a while, since {words}")
+
+
+def _is_user(database: Database, name: str) -> bool:
+    return bool(database.run("SELECT name FROM users WHERE name = ?", name))
+
+
+def failed(database: Database, name: str, address: str, what: str = "a log-in failed") -> None:
+    """The audit of a wrong password, where the name is somebody's."""
+    if _is_user(database, name):
+        note(database, name, f"{what}, from {address}")
+
+
+def forgive(database: Database, name: str, address: str | None = None) -> None:
+    """Forgets the failed log-ins of a name, from one address or from all."""
+    where, values = ("", []) if address is None else (" AND address = ?", [address])
+    database.run(f"DELETE FROM failed_logins WHERE name = ?{where}", _hidden(name), *values)
+
+
+def unlock(database: Database, name: str, who: str) -> None:
+    """Has nobody wait any more who logs in under this name; it stands in the audit."""
+    with database.transaction():
+        if not _is_user(database, name):
+            raise Refusal(f"there is no user {name}")
+        forgive(database, name)
+        note(database, who, f"failed log-ins of user {name} are forgotten")
 
 
 def begin(database: Database, name: str, address: str) -> str:
     """A log-in: what its cookie says. The user's failed ones from this address are forgotten."""
     made = secrets.token_urlsafe(24)
     with database.transaction():
-        database.run("DELETE FROM failed_logins WHERE name = ? AND address = ?", _hidden(name), address)
+        forgive(database, name, address)
         database.run(
             "INSERT INTO logins (id, name, address, begun) VALUES (?, ?, ?, {clock})", _hidden(made), name, address
         )

@@ -1,24 +1,10 @@
-"""Who may do what: wisangub-control users --database WHERE  add NAME ROLE | role NAME ROLE | ..
+"""The table of users: who may do what."""
 
-    add NAME ROLE       a user: reader, operator or administrator; the password is asked for, or a line of the input
-    password NAME       another password
-    role NAME ROLE      another role
-    disable NAME        may no more log in; enable NAME undoes it
-    list                the users
-
-A change ends what the user is logged in with, and stands in the audit.
-"""
-
-import argparse
 import enum
-import getpass
 import re
-import sys
 from dataclasses import dataclass
 
-from wisangub.refusal import Refusal, status_of
-from wisangub.room import options
-from wisangub.room.output import print_line
+from wisangub.refusal import Refusal
 
 from . import passwords
 from .audit import note
@@ -111,53 +97,3 @@ def disable(database: Database, name: str, is_disabled: bool, who: str) -> None:
     _change(
         database, name, "disabled", int(is_disabled), who, f"user {name} is {'disabled' if is_disabled else 'enabled'}"
     )
-
-
-def asked_password() -> str:
-    """Twice from the terminal, or the line of standard input."""
-    if not sys.stdin.isatty():
-        return sys.stdin.readline().rstrip("\r\n")
-    first = getpass.getpass("Password: ")
-    if getpass.getpass("Again: ") != first:
-        raise Refusal("these are two passwords")
-    return first
-
-
-def _arguments() -> argparse.ArgumentParser:
-    parser = options.command_options(__doc__, "wisangub-control users")
-    options.add_database(parser, may_create=True)
-    calls = parser.add_subparsers(dest="call", required=True, metavar="CALL")
-    for name, wanted in (("add", 2), ("password", 1), ("role", 2), ("disable", 1), ("enable", 1), ("list", 0)):
-        call = calls.add_parser(name)
-        if wanted:
-            call.add_argument("name", metavar="NAME")
-        if wanted == 2:
-            call.add_argument("role", metavar="ROLE")
-    return parser
-
-
-def _done(asked: argparse.Namespace, database: Database) -> None:
-    """Does what was asked for."""
-    who = f"{getpass.getuser()} at the machine"
-    if asked.call == "list":
-        for user in users(database):
-            print_line(f"{user.name} {user.role.word}{' disabled' if user.is_disabled else ''}")
-    elif asked.call == "add":
-        add(database, asked.name, Role.of(asked.role), asked_password(), who)
-    elif asked.call == "password":
-        change_password(database, asked.name, asked_password(), who)
-    elif asked.call == "role":
-        change_role(database, asked.name, Role.of(asked.role), who)
-    else:
-        disable(database, asked.name, asked.call == "disable", who)
-
-
-def main() -> int:
-    asked = _arguments().parse_args()
-    with options.over("wisangub.room.store.users", asked.database, asked.create) as held:
-        _done(asked, held)
-    return 0
-
-
-if __name__ == "__main__":
-    sys.exit(status_of(main))

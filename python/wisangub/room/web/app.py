@@ -12,12 +12,14 @@ from aiohttp import web
 
 from wisangub.room.output import LOG
 from wisangub.room.store import logins
+from wisangub.room.store.audit import note
 from wisangub.room.store.database import Failed, Taken
+from wisangub.room.store.logins import Visitor
 from wisangub.room.store.users import Role
 
 from . import bodies, compose, log_pages, people, picture_pages, record_pages, send, sign_in, sign_pages, wall
 from .events import Hub, events
-from .security import prepare
+from .security import address_of, prepare
 from .service import HERE, SERVICE, Service, service_of
 
 _Handler = Callable[[web.Request], Awaitable[web.StreamResponse]]
@@ -129,10 +131,21 @@ async def _guard(request: web.Request, handler: _Handler) -> web.StreamResponse:
         raise web.HTTPSeeOther(sign_in.address(request))
     request["visitor"] = visitor
     if visitor.role < role:
+        await _note_refusal(request, visitor, f"it is for {role.word}s")
         raise web.HTTPForbidden(text=f"This is for {role.word}s: you are logged in as a {visitor.role.word}.")
     if request.method != "GET" and not await service.seal.is_own(request, visitor.login):
+        await _note_refusal(request, visitor, "it came from no page of this service")
         raise web.HTTPForbidden(text="This request did not come from a page of this service, so nothing was done.")
     return await handler(request)
+
+
+async def _note_refusal(request: web.Request, visitor: Visitor, why: str) -> None:
+    """The audit of what somebody may not."""
+    service = service_of(request)
+    of = address_of(request, service.settings.is_behind_tls)
+    route = request.match_info.route.resource
+    what = f"was refused {request.method} {route.canonical if route else '-'}, since {why}, from {of}"
+    await service.connections.run(lambda database: note(database, visitor.name, what))
 
 
 async def _hub_running(app: web.Application) -> AsyncIterator[None]:

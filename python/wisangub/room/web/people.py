@@ -1,15 +1,14 @@
 """Users, their roles and passwords."""
 
-import asyncio
-
 from aiohttp import web
 
 from wisangub.refusal import Refusal
-from wisangub.room.store import users
+from wisangub.room.store import logins, users
 from wisangub.room.store.database import Database
 from wisangub.room.store.users import Role
 
 from . import sign_in
+from .security import address_of
 from .service import service_of, visitor_of
 
 
@@ -63,9 +62,14 @@ async def own_password(request: web.Request) -> web.StreamResponse:
     service, visitor = service_of(request), visitor_of(request)
     fields = await request.post()
     old, new, again = (str(fields.get(key, "")) for key in ("old", "new", "again"))
-    await asyncio.sleep(0.5)  # a guess takes time
+    of = address_of(request, service.settings.is_behind_tls)
+    if seconds := await sign_in.to_wait(service, visitor.name, of):
+        return _account_page(request, f"Nothing was changed: please try again in {seconds} s.", 429)
     if not await sign_in.is_right(service, visitor.name, old):
+        what = "a wrong present password was given"
+        await service.connections.run(lambda database: logins.failed(database, visitor.name, of, what))
         return _account_page(request, "Nothing was changed: the present password is another one.", 403)
+    await service.connections.run(lambda database: logins.forgive(database, visitor.name, of))
     if new != again:
         return _account_page(request, "Nothing was changed: the two new passwords differ.", 422)
     try:

@@ -1,6 +1,7 @@
 """Logging in and out."""
 
 import asyncio
+import math
 import secrets
 from urllib.parse import quote
 
@@ -49,6 +50,11 @@ async def is_right(service: Service, name: str, password: str) -> bool:
     return found and kept is not None
 
 
+async def to_wait(service: Service, name: str, address: str) -> int:
+    """Seconds before this name's password is looked at again; 0 where it may be now, and the attempt counts."""
+    return math.ceil(await service.connections.run(lambda database: logins.attempt(database, name, address)))
+
+
 async def log_in(request: web.Request) -> web.StreamResponse:
     service = service_of(request)
     fields = await request.post()
@@ -60,9 +66,9 @@ async def log_in(request: web.Request) -> web.StreamResponse:
             request, then, "This form was open for too long, or cookies are off. Please try again.", 403, name
         )
     of = address_of(request, service.settings.is_behind_tls)
-    if await service.connections.run(lambda database: logins.attempt(database, name, of)) is None:
-        answer = _shown(request, then, "Too many log-ins failed. Please try again in five minutes.", 429, name)
-        answer.headers["Retry-After"] = str(logins.WINDOW)
+    if seconds := await to_wait(service, name, of):
+        answer = _shown(request, then, f"Too many log-ins failed. Please try again in {seconds} s.", 429, name)
+        answer.headers["Retry-After"] = str(seconds)
         return answer
     if not await is_right(service, name, password):
         await service.connections.run(lambda database: logins.failed(database, name, of))

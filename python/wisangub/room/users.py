@@ -1,0 +1,82 @@
+"""Who may do what: wisangub-control users --database WHERE  add NAME ROLE | role NAME ROLE | ..
+
+    add NAME ROLE       a user: reader, operator or administrator; the password is asked for, or a line of the input
+    password NAME       another password
+    role NAME ROLE      another role
+    disable NAME        may no more log in; enable NAME undoes it
+    unlock NAME         failed log-ins are forgotten, so that nobody waits any more who logs in as NAME
+    list                the users
+
+A change ends what the user is logged in with, and stands in the audit.
+"""
+
+import argparse
+import getpass
+import sys
+
+from wisangub.refusal import Refusal, status_of
+
+from . import options
+from .output import print_line
+from .store import logins, users
+from .store.database import Database
+
+
+def asked_password() -> str:
+    """Twice from the terminal, or the line of standard input."""
+    if not sys.stdin.isatty():
+        return sys.stdin.readline().rstrip("\r\n")
+    first = getpass.getpass("Password: ")
+    if getpass.getpass("Again: ") != first:
+        raise Refusal("these are two passwords")
+    return first
+
+
+def _arguments() -> argparse.ArgumentParser:
+    parser = options.command_options(__doc__, "wisangub-control users")
+    options.add_database(parser, may_create=True)
+    calls = parser.add_subparsers(dest="call", required=True, metavar="CALL")
+    for name, wanted in (
+        ("add", 2),
+        ("password", 1),
+        ("role", 2),
+        ("disable", 1),
+        ("enable", 1),
+        ("unlock", 1),
+        ("list", 0),
+    ):
+        call = calls.add_parser(name)
+        if wanted:
+            call.add_argument("name", metavar="NAME")
+        if wanted == 2:
+            call.add_argument("role", metavar="ROLE")
+    return parser
+
+
+def _done(asked: argparse.Namespace, database: Database) -> None:
+    """Does what was asked for."""
+    who = f"{getpass.getuser()} at the machine"
+    if asked.call == "list":
+        for user in users.users(database):
+            print_line(f"{user.name} {user.role.word}{' disabled' if user.is_disabled else ''}")
+    elif asked.call == "add":
+        users.add(database, asked.name, users.Role.of(asked.role), asked_password(), who)
+    elif asked.call == "unlock":
+        logins.unlock(database, asked.name, who)
+    elif asked.call == "password":
+        users.change_password(database, asked.name, asked_password(), who)
+    elif asked.call == "role":
+        users.change_role(database, asked.name, users.Role.of(asked.role), who)
+    else:
+        users.disable(database, asked.name, asked.call == "disable", who)
+
+
+def main() -> int:
+    asked = _arguments().parse_args()
+    with options.over("wisangub.room.users", asked.database, asked.create) as held:
+        _done(asked, held)
+    return 0
+
+
+if __name__ == "__main__":
+    sys.exit(status_of(main))
