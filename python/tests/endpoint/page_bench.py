@@ -128,6 +128,10 @@ class Bench:
         held: Said = json.loads(self.asked("GET", "/state", {})[1])
         return held
 
+    def facts(self) -> dict[str, str]:
+        """What the page says of what is shown."""
+        return {name: value for name, value in self.state()["shown"]["facts"]}
+
     def shows(self, part: str, words: str) -> None:
         """Waits until a part of the page says this."""
         until(lambda: words in json.dumps(self.state()[part]), f"{part} says {words!r}")

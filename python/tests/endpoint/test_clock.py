@@ -35,6 +35,14 @@ def test_the_lines_of_the_time_without_a_process() -> None:
         assert down(LAST, now, overruled) == lines, name
 
 
+def test_a_sign_whose_power_was_off_has_it_again() -> None:
+    for name, now, overruled, lines in ROWS:
+        found = down(LAST, now, overruled, has_power=False)
+        assert found[-1].startswith(b"power-back ") and (lines[:1] != [b"power-lost"] or found == lines), name
+    assert down(LAST, Moment("one", THEN + 10, 510), None, has_power=False) == [b"power-back 10"]
+    assert down(LAST, Moment("one", THEN, 1_000_500), None, has_power=False) == [b"power-back 1000000"]
+
+
 def test_a_moment_is_read_as_it_is_written() -> None:
     assert Moment.of(LAST.start() + b" #00000000", LAST.clock() + b" #00000000\n") == LAST
     assert LAST.later(3) == Moment("one", THEN + 3, 503)

@@ -38,7 +38,7 @@ def test_events_come_after_a_set(one: Bench) -> None:
         number = events(held)[0]["lamps"]["number"]
         while not any(part.get("lamps", {}).get("number", number) > number for part in events(held)):
             held += browser.recv(1 << 16)
-    facts = {name: value for name, value in one.state()["shown"]["facts"]}
+    facts = one.facts()
     assert facts["Mode"] == "central (8)" and facts["Left"] == "without end"
     assert facts["Message"].startswith("changeable 1, checksum ")
 

@@ -26,7 +26,7 @@ def lines_of(path: pathlib.Path) -> list[bytes]:
 
 
 def mode(one: Bench) -> str:
-    return str({name: value for name, value in one.state()["shown"]["facts"]}["Mode"])
+    return one.facts()["Mode"]
 
 
 def test_the_power_goes_and_comes_by_the_journal(tmp_path: pathlib.Path) -> None:

@@ -5,7 +5,6 @@ from dataclasses import dataclass, replace
 from typing import TYPE_CHECKING
 
 from wisangub.endpoint.clock import running
-from wisangub.endpoint.sorts import Sort, sort_of
 from wisangub.endpoint.watching import Watcher
 from wisangub.process.coprocess import CoProcess
 
@@ -95,20 +94,17 @@ class Board(Watcher):
         return self.presses.loses_request()
 
     def left_out(self, heard: "Heard", why: str) -> None:
-        self.exchanges.add(time.time(), heard, None, why)
+        self.exchanges.add(time.time(), heard, b"", why)
 
     def answered(self, heard: "Heard", answer: bytes) -> bool:
         word, _, rest = answer.partition(b" ")
         if word not in (b"reply", b"accepted"):
-            self.exchanges.add(time.time(), heard, None, "not answered")
+            self.exchanges.add(time.time(), heard, b"", "not answered")
             return False
         is_lost = self.presses.loses_reply()
-        reply = bytes.fromhex(rest.rpartition(b" ")[2].decode("ascii"))
-        self.exchanges.add(time.time(), heard, reply, "its reply was lost" if is_lost else "")
-        self.is_heard = True
+        self.exchanges.add(time.time(), heard, rest.rpartition(b" ")[2], "its reply was lost" if is_lost else "")
+        self.is_heard = self.is_wanted = True
         self.is_shown_anew = self.is_shown_anew or word == b"accepted"
-        if not self.is_wanted and sort_of(heard[0], *self.who) is Sort.CHANGING:
-            self.is_wanted = self.is_due = True
         return is_lost
 
     def before_seconds(self) -> None:

@@ -2,7 +2,7 @@
 
 import collections
 import threading
-from dataclasses import dataclass
+from typing import NamedTuple
 
 from wisangub.endpoint.sign_door import Heard
 from wisangub.endpoint.sockets import named
@@ -13,14 +13,13 @@ MOST = 50
 Said = dict[str, object]
 
 
-@dataclass(frozen=True)
-class Exchange:
-    """A datagram, the reply that the sign made if it made one, and what became of both in words."""
+class Exchange(NamedTuple):
+    """A datagram, the digits of the reply that the sign made or nothing, and what became of both in words."""
 
     number: int
     time: float
     heard: Heard
-    reply: bytes | None
+    reply: bytes
     fate: str
 
 
@@ -35,7 +34,7 @@ class Exchanges:
         self.count = 0
         self.lock, self.said = threading.Lock(), dict[int, Said]()
 
-    def add(self, time: float, heard: Heard, reply: bytes | None, fate: str) -> None:
+    def add(self, time: float, heard: Heard, reply: bytes, fate: str) -> None:
         """One more, in the door's thread."""
         self.count += 1
         self.held.append(Exchange(self.count, time, heard, reply, fate))
@@ -65,7 +64,7 @@ class Exchanges:
             "octets": len(octets),
             "fate": one.fate,
             "request": self.fields(octets),
-            "reply": None if one.reply is None else self.fields(one.reply),
+            "reply": self.fields(bytes.fromhex(one.reply.decode("ascii"))) if one.reply else None,
         }
 
     def fields(self, octets: bytes) -> Said:

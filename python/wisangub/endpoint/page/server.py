@@ -3,6 +3,7 @@ they read what the door's thread left for them, and hand it presses."""
 
 import http.server
 import pathlib
+import socket
 import socketserver
 import sys
 import threading
@@ -25,6 +26,7 @@ SVG, PLAIN, JSON = "image/svg+xml", "text/plain; charset=utf-8", "application/js
 FILES = {"/page.css": "text/css; charset=utf-8", "/page.js": "text/javascript; charset=utf-8", "/page.svg": SVG}
 MOST_AT_ONCE = 40  # requests; a page that listens is one
 MOST_BODY = 100  # octets of what is posted
+ROOM = 1 << 16  # octets that wait for a browser that listens
 LOOK = 0.25  # seconds from one look at what has changed to the next
 SILENCE = 10.0  # seconds after which a browser that listens is told that the page is there
 PATIENCE = 30.0  # seconds that a browser may take to ask, or to take what it is sent
@@ -128,6 +130,7 @@ class Handler(http.server.BaseHTTPRequestHandler):
     def events(self) -> None:
         """What changes, as it changes. A browser that takes nothing holds its own thread, and is let go in the end;
         what it missed is not kept for it."""
+        self.connection.setsockopt(socket.SOL_SOCKET, socket.SO_SNDBUF, ROOM)
         self.send_response(HTTPStatus.OK)
         self.send_header("Content-Type", "text/event-stream")
         self.end_headers()
@@ -160,7 +163,7 @@ class Handler(http.server.BaseHTTPRequestHandler):
     def body(self) -> bytes | None:
         """What is posted; None where that is more than a button needs."""
         size = self.headers.get("Content-Length", "0")
-        is_small = size.isascii() and size.isdigit() and int(size) <= MOST_BODY
+        is_small = size.isascii() and size.isdigit() and len(size) <= len(str(MOST_BODY)) and int(size) <= MOST_BODY
         return self.rfile.read(int(size)) if is_small else None
 
 
