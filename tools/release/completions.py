@@ -11,8 +11,8 @@ import re
 import subprocess
 import sys
 
-FILES = {"FILE", "PATH", "DESCRIPTION"}
-TEMPLATE = """# bash completion of {name}, made from its --help
+_FILES = {"FILE", "PATH", "DESCRIPTION"}
+_TEMPLATE = """# bash completion of {name}, made from its --help
 _{function}() {{
     local word=${{COMP_WORDS[COMP_CWORD]}} before=${{COMP_WORDS[COMP_CWORD - 1]}} part=${{COMP_WORDS[1]}}
     case $before in
@@ -30,11 +30,11 @@ complete -o filenames -F _{function} {name}
 
 def help_of(words: list[str]) -> str:
     """What the command prints for --help, on whichever output."""
-    ended = subprocess.run([*words, "--help"], capture_output=True, text=True, timeout=30, check=False)
+    ended = subprocess.run([*words, "--help"], capture_output=True, text=True, timeout=300, check=False)
     return ended.stdout + ended.stderr
 
 
-def subcommands(text: str) -> list[str]:
+def _subcommands(text: str) -> list[str]:
     """The subcommands that a help lists under `Commands:`."""
     listed = re.search(r"(?m)^Commands:\n((?:[ ]{2,}.*\n)+)", text)
     return [word for word in re.findall(r"(?m)^ {2}([a-z]+)", listed[1]) if word != "help"] if listed else []
@@ -47,20 +47,20 @@ def options(text: str) -> list[str]:
     return sorted(set(re.findall(r"(?<![\w-])--[a-z][a-z-]*", text)))
 
 
-def file_options(text: str) -> set[str]:
+def _file_options(text: str) -> set[str]:
     """The options that a file's name follows."""
-    return {option for option, value in re.findall(r"(--[a-z][a-z-]*)[ =]<?([A-Z_]+)>?", text) if value in FILES}
+    return {option for option, value in re.findall(r"(--[a-z][a-z-]*)[ =]<?([A-Z_]+)>?", text) if value in _FILES}
 
 
-def completion(name: str, program: list[str], parts: list[str]) -> str:
+def _completion(name: str, program: list[str], parts: list[str]) -> str:
     """The functions of bash for one command."""
     whole = help_of(program)
-    parts = parts or subcommands(whole)
+    parts = parts or _subcommands(whole)
     texts = {part: help_of([*program, part]) for part in parts}
     cases = [f'        {part}) words="{" ".join(options(text))}" ;;' for part, text in texts.items()]
     cases.append(f'        *) words="{" ".join([*parts, *options(whole)])}" ;;')
-    files = sorted(set().union(*(file_options(text) for text in [whole, *texts.values()]))) or ["--no-files"]
-    return TEMPLATE.format(name=name, function=name.replace("-", "_"), files=" | ".join(files), cases="\n".join(cases))
+    files = sorted(set().union(*(_file_options(text) for text in [whole, *texts.values()]))) or ["--no-files"]
+    return _TEMPLATE.format(name=name, function=name.replace("-", "_"), files=" | ".join(files), cases="\n".join(cases))
 
 
 def main() -> int:
@@ -71,7 +71,7 @@ def main() -> int:
     words.add_argument("parts", nargs="*", metavar="WORD")
     asked = words.parse_args()
     asked.folder.mkdir(parents=True, exist_ok=True)
-    text = completion(asked.name, [asked.program], asked.parts)
+    text = _completion(asked.name, [asked.program], asked.parts)
     (asked.folder / asked.name).write_text(text, encoding="utf-8")
     return 0
 
