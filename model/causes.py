@@ -7,7 +7,7 @@ from .description import Row
 
 Cause = tuple[int, str]
 NO_END = "the text ends before its line `end`"
-FAULTS = {
+_FAULTS = {
     3: "unsupported tag",
     4: "unsupported tag value",
     5: "text too big",
@@ -20,7 +20,7 @@ FAULTS = {
 
 
 @dataclass
-class Parts:
+class _Parts:
     """What a description has, line by line."""
 
     head: list[list[bytes]]
@@ -52,10 +52,10 @@ def of_script(octets: bytes) -> Cause | None:
     found, at = (None, 1) if kept and kept[0][1] == b"bench" else first(kept, after)
     if found is not None:
         return found
-    return next(((number, why) for number, line in kept[at:] if (why := of_event(line)) is not None), None)
+    return next(((number, why) for number, line in kept[at:] if (why := _of_event(line)) is not None), None)
 
 
-def of_event(line: bytes) -> str | None:
+def _of_event(line: bytes) -> str | None:
     """Why a line is no event."""
     word = line.split(b" ")[0]
     if word not in forms.EVENTS:
@@ -66,18 +66,18 @@ def of_event(line: bytes) -> str | None:
 def first(kept: list[tuple[int, bytes]], after: int) -> tuple[Cause | None, int]:
     """Why the first lines describe no sign, and how many lines were read; no other line is looked at than those up to
     the first at fault."""
-    parts = Parts([], [], [])
+    parts = _Parts([], [], [])
     for at, (number, line) in enumerate(kept):
         if line == b"end" and at >= len(forms.HEAD):
-            why = of_sign(parts)
+            why = _of_sign(parts)
             return (None if why is None else (number, why)), at + 1
-        why = of_head(parts, at, line) if at < len(forms.HEAD) else of_body(parts, line)
+        why = _of_head(parts, at, line) if at < len(forms.HEAD) else _of_body(parts, line)
         if why is not None:
             return (number, why), at
     return (after, NO_END), len(kept)
 
 
-def of_head(parts: Parts, at: int, line: bytes) -> str | None:
+def _of_head(parts: _Parts, at: int, line: bytes) -> str | None:
     """Takes one of the first lines."""
     why = forms.fault(forms.HEAD[at], line)
     if why is None:
@@ -85,11 +85,11 @@ def of_head(parts: Parts, at: int, line: bytes) -> str | None:
     return why
 
 
-def of_body(parts: Parts, line: bytes) -> str | None:
+def _of_body(parts: _Parts, line: bytes) -> str | None:
     """Takes a line of a row, a font or a character."""
     words = line.split(b" ")
     if words[0] == b"permanent":
-        return "a permanent row stands before all fonts" if parts.fonts else of_row(parts, line)
+        return "a permanent row stands before all fonts" if parts.fonts else _of_row(parts, line)
     if words[0] == b"font":
         why = forms.fault(forms.FONT, line)
         if why is None:
@@ -97,13 +97,13 @@ def of_body(parts: Parts, line: bytes) -> str | None:
             parts.fonts.append(layout.Font(number, height, space, leading, int(words[9], 16)))
         return why
     if words[0] == b"glyph":
-        return of_glyph(parts.fonts[-1], line) if parts.fonts else "a character stands after its font"
+        return _of_glyph(parts.fonts[-1], line) if parts.fonts else "a character stands after its font"
     if words[0] == b"end":
         return forms.fault(forms.END, line)
     return "a row, a font, a character or `end` is wanted"
 
 
-def of_row(parts: Parts, line: bytes) -> str | None:
+def _of_row(parts: _Parts, line: bytes) -> str | None:
     why = forms.fault(forms.PERMANENT, line)
     if why is None:
         _, shown, owner, *numbers = line.split(b" ")
@@ -111,7 +111,7 @@ def of_row(parts: Parts, line: bytes) -> str | None:
     return why
 
 
-def of_glyph(font: layout.Font, line: bytes) -> str | None:
+def _of_glyph(font: layout.Font, line: bytes) -> str | None:
     """Takes a character of a font. Bits that are no octets are the picture's fault where the other words are well."""
     words = line.split(b" ")
     if len(words) != 4 or b"" in words or forms.fault(forms.GLYPH[:3], b" ".join(words[:3])) is not None:
@@ -128,11 +128,11 @@ def of_glyph(font: layout.Font, line: bytes) -> str | None:
     return None
 
 
-def of_sign(parts: Parts) -> str | None:
+def _of_sign(parts: _Parts) -> str | None:
     """Why these parts are no sign: the first that a face, the communities or the table is refused for."""
     size, communities, rows, _, services, defaults, _ = parts.head
     face = layout.Face(int(size[0]), int(size[1]), parts.fonts, tuple(map(int, defaults)))
-    why = of_matrix(face) or of_fonts(face) or of_defaults(face) or of_communities(*communities)
+    why = _of_matrix(face) or _of_fonts(face) or _of_defaults(face) or _of_communities(*communities)
     if why is not None:
         return why
     for count, most, kind in ((len(parts.rows), 16, "permanent"), (int(rows[0]), 64, "changeable")):
@@ -141,13 +141,13 @@ def of_sign(parts: Parts) -> str | None:
     if int(rows[1]) > 16:
         return "there are more than 16 volatile rows"
     for place, row in enumerate(parts.rows, 1):
-        why = of_permanent(face, services, row)
+        why = _of_permanent(face, services, row)
         if why is not None:
             return f"permanent row {place}: {why}"
     return None
 
 
-def of_matrix(face: layout.Face) -> str | None:
+def _of_matrix(face: layout.Face) -> str | None:
     if not 1 <= face.width <= 256:
         return "the matrix is wider than 256" if face.width else "the matrix has no columns"
     if not 1 <= face.height <= 64:
@@ -155,7 +155,7 @@ def of_matrix(face: layout.Face) -> str | None:
     return None
 
 
-def of_fonts(face: layout.Face) -> str | None:
+def _of_fonts(face: layout.Face) -> str | None:
     numbers = [font.number for font in face.fonts]
     if not 1 <= len(numbers) <= 4:
         return "there are more than four fonts" if numbers else "there is no font"
@@ -163,7 +163,7 @@ def of_fonts(face: layout.Face) -> str | None:
     return f"two fonts have the number {twice[0]}" if twice else None
 
 
-def of_defaults(face: layout.Face) -> str | None:
+def _of_defaults(face: layout.Face) -> str | None:
     back, colour, _, _, font, line, page, _, _ = face.defaults
     if back > 9:
         return f"the default background {back} is no colour"
@@ -176,14 +176,14 @@ def of_defaults(face: layout.Face) -> str | None:
     return None if face.font(font) else f"the default font {font} is none of the face's"
 
 
-def of_communities(reader: bytes, writer: bytes) -> str | None:
+def _of_communities(reader: bytes, writer: bytes) -> str | None:
     for name, community in (("first", reader), ("second", writer)):
         if not 1 <= len(community) <= 32:
             return f"the {name} community has not 1 to 32 octets"
     return "both communities are the same" if reader == writer else None
 
 
-def of_permanent(face: layout.Face, services: list[bytes], row: Row) -> str | None:
+def _of_permanent(face: layout.Face, services: list[bytes], row: Row) -> str | None:
     """Why a permanent row cannot stand."""
     if len(row.text) > 512:
         return "its text is longer than 512 octets"
@@ -198,4 +198,4 @@ def of_permanent(face: layout.Face, services: list[bytes], row: Row) -> str | No
         if value and not int(service):
             return f"the sign has no {name}"
     fault = layout.laid_out(face, face.defaults, row.text)[1]
-    return f"its text: {FAULTS[fault[0]]} at octet {fault[1]}" if fault else None
+    return f"its text: {_FAULTS[fault[0]]} at octet {fault[1]}" if fault else None

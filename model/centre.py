@@ -7,30 +7,30 @@ from . import wire
 from .codes import BLANK, CHANGEABLE, VOLATILE, Activation, MessageId, checksum
 from .objects import DMS
 
-BUSY, NO_NUMBER, BAD_COMMAND = "a job is not done yet", "no request number is left", "a value is out of its range: "
-ODD, OTHER_CHECKSUM, STILL_VALIDATING, NO_REPLY, RESTARTED = (
+_BUSY, _NO_NUMBER, _BAD_COMMAND = "a job is not done yet", "no request number is left", "a value is out of its range: "
+_ODD, _OTHER_CHECKSUM, _STILL_VALIDATING, _NO_REPLY, _RESTARTED = (
     "the reply does not answer what was asked",
     "the row has another checksum",
     "the row is still being validated",
     "no reply",
     "the central system was restarted",
 )
-LAST_NUMBER = 2_147_483_647
-POLLS, SENDS, PATIENCE = 10, 3, 3
-Publication = tuple[int, int, bytes, bytes, int, int, int]  # memory, number, text, owner, beacon, pixel, priority
+_LAST_NUMBER = 2_147_483_647
+POLLS, _SENDS, PATIENCE = 10, 3, 3
+_Publication = tuple[int, int, bytes, bytes, int, int, int]  # memory, number, text, owner, beacon, pixel, priority
 
 
 @dataclass
-class Job:
+class _Job:
     step: int
     code: Activation
-    publication: Publication | None = None
+    publication: _Publication | None = None
     polls: int = 0
     due: bool = False  # the step's request goes out at the next tick
 
 
 @dataclass
-class Waiting:
+class _Waiting:
     """The request that waits for its reply."""
 
     number: int
@@ -43,8 +43,8 @@ class Waiting:
 class Centre:
     def __init__(self, community: bytes, swapped: bool, first: int) -> None:
         self.community, self.swapped, self.next = community, swapped, first
-        self.job: Job | None = None
-        self.waiting: Waiting | None = None
+        self.job: _Job | None = None
+        self.waiting: _Waiting | None = None
         self.ledger: list[tuple[int, Activation, str]] = []  # number, code, outcome
         self.last: str | None = None  # how the last job ended, in words
         self.refusal: str | None = None  # why the last command was refused, in words
@@ -52,26 +52,26 @@ class Centre:
     def command(self, event: tuple[str, Any]) -> bytes | None:
         """What goes out for a command; a refused one changes nothing."""
         kind, held = event
-        self.refusal = BUSY if self.job is not None else NO_NUMBER if self.next > LAST_NUMBER else None
+        self.refusal = _BUSY if self.job is not None else _NO_NUMBER if self.next > _LAST_NUMBER else None
         if self.refusal is not None:
             return None
-        if bad := bad_value(kind, held):
-            self.refusal = BAD_COMMAND + bad
+        if bad := _bad_value(kind, held):
+            self.refusal = _BAD_COMMAND + bad
             return None
         self.job = job = asked(kind, held)
         return self.send(job)
 
-    def send(self, job: Job) -> bytes | None:
+    def send(self, job: _Job) -> bytes | None:
         """The request of the job's step, under a new number."""
-        if self.next > LAST_NUMBER:
-            return self.fail(job, NO_NUMBER)
+        if self.next > _LAST_NUMBER:
+            return self.fail(job, _NO_NUMBER)
         kind, bindings = request(job, self.swapped)
         number, self.next = self.next, self.next + 1
         if job.step == 7:
             self.ledger.append((number, job.code, "waiting"))
         job.due = False
         octets = wire.written(wire.Message(kind, self.community, number, 0, 0, bindings))
-        self.waiting = Waiting(number, octets, bindings[0][0])
+        self.waiting = _Waiting(number, octets, bindings[0][0])
         return octets
 
     def end(self, how: str) -> bytes | None:
@@ -80,7 +80,7 @@ class Centre:
         self.job = self.waiting = None
         return None
 
-    def fail(self, job: Job, why: str, step: int | None = None) -> bytes | None:
+    def fail(self, job: _Job, why: str, step: int | None = None) -> bytes | None:
         return self.end(f"failed at step {step or job.step}: {why}")
 
     def enter(self, number: int, outcome: str) -> None:
@@ -97,7 +97,7 @@ class Centre:
         self.waiting = None
         return self.replied(self.job, message, waiting)
 
-    def replied(self, job: Job, message: wire.Message, waiting: Waiting) -> bytes | None:
+    def replied(self, job: _Job, message: wire.Message, waiting: _Waiting) -> bytes | None:
         """What goes out with the reply that was waited for."""
         if job.step == 7:
             return self.decided(job, message)
@@ -107,10 +107,10 @@ class Centre:
             job.step += 1
             return self.send(job)
         if len(message.bindings) != 1:
-            return self.fail(job, ODD)
+            return self.fail(job, _ODD)
         name, (tag, held) = message.bindings[0]
         if name != waiting.name or tag != wire.INTEGER:
-            return self.fail(job, ODD)
+            return self.fail(job, _ODD)
         if job.step == 8:
             return self.fail(job, f"the sign refused the activation for cause {held}", 7)
         if job.step == 2:
@@ -120,7 +120,7 @@ class Centre:
             return self.send(job)
         return self.polled(job, held) if job.step == 5 else self.summed(job, held)
 
-    def decided(self, job: Job, message: wire.Message) -> bytes | None:
+    def decided(self, job: _Job, message: wire.Message) -> bytes | None:
         """What goes out with the reply to an activation."""
         if message.status == wire.NO_ERROR:
             self.enter(message.number, "accepted")
@@ -129,7 +129,7 @@ class Centre:
         job.step = 8
         return self.send(job)
 
-    def polled(self, job: Job, status: int) -> bytes | None:
+    def polled(self, job: _Job, status: int) -> bytes | None:
         """What goes out with the status of a row that is being validated."""
         if status == 4:
             job.step = 6
@@ -138,17 +138,17 @@ class Centre:
         if status != 3:
             return self.fail(job, f"the row has status {status}")
         if job.polls == POLLS:
-            return self.fail(job, STILL_VALIDATING)
+            return self.fail(job, _STILL_VALIDATING)
         job.due = True
         return None
 
-    def summed(self, job: Job, held: int) -> bytes | None:
+    def summed(self, job: _Job, held: int) -> bytes | None:
         """What goes out with a row's checksum."""
         crc = job.code.id.crc
         if self.swapped:
             crc = int.from_bytes(crc.to_bytes(2, "little"), "big")
         if held != crc:
-            return self.fail(job, OTHER_CHECKSUM)
+            return self.fail(job, _OTHER_CHECKSUM)
         job.step, job.due = 7, True
         return None
 
@@ -163,21 +163,21 @@ class Centre:
         if waiting.age + 1 < PATIENCE:
             waiting.age += 1
             return None
-        if waiting.sends < SENDS:
+        if waiting.sends < _SENDS:
             waiting.age, waiting.sends = 0, waiting.sends + 1
             return waiting.octets
         if job.step == 7:
             self.enter(waiting.number, "noreply")
-        return self.fail(job, NO_REPLY)
+        return self.fail(job, _NO_REPLY)
 
     def restart(self) -> None:
         if self.job is not None:
             if self.waiting is not None and self.job.step == 7:
                 self.enter(self.waiting.number, "unknown")
-            self.fail(self.job, RESTARTED)
+            self.fail(self.job, _RESTARTED)
 
 
-def bad_value(kind: str, held: Any) -> str | None:
+def _bad_value(kind: str, held: Any) -> str | None:
     """The first value of a command that is out of its range, by its word in the form of the line."""
     if kind == "publish":
         memory, number, text, owner, beacon, pixel, run, *_ = held
@@ -194,19 +194,19 @@ def bad_value(kind: str, held: Any) -> str | None:
     return "NUMBER" if kind == "blank" and not 1 <= held[0] <= 255 else None
 
 
-def asked(kind: str, held: Any) -> Job:
+def asked(kind: str, held: Any) -> _Job:
     """The job of a command whose values are in their ranges."""
     if kind == "publish":
         memory, number, text, owner, beacon, pixel, run, minutes, priority, address = held
         code = Activation(minutes, priority, MessageId(memory, number, checksum(text, beacon, pixel)), address)
-        return Job(1, code, (memory, number, text, owner, beacon, pixel, run))
+        return _Job(1, code, (memory, number, text, owner, beacon, pixel, run))
     if kind == "blank":
         number, minutes, priority, address = held
-        return Job(7, Activation(minutes, priority, MessageId(BLANK, number, 0), address))
-    return Job(7, held)
+        return _Job(7, Activation(minutes, priority, MessageId(BLANK, number, 0), address))
+    return _Job(7, held)
 
 
-def request(job: Job, swapped: bool) -> tuple[int, list[wire.Binding]]:
+def request(job: _Job, swapped: bool) -> tuple[int, list[wire.Binding]]:
     """The kind and the bindings of a step's request."""
     if job.step == 7:
         return wire.SET, [(DMS + (6, 3, 0), (wire.OCTETS, job.code.octets(swapped)))]

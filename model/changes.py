@@ -12,7 +12,7 @@ from .showing import Showing
 from .state import CENTRAL, END_DURATION, NONE, State
 
 Change = tuple[str, Any, Any]  # the kind of what is written, where it goes, and what it is
-Commanded = tuple[int, Change]  # the binding that commands, and what
+_Commanded = tuple[int, Change]  # the binding that commands, and what
 Answer = tuple[int, int, Activation | None]  # the error-status, the index, and the activation that was accepted
 
 
@@ -83,7 +83,7 @@ class Changes:
     def set(self, message: wire.Message) -> Answer:
         """Writes what the bindings ask for: all of it, or nothing."""
         changes: list[Change] = []
-        command: Commanded | None = None
+        command: _Commanded | None = None
         for at, (name, value) in enumerate(message.bindings, 1):
             try:
                 change = self.change(name, value, message.community == self.state.writer)
@@ -114,7 +114,7 @@ class Changes:
             elif kind == "own":
                 self.state.own[what] = held
 
-    def carry_out(self, command: Commanded | None, before: State) -> Answer:
+    def carry_out(self, command: _Commanded | None, before: State) -> Answer:
         """Does what is commanded; where that is refused, the sign is as before."""
         if command is None:
             return wire.NO_ERROR, 0, None

@@ -13,15 +13,15 @@ import sys
 from . import layout, text
 from .centre import Centre
 
-MOST_LINE = 65_536
+_MOST_LINE = 65_536
 
 
-def without_newline(line: bytes) -> bytes:
+def _without_newline(line: bytes) -> bytes:
     """A line without its newline, and without a carriage return before that."""
     return line[:-1].removesuffix(b"\r") if line.endswith(b"\n") else line
 
 
-def print_lines(*lines: str) -> None:
+def _print_lines(*lines: str) -> None:
     """Writes lines; where nobody reads them any more, that is the end."""
     try:
         os.write(1, "".join(line + "\n" for line in lines).encode())
@@ -29,7 +29,7 @@ def print_lines(*lines: str) -> None:
         os._exit(1)
 
 
-def sign_answer(world: text.World, words: list[bytes]) -> list[str]:
+def _sign_answer(world: text.World, words: list[bytes]) -> list[str]:
     """The lines that answer a line to a sign."""
     keyword = words[0]
     if keyword == b"datagram":
@@ -66,7 +66,7 @@ def sign_answer(world: text.World, words: list[bytes]) -> list[str]:
     return ["ok"]
 
 
-def centre_answer(world: text.World, words: list[bytes]) -> list[str]:
+def _centre_answer(world: text.World, words: list[bytes]) -> list[str]:
     """The lines that answer a line to a centre."""
     centre, keyword = world.centre, words[0].decode("latin-1")
     if keyword in ("publish", "blank", "activate"):
@@ -103,27 +103,27 @@ def main() -> int:
         lines = []
         for line in sys.stdin.buffer:
             lines.append(line)
-            if without_newline(line) == b"end":
+            if _without_newline(line) == b"end":
                 break
         try:
             described = text.described(b"".join(lines))
         except text.Bad as bad:
-            print_lines(f"line {bad.line}")
+            _print_lines(f"line {bad.line}")
             return 1
         except text.TooLong:
-            print_lines("too long")
+            _print_lines("too long")
             return 1
     world = text.World(described)
     assert isinstance(world.centre, Centre)
-    answer = {"sign": sign_answer, "centre": centre_answer}[asked.end]
-    for line in map(without_newline, sys.stdin.buffer):
+    answer = {"sign": _sign_answer, "centre": _centre_answer}[asked.end]
+    for line in map(_without_newline, sys.stdin.buffer):
         try:
             parts = line.split(b" ")
-            if b"" in parts or len(line) > MOST_LINE:
+            if b"" in parts or len(line) > _MOST_LINE:
                 raise ValueError
-            print_lines(*answer(world, parts))
+            _print_lines(*answer(world, parts))
         except ValueError:
-            print_lines("bad line")
+            _print_lines("bad line")
     return 0
 
 

@@ -8,14 +8,14 @@ from . import text
 
 
 @dataclass(frozen=True)
-class Wanted:
+class _Wanted:
     """What a word is to be: in words, and whether one is."""
 
     words: str
     takes: Callable[[bytes], object]
 
 
-def is_read(read: Callable[[bytes], object]) -> Callable[[bytes], bool]:
+def _is_read(read: Callable[[bytes], object]) -> Callable[[bytes], bool]:
     """Whether a function reads a word."""
 
     def takes(word: bytes) -> bool:
@@ -28,56 +28,56 @@ def is_read(read: Callable[[bytes], object]) -> Callable[[bytes], bool]:
     return takes
 
 
-def word(known: str) -> Wanted:
+def word(known: str) -> _Wanted:
     """This word."""
-    return Wanted(f"the word {known}", lambda found: found == known.encode())
+    return _Wanted(f"the word {known}", lambda found: found == known.encode())
 
 
-def number(least: int, most: int, digits: int = 5) -> Wanted:
-    return Wanted(f"a number from {least} to {most}", is_read(lambda found: text.number(found, least, most, digits)))
+def number(least: int, most: int, digits: int = 5) -> _Wanted:
+    return _Wanted(f"a number from {least} to {most}", _is_read(lambda found: text.number(found, least, most, digits)))
 
 
-def octets(name: str) -> Wanted:
-    return Wanted(f"{name} in hexadecimal", is_read(text.octets))
+def octets(name: str) -> _Wanted:
+    return _Wanted(f"{name} in hexadecimal", _is_read(text.octets))
 
 
-def hexadecimal(name: str, digits: int) -> Wanted:
+def hexadecimal(name: str, digits: int) -> _Wanted:
     """Just so many digits."""
-    return Wanted(name, lambda found: re.fullmatch(rb"[0-9a-fA-F]{%d}" % digits, found))
+    return _Wanted(name, lambda found: re.fullmatch(rb"[0-9a-fA-F]{%d}" % digits, found))
 
 
-def any_word(name: str) -> Wanted:
-    return Wanted(name, lambda found: True)
+def _any_word(name: str) -> _Wanted:
+    return _Wanted(name, lambda found: True)
 
 
-SIZE, OCTET, LONG = number(0, 65535), number(0, 255), number(0, 2**32 - 1, 10)
-SWITCH = number(0, 1)
-ORDER = Wanted("high or swapped", lambda found: found in (b"high", b"swapped"))
-ADDRESS = Wanted("an address, as 192.0.2.1,", is_read(text.address))
-CODE = hexadecimal("a code of 24 hexadecimal digits", 24)
+_SIZE, _OCTET, LONG = number(0, 65535), number(0, 255), number(0, 2**32 - 1, 10)
+_SWITCH = number(0, 1)
+_ORDER = _Wanted("high or swapped", lambda found: found in (b"high", b"swapped"))
+ADDRESS = _Wanted("an address, as 192.0.2.1,", _is_read(text.address))
+_CODE = hexadecimal("a code of 24 hexadecimal digits", 24)
 VERSION = hexadecimal("a version of four hexadecimal digits", 4)
-TEXT, OWNER, PICTURE, DATAGRAM = map(octets, ("a text", "an owner", "a picture", "a datagram"))
+TEXT, OWNER, _PICTURE, _DATAGRAM = map(octets, ("a text", "an owner", "a picture", "a datagram"))
 
 HEAD = (
-    [word("size"), SIZE, SIZE],
-    [word("communities"), any_word("the first community"), any_word("the second community")],
-    [word("rows"), OCTET, OCTET],
-    [word("order"), ORDER],
-    [word("has"), SWITCH, SWITCH],
-    [word("defaults"), *[OCTET] * 9],
+    [word("size"), _SIZE, _SIZE],
+    [word("communities"), _any_word("the first community"), _any_word("the second community")],
+    [word("rows"), _OCTET, _OCTET],
+    [word("order"), _ORDER],
+    [word("has"), _SWITCH, _SWITCH],
+    [word("defaults"), *[_OCTET] * 9],
     [word("first"), LONG],
 )
-PERMANENT = [word("permanent"), TEXT, OWNER, OCTET, OCTET, OCTET]
+PERMANENT = [word("permanent"), TEXT, OWNER, _OCTET, _OCTET, _OCTET]
 FONT = [
     *(word("font"), number(1, 255), word("height"), number(1, 32), word("space"), number(0, 32)),
     *(word("line"), number(0, 32), word("version"), VERSION),
 ]
-GLYPH = [word("glyph"), number(1, 65535), number(1, 32), PICTURE]
+GLYPH = [word("glyph"), number(1, 65535), number(1, 32), _PICTURE]
 END = [word("end")]
-EVENTS: dict[bytes, list[Wanted]] = {
-    b"publish": [OCTET, SIZE, TEXT, OWNER, OCTET, OCTET, OCTET, SIZE, OCTET, ADDRESS],
-    b"blank": [SIZE, SIZE, OCTET, ADDRESS],
-    b"activate": [CODE],
+EVENTS: dict[bytes, list[_Wanted]] = {
+    b"publish": [_OCTET, _SIZE, TEXT, OWNER, _OCTET, _OCTET, _OCTET, _SIZE, _OCTET, ADDRESS],
+    b"blank": [_SIZE, _SIZE, _OCTET, ADDRESS],
+    b"activate": [_CODE],
     b"sign-tick": [],
     b"centre-tick": [],
     b"to-sign": [LONG],
@@ -85,12 +85,12 @@ EVENTS: dict[bytes, list[Wanted]] = {
     b"power-lost": [],
     b"power-back": [LONG],
     b"centre-restart": [],
-    b"forge-sign": [DATAGRAM],
-    b"forge-centre": [DATAGRAM],
+    b"forge-sign": [_DATAGRAM],
+    b"forge-centre": [_DATAGRAM],
 }
 
 
-def fault(form: list[Wanted], line: bytes) -> str | None:
+def fault(form: list[_Wanted], line: bytes) -> str | None:
     """What is wrong with the first word of a line that is not what its form wants."""
     found = line.split(b" ")
     for place, wanted in enumerate(form):

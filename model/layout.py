@@ -9,13 +9,13 @@ from dataclasses import dataclass, field
 from . import multi
 from .multi import Fault, Item
 
-LEFT, CENTRE, RIGHT = TOP, MIDDLE, BOTTOM = 2, 3, 4
-VALUE, TOO_BIG, NO_FONT, NO_CHARACTER, CONFLICT, PAGES, VERSION = 4, 5, 6, 7, 11, 12, 13
+_LEFT, _CENTRE, _RIGHT = TOP, _MIDDLE, _BOTTOM = 2, 3, 4
+_VALUE, TOO_BIG, NO_FONT, _NO_CHARACTER, _CONFLICT, PAGES, VERSION = 4, 5, 6, 7, 11, 12, 13
 MOST_TEXT, MOST_PAGES = 512, 6
 
 Glyph = tuple[int, list[list[bool]]]  # the width, and the rows
 Flash = tuple[str, int, int]  # what it begins with, and the tenths of a second that it is lit and dark
-Cell = tuple[int, Flash | None]  # the colour
+_Cell = tuple[int, Flash | None]  # the colour
 
 
 @dataclass
@@ -46,7 +46,7 @@ class Face:
 
 
 @dataclass
-class Character:
+class _Character:
     font: Font
     glyph: Glyph
     colour: int
@@ -57,7 +57,7 @@ class Character:
 @dataclass
 class Line:
     gap: int | None  # the value of the tag that opened it; None: the average of the spacings
-    characters: list[Character] = field(default_factory=list)
+    characters: list[_Character] = field(default_factory=list)
     closed_font: Font | None = None  # the font current at the closing of a line
 
     def counts(self) -> object:
@@ -69,15 +69,15 @@ class Line:
     def spacing(self) -> int:
         return max((c.font.line for c in self.characters), default=self.closed_font.line if self.closed_font else 0)
 
-    def parts(self) -> dict[int, list[Character]]:
-        return {part: [c for c in self.characters if c.part == part] for part in (LEFT, CENTRE, RIGHT)}
+    def parts(self) -> dict[int, list[_Character]]:
+        return {part: [c for c in self.characters if c.part == part] for part in (_LEFT, _CENTRE, _RIGHT)}
 
 
 def average(first: int, second: int) -> int:
     return (first + second + 1) // 2
 
 
-def line_width(characters: list[Character]) -> int:
+def line_width(characters: list[_Character]) -> int:
     width = sum(c.glyph[0] for c in characters)
     return width + sum(average(a.font.space, b.font.space) for a, b in zip(characters, characters[1:]))
 
@@ -88,7 +88,7 @@ def gap_above(lines: list[Line], at: int) -> int:
     return line.gap if line.gap is not None else average(lines[at - 1].spacing(), line.spacing())
 
 
-def part_height(lines: list[Line]) -> int:
+def _part_height(lines: list[Line]) -> int:
     height = 0
     for at, line in enumerate(lines):
         if line.counts():
@@ -96,7 +96,7 @@ def part_height(lines: list[Line]) -> int:
     return height
 
 
-def begin(part: int, room: int, size: int) -> int:
+def _begin(part: int, room: int, size: int) -> int:
     """Where something of this size begins in a room, by its part: first, middle or last."""
     return {2: 0, 3: (room - size) // 2, 4: room - size}[part]
 
@@ -105,13 +105,13 @@ def spans_fit(sizes: dict[int, int], room: int) -> bool:
     """Whether parts of these sizes, 0 where a part is empty, lie in the room and do not overlap."""
     if any(size > room for size in sizes.values()):
         return False
-    spans = [(begin(part, room, size), begin(part, room, size) + size) for part, size in sizes.items() if size]
+    spans = [(_begin(part, room, size), _begin(part, room, size) + size) for part, size in sizes.items() if size]
     return all(a[1] <= b[0] or b[1] <= a[0] for at, a in enumerate(spans) for b in spans[at + 1 :])
 
 
 class Page:
     def __init__(self, part: int, back: int, on: int, off: int) -> None:
-        self.parts: dict[int, list[Line]] = {TOP: [], MIDDLE: [], BOTTOM: []}
+        self.parts: dict[int, list[Line]] = {TOP: [], _MIDDLE: [], _BOTTOM: []}
         self.part = part
         self.parts[part].append(Line(0))
         self.back, self.on, self.off = back, on, off
@@ -126,7 +126,7 @@ class Page:
             self.parts[self.part] = []
 
     def fits(self, face: Face) -> bool:
-        heights = {part: part_height(lines) for part, lines in self.parts.items()}
+        heights = {part: _part_height(lines) for part, lines in self.parts.items()}
         if not spans_fit(heights, face.height):
             return False
         lines = [line for lines in self.parts.values() for line in lines]
@@ -135,7 +135,7 @@ class Page:
         )
 
 
-class Layout:
+class _Layout:
     """A text that is laid out item by item, under the defaults handed in. `take` answers the code of a fault, or
     None."""
 
@@ -153,8 +153,8 @@ class Layout:
         if kind == "character":
             glyph = self.font.glyphs.get(item[1])
             if glyph is None:
-                return NO_CHARACTER
-            page.open_line().characters.append(Character(self.font, glyph, self.colour, self.flash, self.side))
+                return _NO_CHARACTER
+            page.open_line().characters.append(_Character(self.font, glyph, self.colour, self.flash, self.side))
             return None if page.fits(self.face) else TOO_BIG
         if kind == "font":
             number = self.defaults[4] if item[1] is None else item[1]
@@ -167,7 +167,7 @@ class Layout:
         elif kind == "line":
             side = self.defaults[5] if item[1] is None else item[1]
             if any(side < c.part for c in page.open_line().characters):
-                return CONFLICT
+                return _CONFLICT
             self.side = side
         elif kind == "page":
             return self.new_part(self.defaults[6] if item[1] is None else item[1])
@@ -205,7 +205,7 @@ class Layout:
             return None
         page.close_part(self.font)
         if any(lines and part <= other for other, lines in page.parts.items()):
-            return CONFLICT
+            return _CONFLICT
         fits = page.fits(self.face)
         self.part = page.part = part
         page.parts[part].append(Line(0))
@@ -231,7 +231,7 @@ def laid_out(face: Face, defaults: Sequence[int], text: bytes) -> tuple[list[Pag
     """The pages of a text, or its fault (code, offset)."""
     if len(text) > MOST_TEXT:
         return None, (TOO_BIG, MOST_TEXT)
-    layout = Layout(face, defaults)
+    layout = _Layout(face, defaults)
     found, fault = multi.items(text)
     for item, at in found:
         code = layout.take(item)
@@ -245,17 +245,17 @@ def laid_out(face: Face, defaults: Sequence[int], text: bytes) -> tuple[list[Pag
     return layout.pages, None
 
 
-def cells(face: Face, page: Page) -> list[list[Cell | None]]:
+def cells(face: Face, page: Page) -> list[list[_Cell | None]]:
     """The page's cells, a list of rows: (colour, flash) where a cell is lit, else None."""
-    lit: list[list[Cell | None]] = [[None] * face.width for _ in range(face.height)]
+    lit: list[list[_Cell | None]] = [[None] * face.width for _ in range(face.height)]
     for part, lines in page.parts.items():
-        top = begin(part, face.height, part_height(lines)) if lines else 0
+        top = _begin(part, face.height, _part_height(lines)) if lines else 0
         for at, line in enumerate(lines):
             if not line.counts():
                 continue
             top += gap_above(lines, at) if at else 0
             for side, characters in line.parts().items():
-                left = begin(side, face.width, line_width(characters)) if characters else 0
+                left = _begin(side, face.width, line_width(characters)) if characters else 0
                 for index, character in enumerate(characters):
                     if index:
                         left += average(characters[index - 1].font.space, character.font.space)

@@ -23,7 +23,7 @@ def hexadecimal(text: str, fewest: int) -> int | None:
     return None
 
 
-def times(text: str, letters: str) -> list[int | None] | None:
+def _times(text: str, letters: str) -> list[int | None] | None:
     """The times after each of the letters in this order: a time, or None, for each letter that is there."""
     found = []
     for at, letter in enumerate(letters):
@@ -78,7 +78,7 @@ def tag(body: bytes) -> Item | None:
         if not rest:
             return ("flash", "lit", None, None)
         for begins, order in (("lit", "to"), ("dark", "ot")):
-            found = times(rest, order)
+            found = _times(rest, order)
             if found is not None:
                 first, second = (*found, None)[:2]
                 return ("flash", begins, *((first, second) if begins == "lit" else (second, first)))
@@ -121,10 +121,10 @@ def shown(number: int | None) -> str:
 
 def canonical(found: Iterable[Item]) -> bytes:
     """The canonical text of items."""
-    return b"".join(map(canonical_item, found))
+    return b"".join(map(_canonical_item, found))
 
 
-def canonical_item(item: Item) -> bytes:
+def _canonical_item(item: Item) -> bytes:
     body: str | None
     kind = item[0]
     if kind == "character":

@@ -11,9 +11,9 @@ from .codes import Activation
 from .description import Description, Row, is_refused
 from .sign import Sign
 
-MOST_INPUT = 1_048_576
+_MOST_INPUT = 1_048_576
 Read = TypeVar("Read")
-Event = tuple[str, Any]  # the kind of event, and what it says
+_Event = tuple[str, Any]  # the kind of event, and what it says
 BENCH = (pathlib.Path(__file__).resolve().parents[1] / "signs/bench.sign").read_bytes()
 
 
@@ -29,10 +29,10 @@ class TooLong(Exception):
     """An input of more than 1,048,576 octets."""
 
 
-def lines_of(text: bytes) -> "Lines":
-    if len(text) > MOST_INPUT:
+def _lines_of(text: bytes) -> "_Lines":
+    if len(text) > _MOST_INPUT:
         raise TooLong
-    return Lines(text)
+    return _Lines(text)
 
 
 def kept_lines(text: bytes) -> tuple[list[tuple[int, bytes]], int]:
@@ -78,14 +78,14 @@ def glyph(words: list[bytes], height: int) -> tuple[int, layout.Glyph]:
     return character, (width, [bits[row * width : (row + 1) * width] for row in range(height)])
 
 
-def new_glyph(words: list[bytes], font: layout.Font) -> tuple[int, layout.Glyph]:
+def _new_glyph(words: list[bytes], font: layout.Font) -> tuple[int, layout.Glyph]:
     character, picture = glyph([words[0], *wants(words, b"glyph", 3)], font.height)
     if character in font.glyphs or len(font.glyphs) == 255:
         raise ValueError
     return character, picture
 
 
-class Lines:
+class _Lines:
     def __init__(self, text: bytes) -> None:
         self.kept, self.after = kept_lines(text)
         self.at = 0
@@ -115,18 +115,18 @@ def wants(words: list[bytes], keyword: bytes, count: int) -> list[bytes]:
     return words[1:]
 
 
-def is_swapped(words: list[bytes]) -> bool:
+def _is_swapped(words: list[bytes]) -> bool:
     if words not in ([b"order", b"high"], [b"order", b"swapped"]):
         raise ValueError
     return words[1] == b"swapped"
 
 
-def permanent_row(words: list[bytes]) -> Row:
+def _permanent_row(words: list[bytes]) -> Row:
     shown, owner, *numbers = wants(words, b"permanent", 5)
     return Row(octets(shown), octets(owner), *[number(word, 0, 255) for word in numbers])
 
 
-def font_head(words: list[bytes]) -> layout.Font:
+def _font_head(words: list[bytes]) -> layout.Font:
     """A font without a character yet."""
     if len(words) != 10 or words[2::2] != [b"height", b"space", b"line", b"version"]:
         raise ValueError
@@ -136,31 +136,31 @@ def font_head(words: list[bytes]) -> layout.Font:
     return layout.Font(number(words[1], 1, 255), height, space, leading, int(words[9], 16))
 
 
-def font_of(lines: Lines) -> layout.Font:
+def _font_of(lines: _Lines) -> layout.Font:
     """The font of the next lines, with its characters."""
-    font = lines.next(font_head)
+    font = lines.next(_font_head)
     while lines.word() == b"glyph":
-        character, picture = lines.next(lambda words: new_glyph(words, font))
+        character, picture = lines.next(lambda words: _new_glyph(words, font))
         font.glyphs[character] = picture
     return font
 
 
-def description(lines: Lines) -> Description:
+def description(lines: _Lines) -> Description:
     """The sign that the next lines describe, up to `end`. Lines that no sign follows raise Bad."""
     width, height = lines.next(lambda w: (number(wants(w, b"size", 2)[0]), number(w[2])))
     reader, writer = lines.next(lambda w: wants(w, b"communities", 2))
     changeable, volatile = lines.next(lambda w: [number(x, 0, 255) for x in wants(w, b"rows", 2)])
 
-    swapped = lines.next(is_swapped)
+    swapped = lines.next(_is_swapped)
     beacons, pixels = lines.next(lambda w: [number(x, 0, 1) == 1 for x in wants(w, b"has", 2)])
     defaults = tuple(lines.next(lambda w: [number(x, 0, 255) for x in wants(w, b"defaults", 9)]))
     first = lines.next(lambda w: number(wants(w, b"first", 1)[0], 0, 2**32 - 1, 10))
     permanent = []
     while lines.word() == b"permanent":
-        permanent.append(lines.next(permanent_row))
+        permanent.append(lines.next(_permanent_row))
     fonts = []
     while lines.word() == b"font":
-        fonts.append(font_of(lines))
+        fonts.append(_font_of(lines))
     lines.next(lambda w: wants(w, b"end", 0))
     face = layout.Face(width, height, fonts, defaults)
     found = Description(face, reader, writer, swapped, beacons, pixels, permanent, changeable, volatile, first)
@@ -169,7 +169,7 @@ def description(lines: Lines) -> Description:
     return found
 
 
-def event(words: list[bytes], swapped: bool) -> Event:
+def event(words: list[bytes], swapped: bool) -> _Event:
     kind = words[0].decode("latin-1")
     if kind == "publish":
         memory, row, text, owner, beacon, pixel, run, minutes, priority, by = wants(words, b"publish", 10)
@@ -257,7 +257,7 @@ class World:
 
 def described(text: bytes) -> Description:
     """The sign that a text describes; raises Bad or TooLong."""
-    lines = lines_of(text)
+    lines = _lines_of(text)
     found = description(lines)
     if lines.word() is not None:
         raise Bad(lines.kept[lines.at][0])
@@ -265,12 +265,12 @@ def described(text: bytes) -> Description:
 
 
 def bench() -> Description:
-    return description(Lines(BENCH))
+    return description(_Lines(BENCH))
 
 
 def replayed(text: bytes) -> list[str]:
     """The report of a script; raises Bad or TooLong."""
-    lines = lines_of(text)
+    lines = _lines_of(text)
     if lines.word() == b"bench":
         lines.next(lambda w: wants(w, b"bench", 0))
         sign = bench()

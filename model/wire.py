@@ -43,13 +43,13 @@ class Message:
     bindings: list[Binding] = field(default_factory=list)
 
 
-class Reader:
+class _Reader:
     """The octets of a datagram from `at` on, up to the end of the element around them."""
 
     def __init__(self, octets: bytes, at: int, end: int) -> None:
         self.octets, self.at, self.end = octets, at, end
 
-    def element(self, tags: Collection[int], outermost: bool = False) -> tuple[int, "Reader"]:
+    def element(self, tags: Collection[int], outermost: bool = False) -> tuple[int, "_Reader"]:
         """The tag, the offset of the length and a reader of the content; the octets after it are next."""
         if self.at >= self.end:
             raise Fault("Truncated", self.end)
@@ -73,7 +73,7 @@ class Reader:
         if tag == NULL and size != 0 or tag == ADDRESS and size != 4:
             raise Fault("BadLength", length_at)
         self.at = after + size
-        return tag, Reader(self.octets, after, after + size)
+        return tag, _Reader(self.octets, after, after + size)
 
     def content(self) -> bytes:
         return self.octets[self.at : self.end]
@@ -122,7 +122,7 @@ def read(octets: bytes) -> Message:
     """The message that the octets spell; raises the first fault."""
     if len(octets) > MOST_DATAGRAM:
         raise Fault("TooLong", MOST_DATAGRAM)
-    datagram = Reader(octets, 0, len(octets))
+    datagram = _Reader(octets, 0, len(octets))
     _, message = datagram.element((SEQUENCE,), outermost=True)
     _, version = message.element((INTEGER,))
     if version.integer() != 0:
@@ -168,7 +168,7 @@ def integer(number: int, tag: int = INTEGER) -> bytes:
     return element(tag, number.to_bytes((number if number >= 0 else ~number).bit_length() // 8 + 1, "big", signed=True))
 
 
-def name_content(numbers: Name) -> bytes:
+def _name_content(numbers: Name) -> bytes:
     content = b""
     for number in (40 * numbers[0] + numbers[1], *numbers[2:]):
         digits = [number % 128]
@@ -180,7 +180,7 @@ def name_content(numbers: Name) -> bytes:
 
 
 def name(numbers: Name) -> bytes:
-    return element(NAME, name_content(numbers))
+    return element(NAME, _name_content(numbers))
 
 
 def value(tagged: Tagged) -> bytes:

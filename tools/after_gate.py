@@ -48,7 +48,7 @@ STEPS = (
 )
 
 
-def outcomes(steps: list[Step], program: str) -> list[Outcome]:
+def _outcomes(steps: list[Step], program: str) -> list[Outcome]:
     """Runs the steps, those that may take longest first, and says of each how it went once it has ended."""
     found = []
     for _, outcome in ended(steps, program, len(os.sched_getaffinity(0))):
@@ -77,7 +77,7 @@ def main() -> int:
     # what printed no counts did not come to its end
     found = [Outcome(int(counts[1]), int(counts[2])) if counts else Outcome(failed=1) for counts in before]
     if os.access(asked.program, os.X_OK):
-        found += outcomes(steps, os.path.abspath(asked.program))
+        found += _outcomes(steps, os.path.abspath(asked.program))
     else:
         found.append(Outcome(failed=1))
         print(f"there is no program at {asked.program}: `rt ci` leaves it there, and so does tools/build.py")

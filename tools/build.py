@@ -30,27 +30,27 @@ from building.running import Running
 from building.schedule import Schedule
 from tries.libraries import kit_program
 
-LINES_SHOWN = 40
+_LINES_SHOWN = 40
 
 
 def fault(failed: Running) -> int:
-    print(*failed.log.read_text(errors="replace").splitlines()[-LINES_SHOWN:], sep="\n", file=sys.stderr)
+    print(*failed.log.read_text(errors="replace").splitlines()[-_LINES_SHOWN:], sep="\n", file=sys.stderr)
     print(f"{failed.crate.name} failed: {failed.log}", file=sys.stderr)
     return 1
 
 
-def built(plan: Plan, processors: int) -> int:
+def _built(plan: Plan, processors: int) -> int:
     """Proves the program and what is below it, builds it, and returns the status."""
     with proofs(plan) as way:
         failed = Schedule(plan, {*plan.crates}, way.proved(), processors).run(way)
         if failed:
             return fault(failed)
         status = way.link(plan.built)
-        give_rt(Proofs(plan, way.kit, way.room))
+        _give_rt(Proofs(plan, way.kit, way.room))
         return status
 
 
-def give_rt(proofs: Proofs) -> None:
+def _give_rt(proofs: Proofs) -> None:
     """Has `rt check` in a crate begin over what is proved; a run without that has built the program all the same."""
     try:
         busy = give_all(kit_program(proofs.kit), proofs)
@@ -69,7 +69,7 @@ def main() -> int:
     asked = words.parse_args()
     signal.signal(signal.SIGTERM, lambda *_: sys.exit(143))
     plan = Plan()
-    status = built(plan, max(1, asked.processors))
+    status = _built(plan, max(1, asked.processors))
     if status == 0:
         print(f"the program is {plan.built}", file=sys.stderr, flush=True)
         if asked.words:

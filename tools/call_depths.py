@@ -27,7 +27,7 @@ TOP = pathlib.Path(__file__).resolve().parent.parent
 
 
 @dataclass
-class Found:
+class _Found:
     """Where each cycle was found, and what was looked at."""
 
     places: dict[Cycle, list[str]] = field(default_factory=dict)
@@ -47,7 +47,7 @@ class Found:
             self.passed += 1
 
 
-def look_at_code(found: Found, path: pathlib.Path, room: pathlib.Path) -> bool:
+def _look_at_code(found: _Found, path: pathlib.Path, room: pathlib.Path) -> bool:
     """Whether the calls of a program or of a library could be read."""
     missing = "objdump" if not shutil.which("objdump") else "" if path.exists() else str(path)
     if missing:
@@ -61,7 +61,7 @@ def look_at_code(found: Found, path: pathlib.Path, room: pathlib.Path) -> bool:
     return True
 
 
-def look_at_sources(found: Found) -> None:
+def _look_at_sources(found: _Found) -> None:
     crates = sorted(path.name for path in (TOP / "crates").iterdir() if (path / "src").is_dir())
     found.add(sources.measured(TOP), "proofs/")
     rt = shutil.which("rt")
@@ -73,7 +73,7 @@ def look_at_sources(found: Found) -> None:
         print("skipped the crates' libraries: none stands built here")
 
 
-def judge(found: Found, is_code_read: bool) -> None:
+def judge(found: _Found, is_code_read: bool) -> None:
     """Holds the cycles against the table, and the table against the sources."""
     own = tuple(f"{path.name}::" for path in (TOP / "crates").iterdir())
     for cycle, places in sorted(found.places.items()):
@@ -92,10 +92,10 @@ def main() -> int:
     words.add_argument("--program", type=pathlib.Path, default=TOP / "crates/signtool/out/signtool")
     words.add_argument("--library", type=pathlib.Path, default=TOP / "crates/wisangub_c/out/libwisangub_c.a")
     asked = words.parse_args()
-    found = Found()
+    found = _Found()
     with tempfile.TemporaryDirectory() as room:
-        read = [look_at_code(found, path, pathlib.Path(room)) for path in (asked.program, asked.library)]
-    look_at_sources(found)
+        read = [_look_at_code(found, path, pathlib.Path(room)) for path in (asked.program, asked.library)]
+    _look_at_sources(found)
     judge(found, read[0])
     print(f"{found.passed} passed, {found.failed} failed")
     return 1 if found.failed else 0

@@ -10,7 +10,7 @@ from collections.abc import Iterator
 TOP = pathlib.Path(__file__).resolve().parent.parent
 
 
-def believed(crate: pathlib.Path) -> list[str]:
+def _believed(crate: pathlib.Path) -> list[str]:
     """The files under the first comment of Lib.antt, which says that a reader must believe them."""
     files: list[str] = []
     for line in (crate / "specs" / "Lib.antt").read_text().splitlines():
@@ -30,7 +30,7 @@ def rows() -> Iterator[str]:
         crate = TOP / "crates" / name[0]
         if not (crate / "specs" / "Lib.antt").is_file():
             continue
-        files = believed(crate)
+        files = _believed(crate)
         if not files:
             continue
         lines = sum(len((crate / "specs" / f"{file}.antt").read_text().splitlines()) for file in files)

@@ -17,15 +17,15 @@ import pathlib
 import sys
 
 
-class Wrong(Exception):
+class _Wrong(Exception):
     """A drawing or a font that is not in order, with its line."""
 
 
-def drawn(text: str) -> tuple[str, list[tuple[int, list[str]]]]:
+def _drawn(text: str) -> tuple[str, list[tuple[int, list[str]]]]:
     """The font's line and the characters of a drawing: number and rows of each."""
     kept = [(number, line) for number, line in enumerate(text.splitlines(), 1) if line and not line.startswith("# ")]
     if not kept or not kept[0][1].startswith("font "):
-        raise Wrong("line 1: no line `font N height H ..`")
+        raise _Wrong("line 1: no line `font N height H ..`")
     head = kept[0][1]
     height = int(head.split()[3])
     characters, at = [], 1
@@ -34,21 +34,21 @@ def drawn(text: str) -> tuple[str, list[tuple[int, list[str]]]]:
         words = line.split(" ", 2)
         rows = [row for _, row in kept[at + 1 : at + 1 + height]]
         if words[0] != "character" or not words[1].isdigit():
-            raise Wrong(f"line {number}: no line `character NUMBER`")
+            raise _Wrong(f"line {number}: no line `character NUMBER`")
         if len(rows) != height or len({len(row) for row in rows}) != 1 or set("".join(rows)) - {".", "#"}:
-            raise Wrong(f"line {number}: not {height} rows of dots and hashes of one width")
+            raise _Wrong(f"line {number}: not {height} rows of dots and hashes of one width")
         if not 1 <= len(rows[0]) <= 32:
-            raise Wrong(f"line {number}: wider than 32, or nothing")
+            raise _Wrong(f"line {number}: wider than 32, or nothing")
         characters.append((int(words[1]), rows))
         at += 1 + height
     if len({number for number, _ in characters}) != len(characters):
-        raise Wrong("a character stands twice")
+        raise _Wrong("a character stands twice")
     return head, characters
 
 
-def lines_of(text: str) -> list[str]:
+def _lines_of(text: str) -> list[str]:
     """The lines of a font, from its drawing."""
-    head, characters = drawn(text)
+    head, characters = _drawn(text)
     lines = [head]
     for number, rows in characters:
         bits = "".join(rows).replace(".", "0").replace("#", "1")
@@ -57,7 +57,7 @@ def lines_of(text: str) -> list[str]:
     return lines
 
 
-def drawing_of(lines: list[str]) -> list[str]:
+def _drawing_of(lines: list[str]) -> list[str]:
     """The drawing of a font's lines."""
     kept = [line for line in lines if line and not line.startswith("#")]
     height = int(kept[0].split()[3])
@@ -71,13 +71,13 @@ def drawing_of(lines: list[str]) -> list[str]:
     return drawing
 
 
-def with_fonts(path: pathlib.Path) -> str:
+def _with_fonts(path: pathlib.Path) -> str:
     """A description with the lines of its drawings."""
     lines, skipping = [], False
     for line in path.read_text(encoding="ascii").splitlines():
         if line.startswith("# font "):
             lines.append(line)
-            lines += lines_of((path.parent / line.removeprefix("# font ")).read_text(encoding="ascii"))
+            lines += _lines_of((path.parent / line.removeprefix("# font ")).read_text(encoding="ascii"))
             skipping = True
         elif line == "end":
             skipping = False
@@ -88,12 +88,12 @@ def with_fonts(path: pathlib.Path) -> str:
 
 def check(path: pathlib.Path) -> bool:
     """Whether the description is what its drawings say, and each drawing comes back from its lines."""
-    well = path.read_text(encoding="ascii") == with_fonts(path)
+    well = path.read_text(encoding="ascii") == _with_fonts(path)
     for line in path.read_text(encoding="ascii").splitlines():
         if line.startswith("# font "):
             source = (path.parent / line.removeprefix("# font ")).read_text(encoding="ascii")
             kept = [row for row in source.splitlines() if row and not row.startswith("# ")]
-            well = well and drawing_of(lines_of(source)) == kept
+            well = well and _drawing_of(_lines_of(source)) == kept
     return well
 
 
@@ -109,15 +109,15 @@ def main(words: list[str]) -> int:
         path = pathlib.Path(word)
         try:
             if words[0] == "lines":
-                print("\n".join(lines_of(path.read_text(encoding="ascii"))))
+                print("\n".join(_lines_of(path.read_text(encoding="ascii"))))
             elif words[0] == "drawing":
-                print("\n".join(drawing_of(path.read_text(encoding="ascii").splitlines())))
+                print("\n".join(_drawing_of(path.read_text(encoding="ascii").splitlines())))
             elif words[0] == "write":
-                path.write_text(with_fonts(path), encoding="ascii")
+                path.write_text(_with_fonts(path), encoding="ascii")
             elif not check(path):
                 print(f"{path}: not what its drawings say; tools/font.py write {path}")
                 failed = 1
-        except Wrong as fault:
+        except _Wrong as fault:
             print(f"{path}: {fault}", file=sys.stderr)
             failed = 1
     return failed

@@ -14,7 +14,7 @@ import sys
 from vector_cases import codes, datagrams, requests, scripts, texts
 
 FOLDER = pathlib.Path(__file__).resolve().parent.parent / "vectors"
-FILES = {
+_FILES = {
     "datagrams": datagrams.cases,
     "texts": texts.cases,
     "codes": codes.cases,
@@ -28,7 +28,7 @@ def main() -> int:
     words.add_argument("--check", action="store_true", help="writes nothing")
     only_checks, failed = words.parse_args().check, 0
     FOLDER.mkdir(exist_ok=True)
-    for name, cases in FILES.items():
+    for name, cases in _FILES.items():
         made = list(cases())
         names = [case["name"] for case in made]
         assert len(set(names)) == len(names), [word for word in names if names.count(word) > 1][:3]

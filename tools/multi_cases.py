@@ -11,8 +11,8 @@ import json
 import pathlib
 from typing import Any
 
-LIMIT = 160
-LONGEST = 40
+_LIMIT = 160
+_LONGEST = 40
 NAMES = {"FontTag": "Font"}
 
 
@@ -62,13 +62,13 @@ def main() -> None:
             continue
         text = bytes.fromhex(vector["text"])
         canonical = bytes.fromhex(vector["canonical"])
-        if 0 < len(text) <= LONGEST and printable(text + canonical):
+        if 0 < len(text) <= _LONGEST and printable(text + canonical):
             cases.append("|".join([text.decode(), read(vector), canonical.decode()]))
     print("//! A case a line: a text, what it is read as and the canonical text of its items, with a bar between them.")
     print("//! Written by tools/multi_cases.py.")
     print()
     print('pub(crate) static CASES: &str = "\\')
-    for case in cases[:LIMIT]:
+    for case in cases[:_LIMIT]:
         print(case)
     print('";')
 

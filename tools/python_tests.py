@@ -25,7 +25,7 @@ from steps.changed import changed_python
 
 TOP = pathlib.Path(__file__).resolve().parent.parent
 PYTHONS = (sys.executable, "/usr/bin/python3")
-FOLDERS = (
+_FOLDERS = (
     "tools/*/tests",
     "measures/tests",
     "model/tests",
@@ -33,15 +33,15 @@ FOLDERS = (
 )
 SLOW = ("python/tests/tester/test_signs.py", "tools/tries/tests/test_planted.py")  # a minute of a processor each
 
-CONFIGURED = "python/pyproject.toml"
-LAYOUTS: dict[str, list[str]] = {  # .flake8 has the options of flake8
-    "black": ["--check", "--quiet", "--config", CONFIGURED],
-    "isort": ["--check-only", "--filter-files", "--settings-path", CONFIGURED],
+_CONFIGURED = "python/pyproject.toml"
+_LAYOUTS: dict[str, list[str]] = {  # .flake8 has the options of flake8
+    "black": ["--check", "--quiet", "--config", _CONFIGURED],
+    "isort": ["--check-only", "--filter-files", "--settings-path", _CONFIGURED],
     "flake8": [],
 }
 
 
-def python_with(module: str) -> str | None:
+def _python_with(module: str) -> str | None:
     """A Python that has this module."""
     for python in PYTHONS:
         looks = [python, "-c", f"import {module}"]
@@ -50,16 +50,16 @@ def python_with(module: str) -> str | None:
     return None
 
 
-def ran(*words: str) -> tuple[int, str]:
+def _ran(*words: str) -> tuple[int, str]:
     environment = {**os.environ, "PYTHONDONTWRITEBYTECODE": "1"}
     ended = subprocess.run(words, cwd=TOP, env=environment, capture_output=True, text=True, check=False)
     return ended.returncode, ended.stdout + ended.stderr
 
 
-def tested(python: str, folder: str, left_out: Sequence[str] = ()) -> tuple[int, int]:
+def _tested(python: str, folder: str, left_out: Sequence[str] = ()) -> tuple[int, int]:
     """How many tests of a folder passed, and how many failed."""
     words = [f"--ignore={path}" for path in left_out]
-    status, said = ran(python, "-m", "pytest", "-q", "-p", "no:cacheprovider", *words, folder)
+    status, said = _ran(python, "-m", "pytest", "-q", "-p", "no:cacheprovider", *words, folder)
     counts = {word: int(number) for number, word in re.findall(r"(\d+) (passed|failed|error|skipped)", said)}
     passed, failed = counts.get("passed", 0), counts.get("failed", 0) + counts.get("error", 0)
     if status or failed:
@@ -71,25 +71,25 @@ def tested(python: str, folder: str, left_out: Sequence[str] = ()) -> tuple[int,
     return passed, failed
 
 
-def typed(python: str) -> tuple[int, int]:
+def _typed(python: str) -> tuple[int, int]:
     """Whether the types of all Python here fit."""
-    status, said = ran(python, "-m", "mypy", "--config-file", CONFIGURED, "--cache-dir", os.devnull)
+    status, said = _ran(python, "-m", "mypy", "--config-file", _CONFIGURED, "--cache-dir", os.devnull)
     print(said[-6000:] if status else f"mypy: {said.strip()}", flush=True)
     return int(not status), int(bool(status))
 
 
-def laid_out(files: Sequence[str]) -> list[tuple[int, int]]:
+def _laid_out(files: Sequence[str]) -> list[tuple[int, int]]:
     """Whether black, isort and flake8 would have these files so, or all below these folders."""
     found = []
-    for name, options in LAYOUTS.items():
-        python = python_with(name)
+    for name, options in _LAYOUTS.items():
+        python = _python_with(name)
         if python is None:
             print(f"skipped {name}: it is not here")
             continue
-        status, said = ran(python, "-m", name, *options, *files)
+        status, said = _ran(python, "-m", name, *options, *files)
         more = f"\n{said[-6000:]}" if said.strip() else ""
         print(
-            f"{name}: other than {CONFIGURED} and .flake8 say{more}" if status else f"{name}: as it is laid out",
+            f"{name}: other than {_CONFIGURED} and .flake8 say{more}" if status else f"{name}: as it is laid out",
             flush=True,
         )
         found.append((int(not status), int(bool(status))))
@@ -104,23 +104,23 @@ def main() -> int:
     words.add_argument("--layout", action="store_true", help="black, isort and flake8 alone")
     words.add_argument("--changed", action="store_true", help="of --layout: the files that are not as main has them")
     asked = words.parse_args()
-    every = sorted(str(path.relative_to(TOP)) for pattern in FOLDERS for path in TOP.glob(pattern))
+    every = sorted(str(path.relative_to(TOP)) for pattern in _FOLDERS for path in TOP.glob(pattern))
     results = []
     if asked.types or asked.layout:
         pass
-    elif python := python_with("pytest"):
-        results += [tested(python, folder, SLOW if asked.quick else ()) for folder in asked.folders or every]
+    elif python := _python_with("pytest"):
+        results += [_tested(python, folder, SLOW if asked.quick else ()) for folder in asked.folders or every]
     else:
         print("skipped pytest: python3-pytest is not here")
     if asked.folders or asked.quick or asked.layout:
         pass
-    elif python := python_with("mypy"):
-        results.append(typed(python))
+    elif python := _python_with("mypy"):
+        results.append(_typed(python))
     else:
         print("skipped mypy: it is not here")
     if asked.layout or not (asked.folders or asked.quick or asked.types):
         files = changed_python(TOP) if asked.changed else None
-        results += laid_out(["."] if files is None else files) if files != [] else [(1, 0)]
+        results += _laid_out(["."] if files is None else files) if files != [] else [(1, 0)]
     failed = sum(failed for _, failed in results)
     print(f"{sum(passed for passed, _ in results)} passed, {failed} failed")
     return 1 if failed else 0

@@ -45,7 +45,7 @@ def commands(block: str) -> Iterator[str]:
             yield "\n".join(command) + "\n"
 
 
-def free_port() -> int:
+def _free_port() -> int:
     """A UDP port that nobody has now."""
     with socket.socket(socket.AF_INET, socket.SOCK_DGRAM) as door:
         door.bind(("127.0.0.1", 0))
@@ -53,9 +53,9 @@ def free_port() -> int:
         return port
 
 
-def with_snmp_tools(block: str, after: str, program: str) -> bool:
+def _with_snmp_tools(block: str, after: str, program: str) -> bool:
     """Whether the block of the SNMP tools prints what README says, on a port that is free."""
-    port = free_port()
+    port = _free_port()
     width = f"snmpget -v1 -c public -t 1 -r 0 127.0.0.1:{port} 1.3.6.1.4.1.1206.4.2.3.2.4.0"
     whole = "shopt -s expand_aliases\n" + block.split("\n", 1)[1]
     for old, new in (
@@ -72,7 +72,7 @@ def with_snmp_tools(block: str, after: str, program: str) -> bool:
     return well
 
 
-def runs(block: str, after: str, folder: str) -> Iterator[bool]:
+def _runs(block: str, after: str, folder: str) -> Iterator[bool]:
     """For each command of a block whether it runs, the last with the output that README says."""
     made = list(commands(block))
     for at, command in enumerate(made):
@@ -102,7 +102,7 @@ fn main(rt: HostRuntime) -> ExitCode {{
 """
 
 
-def with_kit(text: str) -> bool:
+def _with_kit(text: str) -> bool:
     """Whether the block of `rust` compiles in a crate that stands on the crates that README says, and a datagram to the
     bench sign is replied to."""
     found = re.search(r"`NAME: ([a-z_ ]+)`.*?```rust\n(.*?)```", text, re.DOTALL)
@@ -134,7 +134,7 @@ def main() -> int:
     asked = words.parse_args()
     text = (TOP / "README.md").read_text(encoding="utf-8")
     if asked.rattle:
-        results = [with_kit(text)] if shutil.which("rt") else []
+        results = [_with_kit(text)] if shutil.which("rt") else []
         print(
             f"{sum(results)} passed, {len(results) - sum(results)} failed"
             if results
@@ -152,9 +152,9 @@ def main() -> int:
             if block.startswith("apt-get") and not asked.short and not shutil.which("snmpget"):
                 print("skipped the SNMP tools: snmpget is not here")
             elif block.startswith("apt-get") and not asked.short:
-                results.append(with_snmp_tools(block, after, asked.signtool or asked.program))
+                results.append(_with_snmp_tools(block, after, asked.signtool or asked.program))
             elif not asked.signtool and block.startswith(("./signtool", "cp ")):
-                results += runs(block, after, folder)
+                results += _runs(block, after, folder)
     print(f"{sum(results)} passed, {len(results) - sum(results)} failed")
     return 0 if all(results) else 1
 

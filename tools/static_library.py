@@ -32,7 +32,7 @@ from building.static import Static
 from tries.libraries import gathered, whole_plan
 
 LACKS = 3
-MOST_SHOWN = 3000
+_MOST_SHOWN = 3000
 
 
 @contextlib.contextmanager
@@ -47,13 +47,13 @@ def libraries(mine: Proofs, wanted: set[str]) -> Iterator[Proofs]:
         yield found if wanted <= found.proved() else mine
 
 
-def built(library: Static, over: Proofs, processors: int) -> int:
+def _built(library: Static, over: Proofs, processors: int) -> int:
     """Builds it over the crates below, and returns the status."""
     name, minutes = library.crate.name, library.crate.work * SECONDS_A_LINE / 60
     print(f"proving {name}, in some {minutes:.0f} minutes", file=sys.stderr, flush=True)
     ended = library.prove(over.room, max(1, min(MOST_JOBS, processors)))
     if ended.returncode:
-        print(f"{ended.stdout[-MOST_SHOWN:]}{ended.stderr[-MOST_SHOWN:]}{name} is not built")
+        print(f"{ended.stdout[-_MOST_SHOWN:]}{ended.stderr[-_MOST_SHOWN:]}{name} is not built")
         return 1
     print(library.made)
     return 0
@@ -76,7 +76,7 @@ def over_what_stands(plan: Plan, asked: argparse.Namespace) -> int:
             if failed:
                 print(f"{failed.crate.name} is not proved: {failed.log}")
                 return 1
-            return built(library, over, asked.processors)
+            return _built(library, over, asked.processors)
 
 
 def without_kit(plan: Plan, asked: argparse.Namespace) -> int:

@@ -36,7 +36,7 @@ from steps.step import TOP, Outcome, Step, totals
 from steps.together import adopt_orphans, end_children, ended
 
 MODEL = "model/signtool"
-OF_GATE = {  # what each takes, in seconds, alone
+_OF_GATE = {  # what each takes, in seconds, alone
     "vectors": 5,
     "co-process": 2,
     "causes": 8,
@@ -49,27 +49,27 @@ OF_GATE = {  # what each takes, in seconds, alone
     "vectors as made": 7,
 }
 # what needs no server, no packages and no program
-OF_CONTROL = [f"python/tests/room/test_{part}.py" for part in ("fleet", "readings", "style")]
-OWN = (
+_OF_CONTROL = [f"python/tests/room/test_{part}.py" for part in ("fleet", "readings", "style")]
+_OWN = (
     Step("model", "python3 -m trials.compare_model --program {program} --seconds 40", 900, "", 41),
     Step("tests of the tester", "tools/python_tests.py --quick python/tests/tester", 899, "", 25),
     Step("types", "tools/python_tests.py --types", 1198, "", 26),
     Step("layout of Python", "tools/python_tests.py --layout --changed", 600, "", 10),
     Step("tests of tools", "tools/python_tests.py --quick", 897, "", 20),
-    Step("parts of the control room", f"tools/python_tests.py --quick {' '.join(OF_CONTROL)}", 600, "", 4),
+    Step("parts of the control room", f"tools/python_tests.py --quick {' '.join(_OF_CONTROL)}", 600, "", 4),
 )
-OVER_MODEL = {"README's commands": f"tools/readme_commands.py --signtool {MODEL}"}
-LONGEST_CHECK = 3600
+_OVER_MODEL = {"README's commands": f"tools/readme_commands.py --signtool {MODEL}"}
+_LONGEST_CHECK = 3600
 
 
-def all_steps(is_built: bool) -> list[Step]:
+def _all_steps(is_built: bool) -> list[Step]:
     """The steps but those of crates; without a program those that can run over the model do."""
-    of_gate = [replace(step, seconds=OF_GATE[step.name]) for step in after_gate.STEPS if step.name in OF_GATE]
-    steps = [*OWN, *of_gate]
-    return steps if is_built else [replace(step, command=OVER_MODEL.get(step.name, step.command)) for step in steps]
+    of_gate = [replace(step, seconds=_OF_GATE[step.name]) for step in after_gate.STEPS if step.name in _OF_GATE]
+    steps = [*_OWN, *of_gate]
+    return steps if is_built else [replace(step, command=_OVER_MODEL.get(step.name, step.command)) for step in steps]
 
 
-def checks() -> tuple[list[Step], str]:
+def _checks() -> tuple[list[Step], str]:
     """A check of each crate that changed, lowest first, and a word where there is none."""
     names, plan = changed(TOP), Plan()
     if names is None:
@@ -81,7 +81,7 @@ def checks() -> tuple[list[Step], str]:
         Step(
             f"check of {name}",
             f"env -C crates/{name} rt check",
-            LONGEST_CHECK,
+            _LONGEST_CHECK,
             "rt",
             plan.measured(name).work * SECONDS_A_LINE,
         )
@@ -89,14 +89,14 @@ def checks() -> tuple[list[Step], str]:
     ], ""
 
 
-def is_older(program: str, checks: list[Step]) -> bool:
+def _is_older(program: str, checks: list[Step]) -> bool:
     """Whether a crate's code changed after the program was built."""
     built = os.path.getmtime(program)
     folders = (TOP / "crates" / step.name.removeprefix("check of ") / "src" for step in checks)
     return any(path.stat().st_mtime > built for folder in folders for path in folder.rglob("*.rt"))
 
 
-class Run:
+class _Run:
     """Steps that run, with a word on how far they are."""
 
     def __init__(self, together: list[Step], alone: list[Step], program: str, processors: int) -> None:
@@ -122,7 +122,7 @@ class Run:
         return self.found
 
 
-def asked_for() -> argparse.Namespace:
+def _asked_for() -> argparse.Namespace:
     words = argparse.ArgumentParser(description=__doc__, formatter_class=argparse.RawDescriptionHelpFormatter)
     words.add_argument("--program", default=str(TOP / "crates/signtool/out/signtool"))
     words.add_argument("--list", action="store_true", help="the steps and what each takes alone, and nothing is run")
@@ -132,9 +132,9 @@ def asked_for() -> argparse.Namespace:
 
 
 def main() -> int:
-    asked = asked_for()
+    asked = _asked_for()
     is_built = os.access(asked.program, os.X_OK)
-    steps, (alone, why) = all_steps(is_built), ([], "") if asked.without_crates else checks()
+    steps, (alone, why) = _all_steps(is_built), ([], "") if asked.without_crates else _checks()
     if unknown := set(asked.steps) - {step.name for step in [*steps, *alone]}:
         print(f"no step {', '.join(sorted(unknown))}: --list names all", file=sys.stderr)
         return 2
@@ -148,9 +148,9 @@ def main() -> int:
     for step in lost:
         found.append(Outcome(skipped=[step.name]))
         print(f"skipped {step.name}: there is no program at {asked.program}, which tools/build.py builds")
-    if is_built and is_older(asked.program, alone):
+    if is_built and _is_older(asked.program, alone):
         print("the program is older than the crates that changed: tools/build.py builds it again")
-    run = Run(
+    run = _Run(
         [step for step in steps if step not in lost],
         alone,
         os.path.abspath(asked.program),

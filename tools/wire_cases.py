@@ -8,12 +8,13 @@ CHUNK rows: the time that a table takes to check grows faster than its length. W
 with words before each row: what the message is, or in which of its elements the fault is.
 """
 
+import argparse
 import json
-import sys
+import pathlib
 from collections.abc import Iterator, Sequence
 from typing import Any
 
-KINDS = [
+_KINDS = [
     "",
     "TRUNCATED",
     "BAD_TAG",
@@ -25,23 +26,28 @@ KINDS = [
     "TRAILING_BYTES",
     "TOO_LONG",
 ]
-Case = dict[str, Any]  # a line of CASES.jsonl
-LONGEST = 160
-MOST_SPELLED = 80
-CHUNK = 20
+_Case = dict[str, Any]  # a line of CASES.jsonl
+_LONGEST = 160
+_MOST_SPELLED = 80
+_CHUNK = 20
 HEAD = """\
 //! Datagrams with the answers of an independent model, made by tools/wire_cases.py: those that
 //! spell no message, with the place of their fault, by its kind; those that spell one, with the
 //! message's shortest spelling; and those that are the shortest spelling of theirs."""
 # the width up to which rt fmt keeps a tuple on one line
-ROW_WIDTH = 60
+_ROW_WIDTH = 60
 
 
-MESSAGES = {0xA0: "Get", 0xA1: "GetNext", 0xA2: "Response", 0xA3: "Set"}
-OF_MESSAGE, OF_PDU = ("version", "community", "PDU"), ("request-id", "error-status", "error-index", "list of bindings")
+_MESSAGES = {0xA0: "Get", 0xA1: "GetNext", 0xA2: "Response", 0xA3: "Set"}
+_OF_MESSAGE, _OF_PDU = ("version", "community", "PDU"), (
+    "request-id",
+    "error-status",
+    "error-index",
+    "list of bindings",
+)
 
 
-def elements(octets: bytes, at: int, end: int) -> Iterator[tuple[int, int, int, int]]:
+def _elements(octets: bytes, at: int, end: int) -> Iterator[tuple[int, int, int, int]]:
     """The tag, the first octet, the first of the content and the end of each element, whatever its length says."""
     while at + 1 < end:
         size, content = octets[at + 1], at + 2
@@ -53,63 +59,63 @@ def elements(octets: bytes, at: int, end: int) -> Iterator[tuple[int, int, int, 
         at = after
 
 
-def around(octets: bytes, place: int) -> tuple[str, str]:
+def _around(octets: bytes, place: int) -> tuple[str, str]:
     """The kind of message, and the element around a place."""
     kind, found = "message", "outermost element"
-    for _, _, content, after in elements(octets, 0, len(octets)):
-        for name, (tag, first, inner, last) in zip(OF_MESSAGE, elements(octets, content, after)):
+    for _, _, content, after in _elements(octets, 0, len(octets)):
+        for name, (tag, first, inner, last) in zip(_OF_MESSAGE, _elements(octets, content, after)):
             found = name if first <= place else found
             if name != "PDU":
                 continue
-            kind = MESSAGES.get(tag, kind)
-            for name, (_, first, inner, last) in zip(OF_PDU, elements(octets, inner, last)):
+            kind = _MESSAGES.get(tag, kind)
+            for name, (_, first, inner, last) in zip(_OF_PDU, _elements(octets, inner, last)):
                 found = name if first <= place else found
-                if name != OF_PDU[-1]:
+                if name != _OF_PDU[-1]:
                     continue
-                for number, (_, first, inner, last) in enumerate(elements(octets, inner, last), 1):
+                for number, (_, first, inner, last) in enumerate(_elements(octets, inner, last), 1):
                     found = f"binding {number}" if first <= place else found
-                    for name, (_, first, _, _) in zip(("name", "value"), elements(octets, inner, last)):
+                    for name, (_, first, _, _) in zip(("name", "value"), _elements(octets, inner, last)):
                         found = f"{name} of binding {number}" if first <= place else found
         break
     return kind, found
 
 
-def bindings_of(octets: bytes) -> int:
+def _bindings_of(octets: bytes) -> int:
     """How many bindings a message has."""
-    [message] = elements(octets, 0, len(octets))
-    *_, pdu = elements(octets, *message[2:])
-    *_, listed = elements(octets, *pdu[2:])
-    return len(list(elements(octets, *listed[2:])))
+    [message] = _elements(octets, 0, len(octets))
+    *_, pdu = _elements(octets, *message[2:])
+    *_, listed = _elements(octets, *pdu[2:])
+    return len(list(_elements(octets, *listed[2:])))
 
 
-def fault_words(case: Case) -> str:
-    kind, found = around(bytes.fromhex(case["octets"]), case["place"])
+def _fault_words(case: _Case) -> str:
+    kind, found = _around(bytes.fromhex(case["octets"]), case["place"])
     return f"a {kind} with a fault in {found if found.startswith('binding') else 'the ' + found}"
 
 
-def is_shortest(case: Case) -> bool:
+def _is_shortest(case: _Case) -> bool:
     return bool(case["canonical"] == case["octets"])
 
 
-def message_words(case: Case) -> str:
+def _message_words(case: _Case) -> str:
     octets = bytes.fromhex(case["octets"])
-    count = bindings_of(octets)
-    kind, _ = around(octets, 0)
+    count = _bindings_of(octets)
+    kind, _ = _around(octets, 0)
     bound = f"{count} binding{'s' if count != 1 else ''}"
-    return f"a {kind} of {bound}, {'in' if is_shortest(case) else 'not in'} its shortest spelling"
+    return f"a {kind} of {bound}, {'in' if _is_shortest(case) else 'not in'} its shortest spelling"
 
 
-def literal(digits: str) -> str:
+def _literal(digits: str) -> str:
     return 'b"' + "".join(f"\\x{digits[i:i + 2]}" for i in range(0, len(digits), 2)) + '"'
 
 
-def print_row(words: str, *row: str) -> None:
+def _print_row(words: str, *row: str) -> None:
     print(f"    // {words}")
     if len(row) == 1:
         print(f"    {row[0]},")
         return
     line = ", ".join(row)
-    if len(line) <= ROW_WIDTH:
+    if len(line) <= _ROW_WIDTH:
         print(f"    ({line}),")
         return
     print("    (")
@@ -118,42 +124,44 @@ def print_row(words: str, *row: str) -> None:
     print("    ),")
 
 
-def tables(name: str, row_type: str, rows: Sequence[tuple[str, ...]]) -> None:
-    for first in range(0, len(rows), CHUNK):
-        chunk = rows[first : first + CHUNK]
+def _tables(name: str, row_type: str, rows: Sequence[tuple[str, ...]]) -> None:
+    for first in range(0, len(rows), _CHUNK):
+        chunk = rows[first : first + _CHUNK]
         print()
-        print(f"pub static {name}_{first // CHUNK + 1}: [{row_type}; {len(chunk)}] = [")
+        print(f"pub static {name}_{first // _CHUNK + 1}: [{row_type}; {len(chunk)}] = [")
         for row in chunk:
-            print_row(*row)
+            _print_row(*row)
         print("];")
 
 
 def main() -> None:
-    with open(sys.argv[1], encoding="utf-8") as source:
-        cases = [json.loads(line) for line in source]
-    kept = [case for case in cases if len(case["octets"]) <= 2 * LONGEST]
+    words = argparse.ArgumentParser(description=__doc__, formatter_class=argparse.RawDescriptionHelpFormatter)
+    words.add_argument("cases", type=pathlib.Path, metavar="CASES.jsonl", help="a case a line")
+    cases = [json.loads(line) for line in words.parse_args().cases.read_text(encoding="utf-8").splitlines()]
+    kept = [case for case in cases if len(case["octets"]) <= 2 * _LONGEST]
     faulty = [case for case in kept if "fault" in case]
     # those whose canonical octets differ come first
-    spelled = sorted((case for case in kept if "canonical" in case), key=is_shortest)[:MOST_SPELLED]
-    longer = [case for case in spelled if not is_shortest(case)]
-    shortest = [case for case in spelled if is_shortest(case)]
+    spelled = sorted((case for case in kept if "canonical" in case), key=_is_shortest)[:_MOST_SPELLED]
+    longer = [case for case in spelled if not _is_shortest(case)]
+    shortest = [case for case in spelled if _is_shortest(case)]
     print(HEAD)
-    for fault, kind in enumerate(KINDS):
-        tables(
+    for fault, kind in enumerate(_KINDS):
+        _tables(
             kind,
             "(&[u8], usize)",
             [
-                (fault_words(case), literal(case["octets"]), str(case["place"]))
+                (_fault_words(case), _literal(case["octets"]), str(case["place"]))
                 for case in faulty
                 if int(case["fault"]) == fault
             ],
         )
-    tables(
+    _tables(
         "SPELLED",
         "(&[u8], &[u8])",
-        [(message_words(case), literal(case["octets"]), literal(case["canonical"])) for case in longer],
+        [(_message_words(case), _literal(case["octets"]), _literal(case["canonical"])) for case in longer],
     )
-    tables("SHORTEST", "&[u8]", [(message_words(case), literal(case["octets"])) for case in shortest])
+    _tables("SHORTEST", "&[u8]", [(_message_words(case), _literal(case["octets"])) for case in shortest])
 
 
-main()
+if __name__ == "__main__":
+    main()

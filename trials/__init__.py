@@ -9,8 +9,8 @@ import pathlib
 import sys
 
 TOP = pathlib.Path(__file__).resolve().parent.parent
-FOLDERS = [str(TOP / "python"), str(TOP)]
+_FOLDERS = [str(TOP / "python"), str(TOP)]
 
-sys.path[:0] = [folder for folder in FOLDERS if folder not in sys.path]
-BEFORE = [folder for folder in os.environ.get("PYTHONPATH", "").split(os.pathsep) if folder and folder not in FOLDERS]
-os.environ["PYTHONPATH"] = os.pathsep.join([*FOLDERS, *BEFORE])
+sys.path[:0] = [folder for folder in _FOLDERS if folder not in sys.path]
+_BEFORE = [folder for folder in os.environ.get("PYTHONPATH", "").split(os.pathsep) if folder and folder not in _FOLDERS]
+os.environ["PYTHONPATH"] = os.pathsep.join([*_FOLDERS, *_BEFORE])

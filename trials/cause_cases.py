@@ -7,12 +7,12 @@ from model import text
 from trials import compare_model
 from wisangub.process.places import TOP
 
-NUMBERS = (
+_NUMBERS = (
     "0 1 2 3 4 5 9 10 16 17 32 33 64 65 255 256 257 65535 65536 4294967295 4294967296 00001 000001 -1 +1 x 1.0".split()
 )
-OCTETS = ["-", "4", "41", "4142", "4A4b", "xy", "--", "5b5d", "5b666f395d", "5b", "00" * 12, "41" * 513, "6d" * 128]
-ADDRESSES = ["192.0.2.1", "0.0.0.0", "1.2.3", "1.2.3.4.5", "1.2.3.256", "1..2.3", "0001.2.3.4", "1.2.3.4."]
-OTHERS = [
+_OCTETS = ["-", "4", "41", "4142", "4A4b", "xy", "--", "5b5d", "5b666f395d", "5b", "00" * 12, "41" * 513, "6d" * 128]
+_ADDRESSES = ["192.0.2.1", "0.0.0.0", "1.2.3", "1.2.3.4.5", "1.2.3.256", "1..2.3", "0001.2.3.4", "1.2.3.4."]
+_OTHERS = [
     "",
     "end",
     "high",
@@ -30,7 +30,7 @@ OTHERS = [
     "admin",
     "a" * 33,
 ]
-LINES = [
+_LINES = [
     *(
         "end",
         "end now",
@@ -63,7 +63,7 @@ LINES = [
         "activate " + "00" * 12,
     ),
 ]
-SIGNS = [
+_SIGNS = [
     *(
         "size 0 14",
         "size 257 14",
@@ -94,7 +94,7 @@ SIGNS = [
         "permanent 42 - 0 0 100",
     ),
 ]
-TEXTS = [
+_TEXTS = [
     *(
         "[x]",
         "]",
@@ -112,7 +112,7 @@ TEXTS = [
         "B[hc1]",
     ),
 ]
-EVENTS = [
+_EVENTS = [
     *("sign-tick", "centre-tick", "power-lost", "centre-restart", "to-sign 0", "to-centre 4294967295", "power-back 60"),
     *("forge-sign 3003020100", "forge-centre -", "activate ffffff07000100007f000001", "blank 5 65535 255 192.0.2.1"),
     "publish 3 1 4142 6d65 0 0 200 65535 255 192.0.2.1",
@@ -138,19 +138,19 @@ class Cases:
         """A script that is one."""
         count = self.chance.randrange(1, 6)
         begun = self.chance.choice(["bench\n", "bench\n", self.description()])
-        return begun + "".join(self.chance.choice(EVENTS) + "\n" for _ in range(count))
+        return begun + "".join(self.chance.choice(_EVENTS) + "\n" for _ in range(count))
 
     def word(self, found: str) -> str:
         """What stands in the place of a word: mostly something of its kind."""
         draw = self.chance.random()
         if draw < 0.6:
-            pools = [(r"[0-9]+", NUMBERS), (r"[0-9.]+", ADDRESSES), (r"-|[0-9a-fA-F]+", OCTETS)]
-            pool = next((pool for shape, pool in pools if re.fullmatch(shape, found)), OTHERS)
+            pools = [(r"[0-9]+", _NUMBERS), (r"[0-9.]+", _ADDRESSES), (r"-|[0-9a-fA-F]+", _OCTETS)]
+            pool = next((pool for shape, pool in pools if re.fullmatch(shape, found)), _OTHERS)
             return self.chance.choice(pool)
         if draw < 0.7 and found:
             place = self.chance.randrange(len(found))
             return found[:place] + self.chance.choice("0 9afzA\t-.\x7f") + found[place + 1 :]
-        return self.chance.choice(self.chance.choice([NUMBERS, OCTETS, ADDRESSES, OTHERS]))
+        return self.chance.choice(self.chance.choice([_NUMBERS, _OCTETS, _ADDRESSES, _OTHERS]))
 
     def line(self, line: str) -> str:
         """A line with another word, a word more or a word less."""
@@ -186,9 +186,9 @@ class Cases:
 
     def other_sign(self, lines: list[str]) -> None:
         """A line that spells a sign that may not be made in the place of one with the same first word."""
-        new = self.chance.choice(SIGNS)
+        new = self.chance.choice(_SIGNS)
         if new.startswith("permanent ") and self.chance.random() < 0.5:
-            new = f"permanent {self.chance.choice(TEXTS).encode().hex()} - 0 0 1"
+            new = f"permanent {self.chance.choice(_TEXTS).encode().hex()} - 0 0 1"
         word = new.split(" ")[0]
         places = [at for at, line in enumerate(lines) if line.split(" ")[0] == word]
         if places:
@@ -217,7 +217,7 @@ class Cases:
             at = self.place(len(lines))
             draw = self.chance.random()
             if not lines or draw < 0.2:
-                lines.insert(at, self.chance.choice(LINES))
+                lines.insert(at, self.chance.choice(_LINES))
             elif draw < 0.4:
                 self.other_sign(lines)
             elif draw < 0.75:

@@ -4,9 +4,9 @@ hand."""
 from model.text import BENCH
 
 Row = tuple[int, bytes, int, str]  # a line of the bench sign's description, another one, the line at fault, the words
-LINES = BENCH.split(b"\n")
+_LINES = BENCH.split(b"\n")
 
-WORDS: list[Row] = [
+_WORDS: list[Row] = [
     (1, b"width 23 14", 1, "word 1: the word size is wanted"),
     (1, b"size 23", 1, "word 3: the line ends where a number from 0 to 65535 is wanted"),
     (1, b"size 23  14", 1, "word 3: two spaces, or a space at an end of the line"),
@@ -30,7 +30,7 @@ WORDS: list[Row] = [
     (10, b"glyph 49 2 zz 1", 10, "word 4: a picture in hexadecimal is wanted"),
     (17, b"end now", 17, "word 2: no more words are wanted"),
 ]
-PLACES: list[Row] = [
+_PLACES: list[Row] = [
     (8, b"glyph 49 2 7554", 8, "a character stands after its font"),
     (10, b"glyph 49 2 zz", 10, "bits that do not fit the picture"),
     (10, b"glyph 49 2 75", 10, "bits that do not fit the picture"),
@@ -41,13 +41,13 @@ PLACES: list[Row] = [
     (17, b"#", 18, "the text ends before its line `end`"),
     (17, b"end\n\nend", 19, "no line may stand after `end`"),
 ]
-FONT = b"font %d height 1 space 0 line 0 version 0000"
-SIGNS: list[Row] = [
+_FONT = b"font %d height 1 space 0 line 0 version 0000"
+_SIGNS: list[Row] = [
     (1, b"size 0 65", 17, "the matrix has no columns"),
     (1, b"size 257 65", 17, "the matrix is wider than 256"),
     (1, b"size 23 0", 17, "the matrix has no rows"),
     (1, b"size 23 65", 17, "the matrix is higher than 64"),
-    (17, b"\n".join([FONT % 3, FONT % 4, FONT % 5, b"end"]), 20, "there are more than four fonts"),
+    (17, b"\n".join([_FONT % 3, _FONT % 4, _FONT % 5, b"end"]), 20, "there are more than four fonts"),
     (15, b"font 1 height 5 space 1 line 1 version 0002", 17, "two fonts have the number 1"),
     (6, b"defaults 10 9 5 5 1 3 2 30 0", 17, "the default background 10 is no colour"),
     (6, b"defaults 0 10 5 5 1 3 2 30 0", 17, "the default foreground 10 is no colour"),
@@ -61,7 +61,7 @@ SIGNS: list[Row] = [
     (3, b"rows 65 1", 17, "there are more than 64 changeable rows"),
     (3, b"rows 2 17", 17, "there are more than 16 volatile rows"),
 ]
-ROWS: list[Row] = [
+_ROWS: list[Row] = [
     (8, b"permanent %s - 0 0 100" % (b"41" * 513), 17, "permanent row 1: its text is longer than 512 octets"),
     (8, b"permanent 42 %s 0 0 100" % (b"6d" * 128), 17, "permanent row 1: its owner is longer than 127 octets"),
     (8, b"permanent 42 - 2 0 100", 17, "permanent row 1: its beacon is neither 0 nor 1"),
@@ -87,7 +87,7 @@ ROWS: list[Row] = [
         )
     ),
 ]
-EVENTS: list[tuple[bytes, str]] = [
+_EVENTS: list[tuple[bytes, str]] = [
     (b"stop", "no event begins with this word"),
     (b" sign-tick", "no event begins with this word"),
     (b"sign-tick now", "word 2: no more words are wanted"),
@@ -104,17 +104,17 @@ EVENTS: list[tuple[bytes, str]] = [
 ]
 
 
-def edited(number: int, line: bytes) -> bytes:
+def _edited(number: int, line: bytes) -> bytes:
     """The bench sign's description with another line of this number."""
-    return b"\n".join([*LINES[: number - 1], line, *LINES[number:]])
+    return b"\n".join([*_LINES[: number - 1], line, *_LINES[number:]])
 
 
 def described() -> list[tuple[bytes, int, str]]:
     """Descriptions, the line at fault, and what is said of it."""
-    without = [b"#" if line.startswith((b"font ", b"glyph ")) else line for line in LINES]
-    beacons = edited(8, b"permanent 42 - 1 0 100").replace(b"\nhas 1 0\n", b"\nhas 0 0\n")
+    without = [b"#" if line.startswith((b"font ", b"glyph ")) else line for line in _LINES]
+    beacons = _edited(8, b"permanent 42 - 1 0 100").replace(b"\nhas 1 0\n", b"\nhas 0 0\n")
     return [
-        *((edited(number, line), at, words) for number, line, at, words in (*WORDS, *PLACES, *SIGNS, *ROWS)),
+        *((_edited(number, line), at, words) for number, line, at, words in (*_WORDS, *_PLACES, *_SIGNS, *_ROWS)),
         (b"\n".join(without), 17, "there is no font"),
         (beacons, 17, "permanent row 1: the sign has no beacons"),
         (b"", 1, "the text ends before its line `end`"),
@@ -124,7 +124,7 @@ def described() -> list[tuple[bytes, int, str]]:
 def scripts() -> list[tuple[bytes, int, str]]:
     """The same of scripts: each event at fault, and a sign at fault."""
     return [
-        *((b"bench\nsign-tick\n# more\n%s\nstop\n" % line, 4, words) for line, words in EVENTS),
+        *((b"bench\nsign-tick\n# more\n%s\nstop\n" % line, 4, words) for line, words in _EVENTS),
         *((octets, at, words) for octets, at, words in described() if words != "no line may stand after `end`"),
         (b"bench now\n", 1, "word 1: the word size is wanted"),
         (BENCH + b"stop\n", 18, "no event begins with this word"),

@@ -20,9 +20,9 @@ from wisangub.process.places import SIGNTOOL, program
 
 TOP = pathlib.Path(__file__).resolve().parent.parent
 
-Case = dict[str, Any]  # a line of the vectors, or a part of one, as JSON has it
+_Case = dict[str, Any]  # a line of the vectors, or a part of one, as JSON has it
 Call = tuple[list[str], str, str, int]  # the words, the standard input, the output that is wanted, and the status
-FAULTS = {
+_FAULTS = {
     "Truncated": "truncated",
     "BadTag": "unexpected tag",
     "BadLength": "bad length",
@@ -35,7 +35,7 @@ FAULTS = {
 }
 
 
-def objects_of_mib() -> dict[str, str]:
+def _objects_of_mib() -> dict[str, str]:
     """The names of the MIB's objects by their dotted numbers."""
     text = "".join(path.read_text(encoding="ascii") for path in (TOP / "mibs").glob("DMS-PROFILE-MIB*"))
     found = {"enterprises": "1.3.6.1.4.1"}
@@ -48,7 +48,7 @@ def objects_of_mib() -> dict[str, str]:
     return names
 
 
-OBJECTS = objects_of_mib()
+_OBJECTS = _objects_of_mib()
 
 
 def named(dotted: str) -> str:
@@ -57,20 +57,20 @@ def named(dotted: str) -> str:
     for places in (1, 2):
         name, *instance = dotted.rsplit(".", places)
         is_cell = name.count(".") == 13
-        if name in OBJECTS and is_cell == (places == 2) and (is_cell or instance == ["0"]):
-            return f"{dotted} ({OBJECTS[name]}.{'.'.join(instance)})"
+        if name in _OBJECTS and is_cell == (places == 2) and (is_cell or instance == ["0"]):
+            return f"{dotted} ({_OBJECTS[name]}.{'.'.join(instance)})"
     return dotted
 
 
-def octets_printed(digits: str) -> str:
+def _octets_printed(digits: str) -> str:
     octets = bytes.fromhex(digits)
     text = f' "{octets.decode("ascii")}"' if octets and all(32 <= octet <= 126 for octet in octets) else ""
     return (digits or "-") + text
 
 
-def value_printed(kind: str, value: Any) -> str:
+def _value_printed(kind: str, value: Any) -> str:
     if kind in ("OCTET STRING", "Opaque"):
-        return f"{kind} {octets_printed(value)}"
+        return f"{kind} {_octets_printed(value)}"
     if kind == "OBJECT IDENTIFIER":
         return f"{kind} {named(value)}"
     if kind == "IpAddress":
@@ -78,17 +78,17 @@ def value_printed(kind: str, value: Any) -> str:
     return "NULL" if kind == "NULL" else f"{kind} {value}"
 
 
-def fields(message: Case) -> Iterator[str]:
+def fields(message: _Case) -> Iterator[str]:
     """A message as `decode` prints it."""
     yield f"kind {message['kind']}"
-    yield f"community {octets_printed(message['community'])}"
+    yield f"community {_octets_printed(message['community'])}"
     for field in ("request-id", "error-status", "error-index"):
         yield f"{field} {message[field]}"
     for binding in message["bindings"]:
-        yield f"binding {named(binding['name'])}: {value_printed(binding['type'], binding['value'])}"
+        yield f"binding {named(binding['name'])}: {_value_printed(binding['type'], binding['value'])}"
 
 
-def item_printed(item: list[Any]) -> str:
+def _item_printed(item: list[Any]) -> str:
     """An item as `items` prints it."""
     offset, kind, *values = item
     if kind == "font":
@@ -97,23 +97,23 @@ def item_printed(item: list[Any]) -> str:
     return " ".join(str("default" if word is None else word) for word in [offset, kind, *values])
 
 
-def octets_of_json(octets: Case) -> str:
+def _octets_of_json(octets: _Case) -> str:
     return (octets["octets"] or "-") + (f' "{octets["text"]}"' if "text" in octets else "")
 
 
-def name_of_json(names: Case) -> str:
+def _name_of_json(names: _Case) -> str:
     return f"{names['name']} ({names['object']})" if "object" in names else str(names["name"])
 
 
-def value_of_json(kind: str, value: Any) -> str:
+def _value_of_json(kind: str, value: Any) -> str:
     if kind in ("OCTET STRING", "Opaque"):
-        return f"{kind} {octets_of_json(value)}"
+        return f"{kind} {_octets_of_json(value)}"
     if kind == "OBJECT IDENTIFIER":
-        return f"{kind} {name_of_json(value)}"
+        return f"{kind} {_name_of_json(value)}"
     return kind if value is None else f"{kind} {value}"
 
 
-def lines_of_json(text: str) -> Iterator[str]:
+def _lines_of_json(text: str) -> Iterator[str]:
     """The lines that an object of `decode`, `items` or `check` with --json stands for."""
     found = json.loads(text)
     for item in found.get("items", []):
@@ -122,10 +122,10 @@ def lines_of_json(text: str) -> Iterator[str]:
         yield " ".join(map(str, [item["at"], item["item"], *values, *version]))
     if "kind" in found:
         yield f"kind {found['kind']}"
-        yield f"community {octets_of_json(found['community'])}"
+        yield f"community {_octets_of_json(found['community'])}"
         yield from (f"{field} {found[field]}" for field in ("request-id", "error-status", "error-index"))
         for binding in found["binding"]:
-            yield f"binding {name_of_json(binding)}: {value_of_json(binding['type'], binding['value'])}"
+            yield f"binding {_name_of_json(binding)}: {_value_of_json(binding['type'], binding['value'])}"
     if "pages" in found:
         yield f"ok pages {found['pages']}"
     if "fault" in found:
@@ -133,21 +133,21 @@ def lines_of_json(text: str) -> Iterator[str]:
         yield f"fault {found['fault']} at {place}"
 
 
-def as_lines(call: list[str], text: str) -> str:
+def _as_lines(call: list[str], text: str) -> str:
     """What a call printed, an object of JSON as the lines that it stands for."""
-    return "".join(line + "\n" for line in lines_of_json(text)) if "--json" in call else text
+    return "".join(line + "\n" for line in _lines_of_json(text)) if "--json" in call else text
 
 
-def with_json(call: list[str]) -> list[list[str]]:
+def _with_json(call: list[str]) -> list[list[str]]:
     """The same call with --json, where it has this option."""
     return [[call[0], "--json", *call[1:]]] if call[0] in ("decode", "items", "check") else []
 
 
-def calls(kind: str, case: Case) -> Iterator[Call]:
+def _calls(kind: str, case: _Case) -> Iterator[Call]:
     """The words of each call for a case, its standard input, the output that is wanted and the status."""
     if kind == "texts":
         markup = case["markup"]
-        items = "".join(item_printed(item) + "\n" for item in case["items"])
+        items = "".join(_item_printed(item) + "\n" for item in case["items"])
         items += f"fault {markup['code']} at {markup['offset']}\n" if markup else ""
         yield ["items", "--", case["text"]], "", items, 1 if markup else 0
         fault = case.get("fault")
@@ -178,16 +178,16 @@ def calls(kind: str, case: Case) -> Iterator[Call]:
         wanted = f"line {case['line']}\n" if "line" in case else "\n".join(case["report"]) + "\n"
         yield ["replay"], case["script"], wanted, 1 if "line" in case else 0
     elif "fault" in case:
-        yield ["decode", case["octets"]], "", f"fault {FAULTS[case['fault']]} at octet {case['offset']}\n", 1
+        yield ["decode", case["octets"]], "", f"fault {_FAULTS[case['fault']]} at octet {case['offset']}\n", 1
         yield ["answer", case["octets"]], "", "dropped\n", 1
     else:
         yield ["decode", case["octets"]], "", "\n".join(fields(case["message"])) + "\n", 0
 
 
-def difference(program: str, call: list[str], stdin: str, wanted: tuple[str, int]) -> str:
+def _difference(program: str, call: list[str], stdin: str, wanted: tuple[str, int]) -> str:
     """How what a call prints, and its status, differ from what is wanted; nothing where they do not."""
     ended = subprocess.run([program, *call], input=stdin.encode(), capture_output=True, timeout=60, check=False)
-    printed = as_lines(call, ended.stdout.decode())
+    printed = _as_lines(call, ended.stdout.decode())
     if (printed, ended.returncode) == wanted:
         return ""
     return f"{call[0]} printed {printed[:200]!r} with {ended.returncode}, wanted {wanted[0][:200]!r} with {wanted[1]}"
@@ -202,9 +202,9 @@ def main() -> int:
     for path in sorted((TOP / "vectors").glob("*.jsonl")):
         for line in path.read_text(encoding="ascii").splitlines()[: asked.count]:
             case = json.loads(line)
-            for call, stdin, output, status in calls(path.stem, case):
-                for made in [call, *with_json(call)]:
-                    fault = difference(asked.program, made, stdin, (output, status))
+            for call, stdin, output, status in _calls(path.stem, case):
+                for made in [call, *_with_json(call)]:
+                    fault = _difference(asked.program, made, stdin, (output, status))
                     passed, failed = (passed, failed + 1) if fault else (passed + 1, failed)
                     if fault:
                         print(f"{path.stem}, {case['name']}: {fault}")

@@ -21,10 +21,10 @@ from wisangub.process.places import SIGNTOOL, program
 
 from .cause_cases import Cases
 
-EMPTY = "the standard input is empty: < FILE gives it one"
+_EMPTY = "the standard input is empty: < FILE gives it one"
 
 
-def foretold(words: list[str], octets: bytes) -> causes.Cause | None:
+def _foretold(words: list[str], octets: bytes) -> causes.Cause | None:
     """The line that is at fault, and what is wrong with it."""
     if words[0] == "replay":
         return causes.of_script(octets)
@@ -43,10 +43,10 @@ def wanted(cause: causes.Cause | None, octets: bytes) -> tuple[str, str, int]:
     if cause is None:
         return "", "", 0
     line, words = cause
-    return f"line {line}\n", f"line {line}: {words}\n" + ("" if octets else EMPTY + "\n"), 1
+    return f"line {line}\n", f"line {line}: {words}\n" + ("" if octets else _EMPTY + "\n"), 1
 
 
-def is_by_both(cause: causes.Cause | None, words: list[str], octets: bytes) -> bool:
+def _is_by_both(cause: causes.Cause | None, words: list[str], octets: bytes) -> bool:
     """Whether the model's own reader names the same line."""
     try:
         if words[0] == "replay":
@@ -60,12 +60,12 @@ def is_by_both(cause: causes.Cause | None, words: list[str], octets: bytes) -> b
     return cause is None
 
 
-def kind_of(cause: causes.Cause) -> str:
+def _kind_of(cause: causes.Cause) -> str:
     """A cause without its places and numbers."""
     return re.sub(r"[0-9]+", "N", re.sub(r"^word [0-9]+: ", "", cause[1]))
 
 
-def by_hand(program: str) -> tuple[int, int]:
+def _by_hand(program: str) -> tuple[int, int]:
     """How many rows there are, and of how many the program says something else."""
     calls = [(["check", "A", "--sign"], row) for row in cause_rows.described()]
     calls += [(["replay"], row) for row in cause_rows.scripts()]
@@ -84,16 +84,16 @@ def main() -> int:
     options.add_argument("--seed", type=int, default=1)
     options.add_argument("--program", type=program, default=str(SIGNTOOL))
     asked = options.parse_args()
-    cases, (rows, failed) = Cases(asked.seed), by_hand(asked.program)
+    cases, (rows, failed) = Cases(asked.seed), _by_hand(asked.program)
     kinds: collections.Counter[str] = collections.Counter()
     for at in range(asked.count):
         words, octets = cases.case()
-        cause = foretold(words, octets)
+        cause = _foretold(words, octets)
         found = said(asked.program, words, octets)
-        if found != wanted(cause, octets) or not is_by_both(cause, words, octets):
+        if found != wanted(cause, octets) or not _is_by_both(cause, words, octets):
             failed += 1
             print(f"case {at}: {words} with {octets!r}\n  model   {wanted(cause, octets)}\n  program {found}")
-        kinds[kind_of(cause) if cause else "nothing"] += 1
+        kinds[_kind_of(cause) if cause else "nothing"] += 1
     for kind, count in sorted(kinds.items(), key=lambda one: -one[1]):
         print(f"{count:6} {kind}")
     print(f"{rows + asked.count - failed} passed, {failed} failed")

@@ -17,7 +17,7 @@ from wisangub.process import description
 from wisangub.process.coprocess import CoProcess
 from wisangub.process.places import SIGNTOOL, TOP, program
 
-WORDS = [
+_WORDS = [
     "tick",
     "ticks",
     "heard",
@@ -42,7 +42,7 @@ WORDS = [
     "end",
     "30",
 ]
-TEXTS = ["41", "-", "41415b6e705d42", "5b6e6c395d", "5b6e6c305d41", "5b66315d41", "30"]
+_TEXTS = ["41", "-", "41415b6e705d42", "5b6e6c395d", "5b6e6c305d41", "5b66315d41", "30"]
 
 
 def datagrams() -> list[str]:
@@ -72,14 +72,14 @@ class Lines:
         if self.chance.random() < 0.7:
             memory, number = self.chance.choice([(3, 1), (3, 2), (4, 1), (4, 9), (2, 1)])
             return (
-                f"publish {memory} {number} {self.chance.choice(TEXTS)} {self.chance.choice(['-', '6d65'])} "
+                f"publish {memory} {number} {self.chance.choice(_TEXTS)} {self.chance.choice(['-', '6d65'])} "
                 f"{self.chance.choice('01')} {self.chance.choice('01')} {self.chance.choice([0, 50, 255])} "
                 f"{minutes} {priority} {address}"
             )
         return f"blank {self.chance.choice([1, 255, 65535])} {minutes} {priority} {address}"
 
     def other(self) -> str:
-        return " ".join(self.chance.choice(WORDS) for _ in range(self.chance.choice([1, 1, 2, 3])))
+        return " ".join(self.chance.choice(_WORDS) for _ in range(self.chance.choice([1, 1, 2, 3])))
 
     def line(self, end: str) -> str:
         kind = self.chance.random()
@@ -105,7 +105,7 @@ class Lines:
         return self.other()
 
 
-def begun(program: str, end: str, sign: str | None) -> CoProcess:
+def _begun(program: str, end: str, sign: str | None) -> CoProcess:
     """A co-process that took the description."""
     process = CoProcess(program, [end], description.read(sign))
     process.begin(b"state" if end == "sign" else b"status", sign or program)
@@ -120,7 +120,9 @@ def main() -> int:
     words.add_argument("--sign", help="a description, as in signs/; else the bench sign")
     asked = words.parse_args()
     model = str(TOP / "model/signtool")
-    ends = {end: [begun(program, end, asked.sign) for program in (asked.signtool, model)] for end in ("sign", "centre")}
+    ends = {
+        end: [_begun(program, end, asked.sign) for program in (asked.signtool, model)] for end in ("sign", "centre")
+    }
     lines, passed, failed = Lines(random.Random(asked.seed), datagrams()), 0, 0
     for _ in range(asked.count):
         end, other = lines.chance.choice([("sign", "centre"), ("centre", "sign")])

@@ -20,7 +20,7 @@ from model.text import World
 from trials import program_model
 from wisangub.process.places import SIGNTOOL, program
 
-NUMBERS = [0, 1, 2, 3, 4, 5, 6, 7, 8, 9, 10, 60, 255, 256, 65535, 65536, -1, 2**31 - 1, 2**32 - 1]
+_NUMBERS = [0, 1, 2, 3, 4, 5, 6, 7, 8, 9, 10, 60, 255, 256, 65535, 65536, -1, 2**31 - 1, 2**32 - 1]
 
 
 class Cases:
@@ -133,7 +133,7 @@ class Cases:
                 ]
             )
         if held[0] == wire.INTEGER:
-            return wire.INTEGER, self.one([6, 7, 8] if name[-3:-2] == (9,) and self.random.randrange(5) else NUMBERS)
+            return wire.INTEGER, self.one([6, 7, 8] if name[-3:-2] == (9,) and self.random.randrange(5) else _NUMBERS)
         if name == DMS + (6, 3, 0):
             return wire.OCTETS, self.code(sign).octets(sign.state.swapped)
         if name[len(DMS)] == 6:
@@ -155,7 +155,7 @@ class Cases:
         names = [self.name(sign) for _ in range(self.one([0, 1, 1, 1, 2, 3, 60]))]
         bindings = [(name, self.value(name, sign) if kind == wire.SET else (wire.NULL, b"")) for name in names]
         community = self.one([sign.state.writer] * 6 + [sign.state.reader, b"other"])
-        octets = wire.written(wire.Message(kind, community, self.one(NUMBERS), 0, 0, bindings))
+        octets = wire.written(wire.Message(kind, community, self.one(_NUMBERS), 0, 0, bindings))
         return octets if len(octets) <= wire.MOST_DATAGRAM else self.request(sign)
 
     # --- scripts --------------------------------------------------------------------------------------------------

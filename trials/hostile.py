@@ -34,7 +34,7 @@ from wisangub.tester.requests.hostile_datagrams import Datagram, Maker, all_to_s
 
 from .doors import hostile_udp
 
-MOST_INPUT = 1_048_576
+_MOST_INPUT = 1_048_576
 
 # the events of a publication of the text "A" in row 1 of changeable memory, and what a report of them says
 PUBLICATION = [
@@ -56,15 +56,15 @@ PUBLICATION = [
     "to-sign 6",
     "to-centre 6",
 ]
-SHOWN = "shown 3 1 9a66 mode 8 priority 200 remaining 65535 text 41"
-CODE = "ffffff0300019a66c0000201"
-ACCEPTED_BY = "to-sign 6"
+_SHOWN = "shown 3 1 9a66 mode 8 priority 200 remaining 65535 text 41"
+_CODE = "ffffff0300019a66c0000201"
+_ACCEPTED_BY = "to-sign 6"
 
 
-Script = tuple[str, int, list[str]]  # the script, how many hostile datagrams it has, and the report that is foretold
+_Script = tuple[str, int, list[str]]  # the script, how many hostile datagrams it has, and the report that is foretold
 
 
-class Shares(Protocol):
+class _Shares(Protocol):
     """Hostile datagrams before an event: by the number that the centre waits for, how many there may be, and the
     event."""
 
@@ -74,10 +74,10 @@ class Shares(Protocol):
         """Those before this event."""
 
 
-def script(count: int, shares: Shares) -> Script:
+def script(count: int, shares: _Shares) -> _Script:
     """The script with at most this many hostile datagrams, how many it has, and the report that is foretold. `shares`
     gives those for each event, by the number that the centre waits for."""
-    room = (MOST_INPUT - 2000) // len(PUBLICATION)
+    room = (_MOST_INPUT - 2000) // len(PUBLICATION)
     lines, done, waiting, replies, events, accepted = ["bench"], 0, 1, 0, 0, 0
     own = []
     for event in PUBLICATION:
@@ -93,15 +93,15 @@ def script(count: int, shares: Shares) -> Script:
         if event.startswith("to-sign"):
             own.append(replies)
             replies += 1
-            accepted = events if event == ACCEPTED_BY else accepted
+            accepted = events if event == _ACCEPTED_BY else accepted
             lines.append(event)
         elif event.startswith("to-centre"):
             lines.append(f"to-centre {own[int(event.split()[1])]}")
             waiting += 1
         else:
             lines.append(event)
-    report = [f"events {events}", f"sent 7 {replies}", SHOWN, f"accepted {accepted} {CODE}"]
-    report.append(f"ledger 7 {CODE} accepted")
+    report = [f"events {events}", f"sent 7 {replies}", _SHOWN, f"accepted {accepted} {_CODE}"]
+    report.append(f"ledger 7 {_CODE} accepted")
     return "\n".join(lines) + "\n", done, report
 
 
@@ -117,7 +117,7 @@ class Random:
         return itertools.islice(random_ones(self.maker, waiting), min(self.share, left))
 
 
-class Given:
+class _Given:
     """These datagrams, all while the centre waits for the first reply."""
 
     is_even = False
@@ -129,26 +129,26 @@ class Given:
         return self.given if event == "to-sign 0" else []
 
 
-def near_scripts() -> Iterator[Script]:
+def _near_scripts() -> Iterator[_Script]:
     """The datagrams of `near` in scripts that are short enough."""
     given, size = [], 0
     for to, octets in near():
         given.append((to, octets))
         size += 15 + 2 * len(octets)
-        if size > MOST_INPUT - 2000:
-            yield script(len(given), Given(given))
+        if size > _MOST_INPUT - 2000:
+            yield script(len(given), _Given(given))
             given, size = [], 0
-    yield script(len(given), Given(given))
+    yield script(len(given), _Given(given))
 
 
-def random_scripts(maker: Maker, count: int) -> Iterator[Script]:
+def _random_scripts(maker: Maker, count: int) -> Iterator[_Script]:
     while count > 0:
         made = script(count, Random(maker, count))
         count -= made[1]
         yield made
 
 
-def over_udp(asked: argparse.Namespace, maker: Maker) -> int:
+def _over_udp(asked: argparse.Namespace, maker: Maker) -> int:
     """To a sign's door."""
     with tempfile.TemporaryDirectory() as folder:
         trial = Trial(os.path.abspath(asked.program), False, maker.random, pathlib.Path(folder))
@@ -185,9 +185,9 @@ def main() -> int:
         print(f"no program at {asked.program}: tools/build.py builds it", file=sys.stderr)
         return 2
     if asked.udp or asked.door:
-        return over_udp(asked, maker)
+        return _over_udp(asked, maker)
     passed = failed = 0
-    for text, done, report in itertools.chain(near_scripts(), random_scripts(maker, asked.count)):
+    for text, done, report in itertools.chain(_near_scripts(), _random_scripts(maker, asked.count)):
         ended, seconds = run(asked.program, text)
         if ended.returncode == 0 and ended.stdout.decode().splitlines() == report and not ended.stderr:
             passed += 1

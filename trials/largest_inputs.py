@@ -11,9 +11,9 @@ from model.objects import DMS
 from trials import memory_cases
 
 TOP = pathlib.Path(__file__).resolve().parent.parent
-MOST_INPUT = 1_048_576
-MOST_LINE = 65_536
-MANY_LINES = 10_000
+_MOST_INPUT = 1_048_576
+_MOST_LINE = 65_536
+_MANY_LINES = 10_000
 HEAD = """size 256 64
 communities {reader} {writer}
 rows 64 16
@@ -38,18 +38,18 @@ class Case:
     said: str = ""
 
 
-def filled(begin: str, line: str, end: str = "") -> bytes:
+def _filled(begin: str, line: str, end: str = "") -> bytes:
     """A text of as many octets as an input may have at most: this line again and again, between a begin and an end."""
-    count = (MOST_INPUT - len(begin) - len(end)) // len(line)
+    count = (_MOST_INPUT - len(begin) - len(end)) // len(line)
     return (begin + line * count + end).encode()
 
 
-def padded(begin: str, end: str) -> bytes:
+def _padded(begin: str, end: str) -> bytes:
     """A text of as many octets as an input may have, with one long line that is no line of it."""
-    return (begin + "#" * (MOST_INPUT - len(begin) - len(end) - 1) + "\n" + end).encode()
+    return (begin + "#" * (_MOST_INPUT - len(begin) - len(end) - 1) + "\n" + end).encode()
 
 
-def count_of(octets: bytes) -> int:
+def _count_of(octets: bytes) -> int:
     return octets.count(b"\n")
 
 
@@ -66,28 +66,28 @@ def rows(count: int, text: str) -> str:
     return f"permanent {text.encode().hex()} {'6f' * 127} 1 1 255\n" * count
 
 
-FULL = "[jl3]" * 102 + "AA"
-LARGEST_SIGN = padded(HEAD + rows(16, FULL) + fonts(), "end\n")
-SMALL_FONT = "font 1 height 1 space 0 line 0 version 0000\n"
+_FULL = "[jl3]" * 102 + "AA"
+_LARGEST_SIGN = _padded(HEAD + rows(16, _FULL) + fonts(), "end\n")
+_SMALL_FONT = "font 1 height 1 space 0 line 0 version 0000\n"
 
 
-def refused_descriptions() -> Iterator[tuple[str, bytes, int]]:
+def _refused_descriptions() -> Iterator[tuple[str, bytes, int]]:
     """Descriptions at fault, with the line of the fault."""
-    yield "a fault on the first line", padded("x\n", ""), 1
-    for name, line in (("rows", "permanent - - 0 0 0\n"), ("fonts", SMALL_FONT), ("comments", "# a comment\n")):
-        begin = HEAD if name == "rows" else HEAD + SMALL_FONT
+    yield "a fault on the first line", _padded("x\n", ""), 1
+    for name, line in (("rows", "permanent - - 0 0 0\n"), ("fonts", _SMALL_FONT), ("comments", "# a comment\n")):
+        begin = HEAD if name == "rows" else HEAD + _SMALL_FONT
         for what, end in (("a word that is none, after {}", "x\n"), ("no end, after {}", "")):
-            text = filled(begin, line, end)
-            yield what.format(name), text, count_of(text) + (not end)
+            text = _filled(begin, line, end)
+            yield what.format(name), text, _count_of(text) + (not end)
     for name, text in (
-        ("rows", filled(HEAD, "permanent - - 0 0 0\n", SMALL_FONT + "end\n")),
-        ("fonts", filled(HEAD, SMALL_FONT, "end\n")),
+        ("rows", _filled(HEAD, "permanent - - 0 0 0\n", _SMALL_FONT + "end\n")),
+        ("fonts", _filled(HEAD, _SMALL_FONT, "end\n")),
     ):
-        yield f"too many {name}", text, count_of(text)
-    text = filled(HEAD + SMALL_FONT, "\n", "x\n")
-    yield "a word that is none, after empty lines", text, count_of(text)
-    glyphs = filled(HEAD + fonts(4, 200), f"glyph 65535 32 {'a5' * 128}\n")
-    yield "a character that stands twice", glyphs, count_of((HEAD + fonts(4, 200)).encode()) + 2
+        yield f"too many {name}", text, _count_of(text)
+    text = _filled(HEAD + _SMALL_FONT, "\n", "x\n")
+    yield "a word that is none, after empty lines", text, _count_of(text)
+    glyphs = _filled(HEAD + fonts(4, 200), f"glyph 65535 32 {'a5' * 128}\n")
+    yield "a character that stands twice", glyphs, _count_of((HEAD + fonts(4, 200)).encode()) + 2
 
 
 def descriptions() -> Iterator[Case]:
@@ -105,14 +105,14 @@ def descriptions() -> Iterator[Case]:
     for call in calls:
         short = " ".join(word for word in call if len(word) < 10)
         is_dropped = call[0] == "answer"
-        yield Case(f"{short}: the largest sign", call, LARGEST_SIGN, int(is_dropped), "dropped" if is_dropped else "")
-        for name, text, line in refused_descriptions():
+        yield Case(f"{short}: the largest sign", call, _LARGEST_SIGN, int(is_dropped), "dropped" if is_dropped else "")
+        for name, text, line in _refused_descriptions():
             first = f'{{"refused":"line {line}"}}' if "--json" in call else f"line {line}"
             yield Case(f"{short}: {name}", call, text, 1, first, f"line {line}: ")
         yield Case(
             f"{short}: one octet too many",
             call,
-            LARGEST_SIGN + b"\n" if call[0] not in ("sign", "centre") else LARGEST_SIGN[:-4] + b"\nend\n",
+            _LARGEST_SIGN + b"\n" if call[0] not in ("sign", "centre") else _LARGEST_SIGN[:-4] + b"\nend\n",
             1,
             '{"refused":"too long"}' if "--json" in call else "too long",
         )
@@ -121,7 +121,7 @@ def descriptions() -> Iterator[Case]:
 def texts() -> Iterator[Case]:
     """Texts of 512 octets, longer ones, and what is at fault with each."""
     shapes = {
-        "tags": (FULL, "ok pages 1"),
+        "tags": (_FULL, "ok pages 1"),
         "characters of tags": ("[[" * 256, "fault 5 at"),
         "a tag without an end": ("[" + "1" * 511, "fault"),
         "ends of tags": ("]" * 512, "fault"),
@@ -183,30 +183,30 @@ def requests() -> Iterator[Case]:
 def scripts() -> Iterator[Case]:
     """Scripts of as many and as long lines as there is room for."""
     for line in ("sign-tick\n", "centre-tick\n", "centre-restart\n", "power-lost\n", "to-sign 0\n", "forge-sign -\n"):
-        text = filled("bench\n", line)
-        yield Case(f"replay: {line.strip()}", ("replay",), text, 0, f"events {count_of(text) - 1}")
-        text = filled("bench\n", line, "x\n")
-        number = count_of(text)
+        text = _filled("bench\n", line)
+        yield Case(f"replay: {line.strip()}", ("replay",), text, 0, f"events {_count_of(text) - 1}")
+        text = _filled("bench\n", line, "x\n")
+        number = _count_of(text)
         yield Case(f"replay: {line.strip()}, then no event", ("replay",), text, 1, f"line {number}", f"line {number}: ")
     text = b"bench\n" + b"sign-tick\n" * 104_800 + b"x\n"
     yield Case("replay: no event after 104,800", ("replay",), text, 1, "line 104802", "line 104802: ")
     yield Case(
-        "replay: one long word", ("replay",), b"bench\n" + b"x" * (MOST_INPUT - 7) + b"\n", 1, "line 2", "line 2: "
+        "replay: one long word", ("replay",), b"bench\n" + b"x" * (_MOST_INPUT - 7) + b"\n", 1, "line 2", "line 2: "
     )
-    words = b"bench\nsign-tick" + b" x" * ((MOST_INPUT - 16) // 2) + b"\n"
+    words = b"bench\nsign-tick" + b" x" * ((_MOST_INPUT - 16) // 2) + b"\n"
     yield Case("replay: many words", ("replay",), words, 1, "line 2", "line 2: ")
     for name, octets in datagrams():
         for end in ("sign", "centre"):
-            text = filled("bench\n", f"forge-{end} {octets[: wire.MOST_DATAGRAM].hex()}\n")
-            yield Case(f"replay: {name}, to the {end}", ("replay",), text, 0, f"events {count_of(text) - 1}")
-    publish = f"publish 3 1 {FULL.encode().hex()} {'6f' * 127} 0 0 200 65535 255 192.0.2.1\n"
-    text = filled("bench\n", publish + "centre-restart\n")
-    yield Case("replay: publications", ("replay",), text, 0, f"events {count_of(text) - 1}")
-    text = filled("bench\n", "blank 5 60 255 192.0.2.1\nto-sign 0\ncentre-restart\n")
-    yield Case("replay: activations", ("replay",), text, 0, f"events {count_of(text) - 1}")
+            text = _filled("bench\n", f"forge-{end} {octets[: wire.MOST_DATAGRAM].hex()}\n")
+            yield Case(f"replay: {name}, to the {end}", ("replay",), text, 0, f"events {_count_of(text) - 1}")
+    publish = f"publish 3 1 {_FULL.encode().hex()} {'6f' * 127} 0 0 200 65535 255 192.0.2.1\n"
+    text = _filled("bench\n", publish + "centre-restart\n")
+    yield Case("replay: publications", ("replay",), text, 0, f"events {_count_of(text) - 1}")
+    text = _filled("bench\n", "blank 5 60 255 192.0.2.1\nto-sign 0\ncentre-restart\n")
+    yield Case("replay: activations", ("replay",), text, 0, f"events {_count_of(text) - 1}")
 
 
-def conversations() -> Iterator[Case]:
+def _conversations() -> Iterator[Case]:
     """Co-processes that are handed many and long lines."""
     signs = ["tick", "ticks 60", "show", "state", "heard", "power-back 1", "x", ""]
     signs += [f"datagram {octets[: wire.MOST_DATAGRAM].hex()}" for _, octets in datagrams()]
@@ -215,16 +215,16 @@ def conversations() -> Iterator[Case]:
     for call, lines in (("sign", signs), ("centre", centres)):
         for line in lines:
             short = line if len(line) < 30 else f"{line[:30]}.."
-            yield Case(f"{call}: {MANY_LINES} times '{short}'", (call,), f"{line}\n".encode() * MANY_LINES)
-        for size in (MOST_LINE, MOST_LINE + 1, MOST_INPUT, 8 * MOST_INPUT):
+            yield Case(f"{call}: {_MANY_LINES} times '{short}'", (call,), f"{line}\n".encode() * _MANY_LINES)
+        for size in (_MOST_LINE, _MOST_LINE + 1, _MOST_INPUT, 8 * _MOST_INPUT):
             yield Case(f"{call}: a line of {size} octets", (call,), b"x" * size + b"\nstate\n", 0, "bad line")
         words = b"datagram" + b" 00" * 20_000 + b"\n"
         yield Case(f"{call}: a line of many words", (call,), words, 0, "bad line")
-    pairs = b"blank 5 60 255 192.0.2.1\nrestart\n" * (MANY_LINES // 2) + b"status\n"
+    pairs = b"blank 5 60 255 192.0.2.1\nrestart\n" * (_MANY_LINES // 2) + b"status\n"
     yield Case("centre: a long ledger", ("centre",), pairs, 0, "send ")
     for call in ("sign", "centre"):
         yield Case(
-            f"{call}: the largest sign, and lines", (call, "--sign"), LARGEST_SIGN + b"tick\n" * MANY_LINES, 0, "ok"
+            f"{call}: the largest sign, and lines", (call, "--sign"), _LARGEST_SIGN + b"tick\n" * _MANY_LINES, 0, "ok"
         )
 
 
@@ -233,6 +233,6 @@ def cases() -> Iterator[Case]:
     yield from requests()
     yield from descriptions()
     yield from scripts()
-    yield from conversations()
+    yield from _conversations()
     yield Case("no words", (), b"", 2)
     yield Case("help", ("--help",), b"", 2)

@@ -47,14 +47,14 @@ from .doors import (
     year,
 )
 
-ENOUGH = 95.0  # seconds of the short form, after which no other kind of trial begins
-MOST_PATIENCE = 60.0  # seconds that anything is waited for in the short form
-MOST_IN_ALL = 380.0  # seconds of the short form, after which all ends where it stands: the gate gives it 400
+_ENOUGH = 95.0  # seconds of the short form, after which no other kind of trial begins
+_MOST_PATIENCE = 60.0  # seconds that anything is waited for in the short form
+_MOST_IN_ALL = 380.0  # seconds of the short form, after which all ends where it stands: the gate gives it 400
 LONG = 4 * 3600.0  # seconds that a kind of trial may take in the long form
 
 
 @dataclass(frozen=True)
-class Kind:
+class _Kind:
     """A kind of trial, and the seconds of the short form after which it begins no more lives: on a machine that is busy
     there are fewer. It is ended after so long and twice what is waited for."""
 
@@ -63,29 +63,29 @@ class Kind:
     is_ours: bool = False  # it is of the parts of our doors, or of a centre's door
 
 
-KINDS = {
-    "parts": Kind(parts.run, is_ours=True),
-    "kills": Kind(lambda trial: kills.run(trial, 24 if trial.is_short else 1000), 11.0),
-    "faults": Kind(faults.run, 8.0),
-    "centres": Kind(lambda trial: centres.run(trial, 6 if trial.is_short else 200), 11.0, True),
-    "files": Kind(files.run, 6.0),
-    "bits": Kind(bits.run, 6.0),
-    "gets": Kind(gets.run),
-    "spelled": Kind(spelled.run, 4.0, True),
-    "strangers": Kind(strangers.run, 6.0, True),
-    "disks": Kind(disks.run, 4.0),
-    "downs": Kind(downs.run),
-    "stops": Kind(stops.run, 8.0),
-    "streams": Kind(streams.run, 4.0),
-    "words": Kind(words.run, 8.0, True),
-    "operators": Kind(operators.run, 8.0, True),
-    "logs": Kind(logs.run, 3.0, True),
-    "year": Kind(year.run, 3.0),
-    "speed": Kind(speed.run, 3.0),
+_KINDS = {
+    "parts": _Kind(parts.run, is_ours=True),
+    "kills": _Kind(lambda trial: kills.run(trial, 24 if trial.is_short else 1000), 11.0),
+    "faults": _Kind(faults.run, 8.0),
+    "centres": _Kind(lambda trial: centres.run(trial, 6 if trial.is_short else 200), 11.0, True),
+    "files": _Kind(files.run, 6.0),
+    "bits": _Kind(bits.run, 6.0),
+    "gets": _Kind(gets.run),
+    "spelled": _Kind(spelled.run, 4.0, True),
+    "strangers": _Kind(strangers.run, 6.0, True),
+    "disks": _Kind(disks.run, 4.0),
+    "downs": _Kind(downs.run),
+    "stops": _Kind(stops.run, 8.0),
+    "streams": _Kind(streams.run, 4.0),
+    "words": _Kind(words.run, 8.0, True),
+    "operators": _Kind(operators.run, 8.0, True),
+    "logs": _Kind(logs.run, 3.0, True),
+    "year": _Kind(year.run, 3.0),
+    "speed": _Kind(speed.run, 3.0),
 }
 
 
-def tried(trial: Trial, name: str, kind: Kind) -> float:
+def tried(trial: Trial, name: str, kind: _Kind) -> float:
     """A kind of trial; what hangs in it, or is no fault that it expects, is counted as failed. The seconds that were
     lost so."""
     begun, lost = time.monotonic(), 0.0
@@ -101,13 +101,13 @@ def tried(trial: Trial, name: str, kind: Kind) -> float:
     return lost
 
 
-def all_tried(trial: Trial, only: str | None) -> None:
+def _all_tried(trial: Trial, only: str | None) -> None:
     """Each kind of trial, or one alone; in the short form as many as there is time for."""
-    enough = time.monotonic() + ENOUGH
-    PACE.most = MOST_PATIENCE if trial.is_short else PACE.most
+    enough = time.monotonic() + _ENOUGH
+    PACE.most = _MOST_PATIENCE if trial.is_short else PACE.most
     trial.measure()
     print(f"a door starts in {PACE.start():.2f} s: waits of at most {PACE.patience():.0f} s", flush=True)
-    kinds = [(name, kind) for name, kind in KINDS.items() if only in (None, name)]
+    kinds = [(name, kind) for name, kind in _KINDS.items() if only in (None, name)]
     for at, (name, kind) in enumerate(kinds):
         if kind.is_ours and not trial.is_ours(name):
             continue
@@ -125,18 +125,18 @@ def main() -> int:
     options.add_argument("--short", action="store_true", help="at most two minutes")
     options.add_argument("--seed", type=int, default=1)
     options.add_argument("--door", metavar="PATH", help="another sign's door, such as examples/out/signd")
-    options.add_argument("--only", choices=sorted(KINDS), help="one kind of trial alone")
+    options.add_argument("--only", choices=sorted(_KINDS), help="one kind of trial alone")
     asked = options.parse_args()
     if not os.access(asked.program, os.X_OK):
         print(f"no program at {asked.program}: tools/build.py builds it", file=sys.stderr)
         return 2
     if asked.short:
-        faulthandler.dump_traceback_later(MOST_IN_ALL, exit=True)
+        faulthandler.dump_traceback_later(_MOST_IN_ALL, exit=True)
     with tempfile.TemporaryDirectory() as folder:
         trial = Trial(os.path.abspath(asked.program), asked.short, random.Random(asked.seed), pathlib.Path(folder))
         trial.other = os.path.abspath(asked.door) if asked.door else None
         try:
-            all_tried(trial, asked.only)
+            _all_tried(trial, asked.only)
         finally:
             trial.end()
     print(f"{trial.passed} passed, {trial.failed} failed" + (f", {trial.skipped} skipped" if trial.skipped else ""))

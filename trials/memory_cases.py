@@ -19,11 +19,11 @@ from wisangub.tester.hostile_datagrams import Maker
 TOP = pathlib.Path(__file__).resolve().parent.parent
 READER, WRITER = b"public", b"admin"
 STATUS, TEXT = (DMS + (5, 8, 1, column, 3, 1) for column in (9, 3))
-SHORT_POWER_LOSS_TIME, END_DURATION_MESSAGE = DMS + (6, 10, 0), DMS + (6, 15, 0)
-LAST_STATUS = DMS + (5, 8, 1, 9, 7, 255)
-MODIFY = 6
+SHORT_POWER_LOSS_TIME, _END_DURATION_MESSAGE = DMS + (6, 10, 0), DMS + (6, 15, 0)
+_LAST_STATUS = DMS + (5, 8, 1, 9, 7, 255)
+_MODIFY = 6
 NULL = (wire.NULL, b"")
-MANY_NAMES = [(1, 3)] * 203 + [(1, 3, 6, 1), (2, 5)]
+_MANY_NAMES = [(1, 3)] * 203 + [(1, 3, 6, 1), (2, 5)]
 
 
 @dataclass(frozen=True)
@@ -44,7 +44,7 @@ def get(*names: tuple[int, ...]) -> bytes:
 def answers() -> dict[str, bytes]:
     """Datagrams to the bench sign."""
     one = get(STATUS)
-    many = request(wire.GET_NEXT, READER, *((name, NULL) for name in MANY_NAMES), number=2**31 - 1)
+    many = request(wire.GET_NEXT, READER, *((name, NULL) for name in _MANY_NAMES), number=2**31 - 1)
     assert len(many) == wire.MOST_DATAGRAM
     return {
         "get": one,
@@ -53,27 +53,27 @@ def answers() -> dict[str, bytes]:
         "trailing": one + b"\0",
         "other-community": request(wire.GET, b"private", (STATUS, NULL)),
         "reader-sets": request(wire.SET, READER, (SHORT_POWER_LOSS_TIME, (wire.INTEGER, 5))),
-        "get-next-past-the-table": request(wire.GET_NEXT, READER, (LAST_STATUS, NULL), number=2),
+        "get-next-past-the-table": request(wire.GET_NEXT, READER, (_LAST_STATUS, NULL), number=2),
         "get-next-of-205-names": many,
     }
 
 
-def talks() -> dict[str, list[bytes]]:
+def _talks() -> dict[str, list[bytes]]:
     """Datagrams to a live sign, each of which finds what those before it left."""
-    settings = (SHORT_POWER_LOSS_TIME, (wire.INTEGER, 5)), (END_DURATION_MESSAGE, (wire.OCTETS, b"\x07\x00\x01\x00"))
+    settings = (SHORT_POWER_LOSS_TIME, (wire.INTEGER, 5)), (_END_DURATION_MESSAGE, (wire.OCTETS, b"\x07\x00\x01\x00"))
     return {
         "a-good-and-a-bad-value": [request(wire.SET, WRITER, *settings), get(SHORT_POWER_LOSS_TIME)],
         "three-long-texts": [
-            request(wire.SET, WRITER, (STATUS, (wire.INTEGER, MODIFY))),
+            request(wire.SET, WRITER, (STATUS, (wire.INTEGER, _MODIFY))),
             request(wire.SET, WRITER, (TEXT, (wire.OCTETS, b"A" * 512))),
             get(TEXT, TEXT, TEXT),
         ],
     }
 
 
-def calls() -> list[Call]:
+def _calls() -> list[Call]:
     made = [Call(name, ["answer", octets.hex()]) for name, octets in answers().items()]
-    for name, datagrams in talks().items():
+    for name, datagrams in _talks().items():
         made.append(Call(name, ["sign"], "".join(f"datagram {octets.hex()}\n" for octets in datagrams).encode()))
     made.append(Call("publication", ["replay"], "\n".join(["bench", *hostile.PUBLICATION, ""]).encode()))
     made.append(Call("hostile", ["replay"], hostile.script(100, hostile.Random(Maker(1), 100))[0].encode()))
@@ -94,7 +94,7 @@ def main() -> None:
     words = argparse.ArgumentParser(description=__doc__, formatter_class=argparse.RawDescriptionHelpFormatter)
     words.add_argument("folder", type=pathlib.Path)
     folder = words.parse_args().folder
-    for call in calls():
+    for call in _calls():
         (folder / f"{call.name}.words").write_text("".join(word + "\n" for word in call.words), encoding="ascii")
         (folder / f"{call.name}.input").write_bytes(call.stdin)
 

@@ -25,12 +25,12 @@ from model import layout, text
 from wisangub.process.places import SIGNTOOL, program
 
 TOP = pathlib.Path(__file__).resolve().parent.parent
-SHADES = ["#000000", "#ff0000", "#ffff00", "#00ff00", "#00ffff", "#0000ff", "#ff00ff", "#ffffff", "#ff8000", "#ffbf00"]
-LAMP = 8
-READ_TENTHS = 200
+_SHADES = ["#000000", "#ff0000", "#ffff00", "#00ff00", "#00ffff", "#0000ff", "#ff00ff", "#ffffff", "#ff8000", "#ffbf00"]
+_LAMP = 8
+_READ_TENTHS = 200
 
 # what the file is called, the sign, the text, the page alone or none, and the moments in tenths of a second
-PICTURES = [
+_PICTURES = [
     ("lanes", "gantry", "[fo3][cf9]RIGHT LANE[nl][fo2]CLOSED 800 m[nl3][fo1][cf7]MERGE LEFT", None, [0]),
     ("fog", "roadside", "[pt20o5][fo2][flt5o5]FOG[/fl] AHEAD[np][fo1]SLOW DOWN[nl]MAX 60", None, [2, 7, 27]),
     ("alone", "roadside", "[pt20o5][fo2][flt5o5]FOG[/fl] AHEAD[np][fo1]SLOW DOWN[nl]MAX 60", 1, [0, 7]),
@@ -41,7 +41,7 @@ PICTURES = [
 ]
 
 
-def pixels(path: pathlib.Path) -> Iterator[list[bytes]]:
+def _pixels(path: pathlib.Path) -> Iterator[list[bytes]]:
     """The rows of a PNG file's pixels, each pixel as three octets."""
     octets = path.read_bytes()
     at, data = 8, b""
@@ -62,12 +62,12 @@ def pixels(path: pathlib.Path) -> Iterator[list[bytes]]:
         for x in range(stride):
             left = row[x - channels] if x >= channels else 0
             corner = before[x - channels] if x >= channels else 0
-            row[x] = (row[x] + predicted(kind, left, before[x], corner)) & 255
+            row[x] = (row[x] + _predicted(kind, left, before[x], corner)) & 255
         before = row
         yield [bytes(row[x : x + 3]) for x in range(0, stride, channels)]
 
 
-def predicted(kind: int, left: int, above: int, corner: int) -> int:
+def _predicted(kind: int, left: int, above: int, corner: int) -> int:
     """What a PNG filter takes a sample for."""
     if kind == 4:
         guess = left + above - corner
@@ -77,18 +77,18 @@ def predicted(kind: int, left: int, above: int, corner: int) -> int:
 
 def wanted(face: layout.Face, pages: list[layout.Page], alone: int | None, tenth: int) -> list[list[str]]:
     """The shade of each lamp at a moment."""
-    dark = [[SHADES[0]] * face.width for _ in range(face.height)]
-    page, since = up(pages, tenth) if alone is None else (pages[alone - 1], None)
+    dark = [[_SHADES[0]] * face.width for _ in range(face.height)]
+    page, since = _up(pages, tenth) if alone is None else (pages[alone - 1], None)
     if page is None:
         return dark
     rows = []
     for row in layout.cells(face, page):
-        shades = [page.back if cell is None or not is_lit(cell[1], since) else cell[0] for cell in row]
-        rows.append([SHADES[shade] for shade in shades])
+        shades = [page.back if cell is None or not _is_lit(cell[1], since) else cell[0] for cell in row]
+        rows.append([_SHADES[shade] for shade in shades])
     return rows
 
 
-def up(pages: list[layout.Page], tenth: int) -> tuple[layout.Page | None, int]:
+def _up(pages: list[layout.Page], tenth: int) -> tuple[layout.Page | None, int]:
     """The page that is up, and for how long it has been. A message of one page without an off time stays, and so do
     pages without any time, the last above the others."""
     total = sum(page.on + page.off for page in pages)
@@ -105,7 +105,7 @@ def up(pages: list[layout.Page], tenth: int) -> tuple[layout.Page | None, int]:
     raise AssertionError
 
 
-def is_lit(flash: layout.Flash | None, since: int | None) -> bool:
+def _is_lit(flash: layout.Flash | None, since: int | None) -> bool:
     if flash is None or since is None:
         return True
     first, lit, dark = flash
@@ -115,7 +115,7 @@ def is_lit(flash: layout.Flash | None, since: int | None) -> bool:
     return at < lit if first == "lit" else dark <= at
 
 
-def is_shown(element: xml.etree.ElementTree.Element, tenth: int) -> bool:
+def _is_shown(element: xml.etree.ElementTree.Element, tenth: int) -> bool:
     """Whether an element is to be seen: its animation, if it has one, has a value for each tenth of a second."""
     animation = element.find("{*}animate")
     if animation is None:
@@ -126,7 +126,7 @@ def is_shown(element: xml.etree.ElementTree.Element, tenth: int) -> bool:
 
 
 @functools.cache
-def lamps(path: str) -> list[tuple[int, int]]:
+def _lamps(path: str) -> list[tuple[int, int]]:
     """The lamps that a path draws: dots, or dashed lines over whole rows."""
     found = re.findall(r"M(\d+) (\d+)h(\d+)", path)
     return [(column, int(y)) for x, y, more in found for column in range(int(x), int(x) + int(more) + 1)]
@@ -136,9 +136,9 @@ def read(svg: xml.etree.ElementTree.Element, tenth: int, face: layout.Face) -> l
     """The shade of each lamp in a document at a moment."""
     rows = [[""] * face.width for _ in range(face.height)]
     for part in svg:
-        for path in (part, *part) if is_shown(part, tenth) else ():
-            if path.tag.endswith("path") and path.get("stroke") != "none" and is_shown(path, tenth):
-                for x, y in lamps(path.attrib["d"]):
+        for path in (part, *part) if _is_shown(part, tenth) else ():
+            if path.tag.endswith("path") and path.get("stroke") != "none" and _is_shown(path, tenth):
+                for x, y in _lamps(path.attrib["d"]):
                     rows[y][x] = path.attrib["stroke"]
     return rows
 
@@ -153,7 +153,7 @@ def shot(svg: str, tenth: int, face: layout.Face, folder: pathlib.Path, name: st
         encoding="ascii",
     )
     png = folder / f"{name}.png"
-    size = f"{LAMP * (face.width + 1)},{LAMP * (face.height + 1)}"
+    size = f"{_LAMP * (face.width + 1)},{_LAMP * (face.height + 1)}"
     subprocess.run(
         [
             "chromium",
@@ -174,16 +174,16 @@ def shot(svg: str, tenth: int, face: layout.Face, folder: pathlib.Path, name: st
     return png
 
 
-def compare(rows: list[list[bytes]], shades: list[list[str]]) -> int:
+def _compare(rows: list[list[bytes]], shades: list[list[str]]) -> int:
     """How many lamps have another colour in their middle."""
     wrong = 0
     for y, row in enumerate(shades):
-        line = rows[(y + 1) * LAMP]
-        wrong += sum(line[(x + 1) * LAMP] != bytes.fromhex(shade[1:]) for x, shade in enumerate(row))
+        line = rows[(y + 1) * _LAMP]
+        wrong += sum(line[(x + 1) * _LAMP] != bytes.fromhex(shade[1:]) for x, shade in enumerate(row))
     return wrong
 
 
-def document(program: str, sign: bytes, shown: str, alone: int | None) -> str:
+def _document(program: str, sign: bytes, shown: str, alone: int | None) -> str:
     call = ["pages", "--sign", "--svg", *([] if alone is None else ["--page", str(alone)]), "--", shown]
     ended = subprocess.run([program, *call], input=sign, capture_output=True, timeout=60, check=True)
     return ended.stdout.decode("ascii")
@@ -198,24 +198,24 @@ def main() -> int:
     passed = failed = 0
     with tempfile.TemporaryDirectory() as temporary:
         folder = pathlib.Path(asked.keep or temporary)
-        for name, sign, shown, alone, moments in PICTURES:
+        for name, sign, shown, alone, moments in _PICTURES:
             description = (TOP / "signs" / f"{sign}.sign").read_bytes()
             face = text.World(text.described(description)).sign.state.face
             pages, _ = layout.laid_out(face, face.defaults, shown.encode())
             assert pages is not None
-            svg = document(asked.program, description, shown, alone)
+            svg = _document(asked.program, description, shown, alone)
             parts = xml.etree.ElementTree.fromstring(svg)
             if len(svg) >= 400_000:
                 print(f"{name}: the document has {len(svg)} octets")
                 failed += 1
-            for tenth in range(READ_TENTHS) if asked.read else moments:
+            for tenth in range(_READ_TENTHS) if asked.read else moments:
                 shades = wanted(face, pages, alone, tenth)
                 if asked.read:
                     wrong = sum(
                         one != other for rows in zip(read(parts, tenth, face), shades) for one, other in zip(*rows)
                     )
                 else:
-                    wrong = compare(list(pixels(shot(svg, tenth, face, folder, f"{name}-{tenth}"))), shades)
+                    wrong = _compare(list(_pixels(shot(svg, tenth, face, folder, f"{name}-{tenth}"))), shades)
                 passed, failed = (passed, failed + 1) if wrong else (passed + 1, failed)
                 if wrong:
                     print(f"{name} at {tenth} tenths: {wrong} lamps have another colour")

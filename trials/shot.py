@@ -21,14 +21,14 @@ from wisangub.tester.report.page import as_html
 from wisangub.tester.report.picture import pictures
 from wisangub.tester.report.words import About, not_tested
 
-WRONG = ("parts_may_not_touch", "minutes_are_rounded_down")
+_WRONG = ("parts_may_not_touch", "minutes_are_rounded_down")
 SIGN = "signs/roadside.sign"
 
 
 def report() -> str:
     """The page of a sign that is wrong in two rules."""
     description = (TOP / SIGN).read_bytes()
-    wrong = sign_of([mutant for mutant in MUTANTS if mutant.name in WRONG], description)
+    wrong = sign_of([mutant for mutant in MUTANTS if mutant.name in _WRONG], description)
     session = bench.session(description, wrong, requests=500)
     results = bench.run(session)
     for difference in results.differences():
@@ -37,7 +37,7 @@ def report() -> str:
     return as_html(results, about, not_tested(session.context, results, ALL))
 
 
-def draw(page: pathlib.Path, picture: pathlib.Path, width: int, height: int) -> None:
+def _draw(page: pathlib.Path, picture: pathlib.Path, width: int, height: int) -> None:
     """The top of a page, of this size."""
     with tempfile.TemporaryDirectory() as folder:
         options = ["--headless", "--no-sandbox", "--disable-gpu", "--hide-scrollbars", f"--user-data-dir={folder}"]
@@ -60,7 +60,7 @@ def main() -> int:
         if asked.html is None:
             page.write_text(report(), encoding="utf-8")
         try:
-            draw(page, asked.picture, *asked.size)
+            _draw(page, asked.picture, *asked.size)
         except (OSError, subprocess.SubprocessError) as fault:
             print(fault, file=sys.stderr)
             return 2

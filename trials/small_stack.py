@@ -24,10 +24,10 @@ from .largest_inputs import Case, cases
 
 TOP = pathlib.Path(__file__).resolve().parent.parent
 SECONDS = 60.0
-MOST_SAID = 200
+_MOST_SAID = 200
 
 
-def ran(case: Case, program: str, stack: int, room: pathlib.Path) -> str:
+def _ran(case: Case, program: str, stack: int, room: pathlib.Path) -> str:
     """What is wrong with how a call ended; empty where nothing is."""
     given, out, err = room / "in", room / "out", room / "err"
     given.write_bytes(case.stdin)
@@ -43,7 +43,7 @@ def ran(case: Case, program: str, stack: int, room: pathlib.Path) -> str:
     with out.open("rb") as printed:
         begin = printed.read(4096).decode(errors="replace")
     said = err.read_text(encoding="utf-8", errors="replace")
-    what = f"it printed '{begin[:MOST_SAID]}' and said '{said[:MOST_SAID]}'"
+    what = f"it printed '{begin[:_MOST_SAID]}' and said '{said[:_MOST_SAID]}'"
     if status < 0 or status > 2:
         return f"it ended by signal {-status if status < 0 else status - 128}; {what}"
     if status != case.status and not (case.status < 0 and status < 2):
@@ -75,7 +75,7 @@ def main() -> int:
             if asked.list:
                 print(case.name)
                 continue
-            fault = ran(case, program, asked.stack, pathlib.Path(room))
+            fault = _ran(case, program, asked.stack, pathlib.Path(room))
             passed, failed = passed + (not fault), failed + bool(fault)
             if fault:
                 print(f"{case.name}: {fault}", flush=True)

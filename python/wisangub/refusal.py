@@ -23,14 +23,14 @@ def reason(fault: OSError) -> str:
     return f"{fault.filename}: {words}" if fault.filename else words
 
 
-def keep_standard_files() -> None:
+def _keep_standard_files() -> None:
     """The files 0, 1 and 2 are open, so that nothing that a door opens has their numbers."""
     while (file := os.open(os.devnull, os.O_RDWR)) < 3:
         pass
     os.close(file)
 
 
-def flushed() -> None:
+def _flushed() -> None:
     """What was printed is written, or nobody reads it."""
     try:
         if sys.stdout is not None:
@@ -41,7 +41,7 @@ def flushed() -> None:
 
 def status_of(door: Callable[[], int]) -> int:
     """The exit status of a door, its refusals in words on standard error."""
-    keep_standard_files()
+    _keep_standard_files()
     try:
         return door()
     except Refusal as refused:
@@ -56,4 +56,4 @@ def status_of(door: Callable[[], int]) -> int:
     except KeyboardInterrupt:
         return 1
     finally:
-        flushed()
+        _flushed()

@@ -22,14 +22,14 @@ def link_or_copy(one: str, other: str) -> None:
         shutil.copy2(one, other)
 
 
-def is_same(one: pathlib.Path, other: pathlib.Path) -> bool:
+def _is_same(one: pathlib.Path, other: pathlib.Path) -> bool:
     """Whether both are one library."""
     return (one / "format").exists() and (other / "format").exists() and (one / "format").samefile(other / "format")
 
 
-def give(made: pathlib.Path, to: pathlib.Path, stamp: str) -> None:
+def _give(made: pathlib.Path, to: pathlib.Path, stamp: str) -> None:
     """Puts a library where `rt` looks for it, with its sum of the sources."""
-    if not is_same(made, to):
+    if not _is_same(made, to):
         shutil.rmtree(to.parent, ignore_errors=True)
         to.parent.mkdir(parents=True)
         shutil.copytree(made, to, copy_function=link_or_copy)
@@ -53,5 +53,5 @@ def give_all(rt: ModuleType, proofs: Proofs) -> str:
         rt.Crate.allowed = rt.handles_of(str(TOP))
         for crate in rt.crates_of(str(TOP)):
             if crate.name in names and crate.makes_rlib():
-                give(proofs.made(crate.name), pathlib.Path(crate.rlib), crate.stamp())
+                _give(proofs.made(crate.name), pathlib.Path(crate.rlib), crate.stamp())
     return ""

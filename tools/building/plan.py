@@ -9,10 +9,10 @@ from dataclasses import dataclass
 
 TOP = pathlib.Path(__file__).resolve().parent.parent.parent
 PARTS = ("src", "specs", "proofs")
-OWN_WORK = 100  # what a check takes beside its lines of code, in lines; those of specs and proofs add next to nothing
-OF_BELOW = 12  # what each crate that it stands on adds: its statements are read before the first proof
-OF_LIBRARY = {"clap": 500}  # and what is much larger than those
-OWN_MEMORY, OF_CODE, OF_SPECS = 1_500_000_000, 1_000_000, 200_000  # octets: a check, a line of .rt, a line of .antt
+_OWN_WORK = 100  # what a check takes beside its lines of code, in lines; those of specs and proofs add next to nothing
+_OF_BELOW = 12  # what each crate that it stands on adds: its statements are read before the first proof
+_OF_LIBRARY = {"clap": 500}  # and what is much larger than those
+OWN_MEMORY, _OF_CODE, _OF_SPECS = 1_500_000_000, 1_000_000, 200_000  # octets: a check, a line of .rt, a line of .antt
 OF_JOB = 0.6  # what each further job of a check takes of its memory
 
 
@@ -50,8 +50,10 @@ class Plan:
         for path in (path for part in PARTS for path in (TOP / "crates" / name / part).rglob("*.*t")):
             lines[path.suffix] = lines.get(path.suffix, 0) + path.read_bytes().count(b"\n")
         code, specs = lines[".rt"], lines[".antt"]
-        read = OWN_WORK + OF_BELOW * len(self.below(name)) + sum(OF_LIBRARY.get(used, 0) for used in self.of_kit[name])
-        return Crate(name, self.uses[name], read + code, OWN_MEMORY + OF_CODE * code + OF_SPECS * specs)
+        read = (
+            _OWN_WORK + _OF_BELOW * len(self.below(name)) + sum(_OF_LIBRARY.get(used, 0) for used in self.of_kit[name])
+        )
+        return Crate(name, self.uses[name], read + code, OWN_MEMORY + _OF_CODE * code + _OF_SPECS * specs)
 
     @property
     def built(self) -> pathlib.Path:

@@ -11,7 +11,7 @@ from dataclasses import dataclass, field
 
 from .plan import OF_JOB, Crate
 
-AFTER_OTHERS = ("nice", "-n", "10")
+_AFTER_OTHERS = ("nice", "-n", "10")
 
 
 @dataclass
@@ -29,7 +29,7 @@ class Running:
     def start(self, words: list[str], log: pathlib.Path) -> Running:
         with open(log, "wb") as said:
             self.process = subprocess.Popen(
-                words if self.is_first else [*AFTER_OTHERS, *words],
+                words if self.is_first else [*_AFTER_OTHERS, *words],
                 cwd=self.folder,
                 process_group=0,  # and no session of its own, which would have a share of the processors of its own
                 stdin=subprocess.DEVNULL,

@@ -11,18 +11,18 @@ from typing import Protocol
 from .plan import OF_JOB, OWN_MEMORY, Crate, Plan
 from .running import Running
 
-PLANNED = 0.85  # how much of the free memory is planned on
+_PLANNED = 0.85  # how much of the free memory is planned on
 SECONDS_A_LINE = 0.15  # before the first crate is done
 MOST_JOBS = 4  # of one crate
-NEARLY = 0.95  # of the longest chain, which is known about
+_NEARLY = 0.95  # of the longest chain, which is known about
 
 
 def free_memory() -> float:
     found = re.search(r"MemAvailable:\s+(\d+)", pathlib.Path("/proc/meminfo").read_text(encoding="ascii"))
-    return PLANNED * 1024 * int(found[1]) if found else OWN_MEMORY
+    return _PLANNED * 1024 * int(found[1]) if found else OWN_MEMORY
 
 
-class Way(Protocol):
+class _Way(Protocol):
     """A way to prove a crate, once those below it are proved."""
 
     def begin(self, crate: Crate, jobs: int, is_first: bool) -> Running:
@@ -39,7 +39,7 @@ class Schedule:
         self.memory, self.seconds = free_memory(), 0.0
         self.timed: set[str] = set()  # those that this run proved
 
-    def start_ready(self, way: Way) -> None:
+    def start_ready(self, way: _Way) -> None:
         """Starts what is ready, the longest chain first, while there are processors and memory for it."""
         busy = {one.crate.name for one in self.running}
         unfinished = self.wanted - self.done
@@ -49,7 +49,7 @@ class Schedule:
         room = self.memory - sum(one.memory for one in self.running)
         for at, name in enumerate(ready):
             idle = self.processors - sum(one.processors for one in self.running)
-            crate, all_wait = self.plan.crates[name], self.plan.chain(name) >= NEARLY * longest
+            crate, all_wait = self.plan.crates[name], self.plan.chain(name) >= _NEARLY * longest
             # one more than there are processors for: a check reads and writes for a good part of its time
             if (idle <= 0 and not all_wait) or (self.running and crate.memory > room):
                 return
@@ -84,7 +84,7 @@ class Schedule:
         rest = f"some {self.left() / 60:.0f} minutes left"
         print(f"{len(self.done)} of {len(self.wanted)} crates: {what}; {rest}", file=sys.stderr, flush=True)
 
-    def run(self, way: Way) -> Running | None:
+    def run(self, way: _Way) -> Running | None:
         """Proves all that are wanted, and returns the first that failed."""
         self._print_progress("at the start")
         try:

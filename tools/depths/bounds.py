@@ -7,7 +7,7 @@ import re
 from dataclasses import dataclass
 
 Cycle = tuple[str, ...]
-MOST = 32  # a depth that is no small number is made a loop
+_MOST = 32  # a depth that is no small number is made a loop
 
 
 @dataclass(frozen=True)
@@ -27,7 +27,7 @@ class Bound:
 
     def fault(self, top: pathlib.Path) -> str:
         """What is wrong with the row, by the sources; empty where nothing is."""
-        if self.depth > MOST:
+        if self.depth > _MOST:
             return f"a depth of {self.depth} is no small number: a loop is wanted"
         for file, text in self.guards:
             if plain((top / file).read_text(encoding="utf-8")).count(text) != 1:
@@ -49,7 +49,7 @@ def plain(text: str) -> str:
 
 
 FONTS = "crates/dms_face/src/face.rt", r"pub const MAX_FONTS: usize = (\d+);"
-WHOLE = "crates/dms_sign_text_causes/src/whole.rt"
+_WHOLE = "crates/dms_sign_text_causes/src/whole.rt"
 INTEGER = "crates/dms_wire_ber/src/integer.rt"
 
 BOUNDS = (
@@ -65,7 +65,7 @@ BOUNDS = (
         5,
         "a call for each font, once these are known to be at most four",
         *FONTS,
-        guards=((WHOLE, "if fonts.len() > MAX_FONTS { return Some(SignCause::FifthFont); } number_twice(fonts)"),),
+        guards=((_WHOLE, "if fonts.len() > MAX_FONTS { return Some(SignCause::FifthFont); } number_twice(fonts)"),),
     ),
     Bound(
         ("dms_sign_text_causes::whole::rows_cause",),
@@ -74,7 +74,7 @@ BOUNDS = (
         "crates/dms_codes/src/limits.rt",
         r"pub const MAX_PERMANENT: usize = (\d+);",
         guards=(
-            (WHOLE, "if permanent > MAX_PERMANENT { Some(SignCause::PermanentRows)"),
+            (_WHOLE, "if permanent > MAX_PERMANENT { Some(SignCause::PermanentRows)"),
             (
                 "crates/dms_sign_text/src/sign_reasons.rt",
                 "counts_cause(permanent.len(), counts.changeable, counts.volatile) { return Some(cause); } rows_cause(",

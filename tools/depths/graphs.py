@@ -18,12 +18,12 @@ def cycles(calls: Calls) -> list[tuple[str, ...]]:
         if first in place:
             continue
         walk: list[tuple[str, Iterator[str]]] = []
-        enter(first, calls, place, lowest, open_names, walk)
+        _enter(first, calls, place, lowest, open_names, walk)
         while walk:
             name, others = walk[-1]
             for other in others:
                 if other not in place:
-                    enter(other, calls, place, lowest, open_names, walk)
+                    _enter(other, calls, place, lowest, open_names, walk)
                     break
                 if lowest[other] >= 0:
                     lowest[name] = min(lowest[name], place[other])
@@ -40,7 +40,7 @@ def cycles(calls: Calls) -> list[tuple[str, ...]]:
     return sorted(found)
 
 
-def enter(
+def _enter(
     name: str,
     calls: Calls,
     place: dict[str, int],

@@ -11,17 +11,17 @@ from dataclasses import dataclass, field
 
 from .graphs import Calls, cycles
 
-START = re.compile(r"([0-9a-f]+) <(.+)>:\n")
+_START = re.compile(r"([0-9a-f]+) <(.+)>:\n")
 STEP = re.compile(r"\s*[0-9a-f]+:\s+(?:bnd |notrack )?(call|j[a-z]+)\s+([0-9a-f]+) <")
-FAR = re.compile(r"\s*[0-9a-f]+:\s+(?:bnd |notrack )?call\s+\*(?!.*# [0-9a-f]+ <.*@)")
-TAKEN = re.compile(r"\s*[0-9a-f]+:\s+lea\s.*# ([0-9a-f]+) <")
-KEPT = re.compile(r"[0-9a-f]+\s+R_X86_64_RELATIVE\s+\*ABS\*\+0x([0-9a-f]+)")
-KIND = re.compile(r"::<#[0-9a-f]+>|@\w+$")
+_FAR = re.compile(r"\s*[0-9a-f]+:\s+(?:bnd |notrack )?call\s+\*(?!.*# [0-9a-f]+ <.*@)")
+_TAKEN = re.compile(r"\s*[0-9a-f]+:\s+lea\s.*# ([0-9a-f]+) <")
+_KEPT = re.compile(r"[0-9a-f]+\s+R_X86_64_RELATIVE\s+\*ABS\*\+0x([0-9a-f]+)")
+_KIND = re.compile(r"::<#[0-9a-f]+>|@\w+$")
 ANY = "a function by its address"
 
 
 @dataclass
-class Machine:
+class _Machine:
     """Calls by names, those that return and those that a function ends with."""
 
     calls: Calls = field(default_factory=dict)
@@ -32,10 +32,10 @@ class Machine:
         """Cycles that have a call which returns: one of jumps alone is a loop, which takes no stack."""
         both = {name: self.calls[name] | self.ends[name] for name in self.calls}
         deep = [cycle for cycle in cycles(both) if any(self.calls[name].intersection(cycle) for name in cycle)]
-        return sorted({tuple(sorted({KIND.sub("", name) for name in cycle})) for cycle in deep})
+        return sorted({tuple(sorted({_KIND.sub("", name) for name in cycle})) for cycle in deep})
 
 
-def printed(*words: str) -> str:
+def _printed(*words: str) -> str:
     return subprocess.run(["objdump", *words], capture_output=True, text=True, check=True).stdout
 
 
@@ -48,21 +48,21 @@ def whole(library: pathlib.Path, room: pathlib.Path) -> pathlib.Path:
     return linked
 
 
-def of_program(program: pathlib.Path) -> Machine:
+def of_program(program: pathlib.Path) -> _Machine:
     """What each function of a program calls. A call by an address may reach each function whose address is taken."""
-    return read(printed("-d", "--no-show-raw-insn", str(program)), printed("-R", str(program)))
+    return read(_printed("-d", "--no-show-raw-insn", str(program)), _printed("-R", str(program)))
 
 
-def read(code: str, kept: str) -> Machine:
+def read(code: str, kept: str) -> _Machine:
     lines = code.splitlines(keepends=True)
-    starts = sorted((int(found[1], 16), found[2]) for line in lines if (found := START.fullmatch(line)))
+    starts = sorted((int(found[1], 16), found[2]) for line in lines if (found := _START.fullmatch(line)))
     places = [place for place, _ in starts]
     shown: dict[str, int] = {}
     names = []
     for place, name in starts:
         shown[name] = shown.get(name, 0) + 1
         names.append(name if shown[name] == 1 else f"{name}@{place:x}")
-    whole = Machine({ANY: set()}, {ANY: set()})
+    whole = _Machine({ANY: set()}, {ANY: set()})
     for name in names:
         whole.calls[name], whole.ends[name] = set(), set()
 
@@ -71,7 +71,7 @@ def read(code: str, kept: str) -> Machine:
 
     here = ""
     for line in lines:
-        if found := START.fullmatch(line):
+        if found := _START.fullmatch(line):
             here = at(found[1])
         elif found := STEP.match(line):
             other = at(found[2])
@@ -79,11 +79,11 @@ def read(code: str, kept: str) -> Machine:
                 whole.calls[here].add(other)
             elif other != here:
                 whole.ends[here].add(other)
-        elif FAR.match(line):
+        elif _FAR.match(line):
             whole.by_address.add(here)
             whole.calls[here].add(ANY)
-        elif (found := TAKEN.match(line)) and int(found[1], 16) in places:
+        elif (found := _TAKEN.match(line)) and int(found[1], 16) in places:
             whole.calls[ANY].add(at(found[1]))
-    taken = {int(found, 16) for found in KEPT.findall(kept)}
+    taken = {int(found, 16) for found in _KEPT.findall(kept)}
     whole.calls[ANY].update(name for place, name in zip(places, names, strict=True) if place in taken)
     return whole

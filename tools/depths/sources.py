@@ -10,12 +10,12 @@ from typing import Any
 
 from .graphs import Calls, cycles
 
-MADE = "toolchain/mir.json"
-BUILT = ("crates/signtool/out/proved/{crate}.rlib", "crates/{crate}/out/rlib/{crate}.rlib")
+_MADE = "toolchain/mir.json"
+_BUILT = ("crates/signtool/out/proved/{crate}.rlib", "crates/{crate}/out/rlib/{crate}.rlib")
 
 
 @dataclass
-class Sources:
+class _Sources:
     """The functions of libraries. A library of the kit is read once a function of it is named."""
 
     kit: pathlib.Path
@@ -25,9 +25,9 @@ class Sources:
 
     def add(self, library: pathlib.Path) -> None:
         self.read.add(library.stem)
-        if not (library / MADE).exists():
+        if not (library / _MADE).exists():
             return
-        for name, function in json.loads((library / MADE).read_text(encoding="utf-8")):
+        for name, function in json.loads((library / _MADE).read_text(encoding="utf-8")):
             self.functions[name] = function["body"]
             for impl in function["generics"]["impls"]:
                 names = {method for method in impl["methods"] if isinstance(method, str)}
@@ -47,7 +47,7 @@ class Sources:
     def called(self, name: str, body: Any) -> set[str]:
         """A function calls each that it names, and each method of an impl that it hands to one. A method that is its
         trait's own text is handed its impl, and does not call itself by that."""
-        named, impls = named_in(body)
+        named, impls = _named_in(body)
         for crate in {other.partition("::")[0] for other in named | impls} - self.read:
             self.add(self.kit / f"rlibs/{crate}.rlib")
         handed = {method for impl in impls for method in self.methods.get(impl, ())}
@@ -56,7 +56,7 @@ class Sources:
         return {other for other in named | handed if other in self.functions}
 
 
-def named_in(body: Any) -> tuple[set[str], set[str]]:
+def _named_in(body: Any) -> tuple[set[str], set[str]]:
     """The functions and the impls that a body names."""
     functions, impls, left = set(), set(), [body]
     while left:
@@ -76,12 +76,12 @@ def named_in(body: Any) -> tuple[set[str], set[str]]:
 
 def in_libraries(top: pathlib.Path, crates: list[str], kit: pathlib.Path) -> tuple[list[tuple[str, ...]], int]:
     """The cycles that have a function of these crates, and of how many crates a library stands built."""
-    sources, count = Sources(kit), 0
+    sources, count = _Sources(kit), 0
     for crate in crates:
-        places = [top / place.format(crate=crate) for place in BUILT]
-        built = [place for place in places if (place / MADE).exists()]
+        places = [top / place.format(crate=crate) for place in _BUILT]
+        built = [place for place in places if (place / _MADE).exists()]
         if built:
-            sources.add(max(built, key=lambda place: (place / MADE).stat().st_mtime))
+            sources.add(max(built, key=lambda place: (place / _MADE).stat().st_mtime))
             count += 1
     own = tuple(f"{crate}::" for crate in crates)
     return [cycle for cycle in cycles(sources.calls()) if any(name.startswith(own) for name in cycle)], count

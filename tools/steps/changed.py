@@ -7,9 +7,9 @@ import re
 import subprocess
 from collections.abc import Iterable
 
-MAINS = ("origin/main", "main")
+_MAINS = ("origin/main", "main")
 # wrong bodies are tried by tools/try_edits.py, and what a program is run with and prints by the gate
-READ = re.compile(r"crates/(\w+)/(?:src|specs|proofs)/")
+_READ = re.compile(r"crates/(\w+)/(?:src|specs|proofs)/")
 
 
 def told(top: pathlib.Path, *words: str) -> str | None:
@@ -23,7 +23,7 @@ def told(top: pathlib.Path, *words: str) -> str | None:
 
 def base(top: pathlib.Path) -> str | None:
     """The last commit that main has too: of the remote's main, or of the one here, or the last commit at all."""
-    found = [told(top, "merge-base", "HEAD", name) for name in MAINS]
+    found = [told(top, "merge-base", "HEAD", name) for name in _MAINS]
     known = [commit.strip() for commit in [*found, told(top, "rev-parse", "HEAD")] if commit]
     return known[0] if known else None
 
@@ -44,8 +44,8 @@ def changed_python(top: pathlib.Path) -> list[str] | None:
     return None if names is None else sorted(name for name in names if name and (top / name).is_file())
 
 
-def names_of(paths: Iterable[str]) -> set[str]:
-    return {found[1] for path in paths if (found := READ.match(path))}
+def _names_of(paths: Iterable[str]) -> set[str]:
+    return {found[1] for path in paths if (found := _READ.match(path))}
 
 
 def changed(top: pathlib.Path) -> list[str] | None:
@@ -53,4 +53,4 @@ def changed(top: pathlib.Path) -> list[str] | None:
     paths = _not_as_main(top, "crates")
     if paths is None:
         return None
-    return sorted(name for name in names_of(paths) if (top / "crates" / name / "src").is_dir())
+    return sorted(name for name in _names_of(paths) if (top / "crates" / name / "src").is_dir())

@@ -17,9 +17,9 @@ from dataclasses import dataclass, field
 
 TOP = pathlib.Path(__file__).resolve().parents[2]
 COUNTS = re.compile(r"(?m)^(\d+) passed, (\d+) failed")
-SKIPPED = re.compile(r"(?m)^skipped ([^:\n]+)")
-MOST_SHOWN = 6000
-NEVER = threading.Event()
+_SKIPPED = re.compile(r"(?m)^skipped ([^:\n]+)")
+_MOST_SHOWN = 6000
+_NEVER = threading.Event()
 
 
 @dataclass(frozen=True)
@@ -52,7 +52,7 @@ def lacking(step: Step) -> list[str]:
     return [need for need in step.needs.split() if not is_here(need)]
 
 
-def waited(process: subprocess.Popen[bytes], limit: float, stopped: threading.Event) -> bool:
+def _waited(process: subprocess.Popen[bytes], limit: float, stopped: threading.Event) -> bool:
     """Whether the process ended in time. It is not reaped, so that its number still names its group."""
     last = time.monotonic() + limit
     while os.waitid(os.P_PID, process.pid, os.WEXITED | os.WNOHANG | os.WNOWAIT) is None:
@@ -62,7 +62,7 @@ def waited(process: subprocess.Popen[bytes], limit: float, stopped: threading.Ev
     return True
 
 
-def run(step: Step, program: str, stopped: threading.Event = NEVER) -> Outcome:
+def run(step: Step, program: str, stopped: threading.Event = _NEVER) -> Outcome:
     """Runs the step in a process group of its own, which is gone afterwards, with temporary files of its own. Where all
     are stopped it ends at once."""
     lacks = lacking(step)
@@ -84,7 +84,7 @@ def run(step: Step, program: str, stopped: threading.Event = NEVER) -> Outcome:
             )
         except OSError as fault:
             return Outcome(failed=1, said=f"{step.name}: {fault}")
-        is_ended = waited(process, step.limit, stopped)
+        is_ended = _waited(process, step.limit, stopped)
         with contextlib.suppress(ProcessLookupError):
             os.killpg(process.pid, signal.SIGKILL)
         status = process.wait()
@@ -98,11 +98,11 @@ def judged(step: Step, text: str, status: int | None, seconds: float) -> Outcome
     counts = COUNTS.findall(text)
     passed, failed = map(int, counts[-1]) if counts else (int(status == 0), 0)
     failed = max(failed, int(status != 0))
-    skipped = [f"{step.name}: {name}" for name in SKIPPED.findall(text)]
+    skipped = [f"{step.name}: {name}" for name in _SKIPPED.findall(text)]
     how = f"stopped after {step.limit} seconds" if status is None else f"{seconds:.0f} s"
     said = f"{step.name}: {passed} passed, {failed} failed ({how})"
     if failed:
-        said = f"--- {step.name}: {step.command}\n{text[-MOST_SHOWN:].rstrip()}\n{said}, exit {status}"
+        said = f"--- {step.name}: {step.command}\n{text[-_MOST_SHOWN:].rstrip()}\n{said}, exit {status}"
     return Outcome(passed, failed, skipped, said)
 
 

@@ -12,8 +12,8 @@ from collections.abc import Callable, Generator, Sequence
 
 from .step import Outcome, Step, run
 
-SET_CHILD_SUBREAPER = 36
-BEAT = 10.0
+_SET_CHILD_SUBREAPER = 36
+_BEAT = 10.0
 
 
 def adopt_orphans() -> None:
@@ -21,7 +21,7 @@ def adopt_orphans() -> None:
     with contextlib.suppress(ImportError, OSError, AttributeError):
         import ctypes
 
-        ctypes.CDLL(None).prctl(SET_CHILD_SUBREAPER, 1, 0, 0, 0)
+        ctypes.CDLL(None).prctl(_SET_CHILD_SUBREAPER, 1, 0, 0, 0)
 
 
 def end_children() -> None:
@@ -46,7 +46,7 @@ def ended(
         left = set(running)
         try:
             while left:
-                done, left = concurrent.futures.wait(left, BEAT, concurrent.futures.FIRST_COMPLETED)
+                done, left = concurrent.futures.wait(left, _BEAT, concurrent.futures.FIRST_COMPLETED)
                 for one in done:
                     yield running[one], one.result()
                 if beat and not done:

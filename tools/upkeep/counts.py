@@ -9,14 +9,14 @@ from .tree import Tree
 
 PAGE = "docs/TESTING.md"
 LAST = "The last whole gate: "
-OFF = 0.1  # of the number, and no more
-OWN = r"crates/(?!\w+_tests/|dms_measures/)\w+/src/.*\.rt"  # what is neither a test nor a measure
-FUNCTION = r'(?m)^\s*(?:pub(?:\([\w ]+\))? )?(?:const )?(?:extern "C" )?fn '
-TEST = r"(?m)^def test_"
+_OFF = 0.1  # of the number, and no more
+_OWN = r"crates/(?!\w+_tests/|dms_measures/)\w+/src/.*\.rt"  # what is neither a test nor a measure
+_FUNCTION = r'(?m)^\s*(?:pub(?:\([\w ]+\))? )?(?:const )?(?:extern "C" )?fn '
+_TEST = r"(?m)^def test_"
 
 
 @dataclass(frozen=True)
-class Count:
+class _Count:
     """What stands after `some N` on the page; in these files it is what is found, or each file where nothing is."""
 
     words: str
@@ -29,19 +29,21 @@ class Count:
 
 
 COUNTS = (
-    Count("crates", r"crates\.txt", r"(?m)^\w[^:\n]*:"),
-    Count("functions", OWN, FUNCTION),
-    Count("clauses", OWN, r"\bensures\b"),
-    Count("wrong bodies", r"crates/\w+/(?:must-fail|wrong-bodies)/[^/]+\.edit"),
-    Count("tests in Rattle", r"crates/\w+/src/.*\.rt", r"#\[test\]"),
-    Count("cases of vectors", r"vectors/\w+\.jsonl", r"(?m)^."),
-    Count("wrong signs", r"trials/wrong_signs/\w+\.txt", r"(?m)^rule: "),
-    Count("kinds of trial", r"trials/lasting\.py", r'": Kind\('),
-    Count("tests of tools", r"(?:(?:tools/\w+|measures|model)/tests|python/tests/(?:process|endpoint))/\w+\.py", TEST),
-    Count("tests of the tester", r"python/tests/tester/\w+\.py", TEST),
-    Count("tests of the control room", r"python/tests/room/\w+\.py", TEST),
-    Count("bars", r"tools/upkeep/bars\.py", r"(?m)^    Bar\("),
-    Count("steps", r"tools/after_gate\.py", r"(?m)^    Step\("),
+    _Count("crates", r"crates\.txt", r"(?m)^\w[^:\n]*:"),
+    _Count("functions", _OWN, _FUNCTION),
+    _Count("clauses", _OWN, r"\bensures\b"),
+    _Count("wrong bodies", r"crates/\w+/(?:must-fail|wrong-bodies)/[^/]+\.edit"),
+    _Count("tests in Rattle", r"crates/\w+/src/.*\.rt", r"#\[test\]"),
+    _Count("cases of vectors", r"vectors/\w+\.jsonl", r"(?m)^."),
+    _Count("wrong signs", r"trials/wrong_signs/\w+\.txt", r"(?m)^rule: "),
+    _Count("kinds of trial", r"trials/lasting\.py", r'": _?Kind\('),
+    _Count(
+        "tests of tools", r"(?:(?:tools/\w+|measures|model)/tests|python/tests/(?:process|endpoint))/\w+\.py", _TEST
+    ),
+    _Count("tests of the tester", r"python/tests/tester/\w+\.py", _TEST),
+    _Count("tests of the control room", r"python/tests/room/\w+\.py", _TEST),
+    _Count("bars", r"tools/upkeep/bars\.py", r"(?m)^    Bar\("),
+    _Count("steps", r"tools/after_gate\.py", r"(?m)^    Step\("),
 )
 
 
@@ -65,6 +67,6 @@ def stale(tree: Tree) -> list[str]:
         found += [
             f"{PAGE}: some {one:,} {count.words}, where there are {number:,}"
             for one in numbers
-            if abs(one - number) > OFF * number
+            if abs(one - number) > _OFF * number
         ]
     return found

@@ -5,15 +5,15 @@ import re
 from .tree import Tree
 
 LIST = "crates.txt"
-PAGES = ("docs/ARCHITECTURE.md", "docs/MAP.md", "docs/PROVED.md")
-REASONS = "docs/DECISIONS.md"
+_PAGES = ("docs/ARCHITECTURE.md", "docs/MAP.md", "docs/PROVED.md")
+_REASONS = "docs/DECISIONS.md"
 # the line of a house: its name, and the families of its crates
 HOUSE = re.compile(r"## (?P<house>[a-z][a-z ]*): (?P<families>\w+(?:, \w+)*)")
-FEWEST = 10
-MOST_FUNCTIONS, MOST_LINES = 130, 2000
+_FEWEST = 10
+_MOST_FUNCTIONS, MOST_LINES = 130, 2000
 FUNCTION = re.compile(r"(?m)^\s*(?:pub(?:\(\w+\))? )?(?:const )?(?:extern \"C\" )?fn \w+")
-MODULE = re.compile(r"(?m)^pub mod (\w+);")
-PUBLIC = re.compile(
+_MODULE = re.compile(r"(?m)^pub mod (\w+);")
+_PUBLIC = re.compile(
     r"(?m)(?P<above>(?:^[ \t]*(?:///|#\[)[^\n]*\n)*)^[ \t]*pub (?:const )?(?:extern \"C\" )?fn (?P<name>\w+)"
 )
 
@@ -40,13 +40,13 @@ def named(tree: Tree) -> list[str]:
     """Crates that a page on all of them does not name."""
     return [
         f"{page}: {crate} is not named"
-        for page in PAGES
+        for page in _PAGES
         for crate in names(tree)
         if not re.search(rf"\b{re.escape(crate)}\b", tree.text(page))
     ]
 
 
-def headings(text: str, wanted: set[str]) -> list[tuple[str, str]]:
+def _headings(text: str, wanted: set[str]) -> list[tuple[str, str]]:
     """The houses of a page in its order, each with its text: a heading, or a row of a table that begins with its
     name."""
     marks = list(re.finditer(r"(?m)^(?:#+ |\| \*\*)([A-Za-z ]+)", text))
@@ -59,8 +59,8 @@ def ordered(tree: Tree) -> list[str]:
     """Pages whose houses are not those of crates.txt in its order, and crates that stand in no part of their house."""
     wanted = houses(tree)
     found = []
-    for page in PAGES:
-        parts = headings(tree.text(page), set(wanted))
+    for page in _PAGES:
+        parts = _headings(tree.text(page), set(wanted))
         said = [name for name, _ in parts]
         if said != list(wanted):
             found.append(f"{page}: the houses are {', '.join(said)}; in {LIST} they are {', '.join(wanted)}")
@@ -93,8 +93,8 @@ def large(tree: Tree) -> list[str]:
     found = []
     for crate in names(tree):
         count, lines = functions(tree, crate), sum(tree.text(name).count("\n") for name in sources(tree, crate))
-        if count > MOST_FUNCTIONS:
-            found.append(f"{crate}: {count} functions, {MOST_FUNCTIONS} at most")
+        if count > _MOST_FUNCTIONS:
+            found.append(f"{crate}: {count} functions, {_MOST_FUNCTIONS} at most")
         if lines > MOST_LINES:
             found.append(f"{crate}: {lines:,} lines of code, {MOST_LINES:,} at most")
     return found
@@ -104,9 +104,9 @@ def few(tree: Tree) -> list[str]:
     """Crates of under ten functions, but for those of tests, for which no reason is given."""
     counts = {crate: functions(tree, crate) for crate in names(tree)}
     return [
-        f"{crate}: {count} functions, and {REASONS} has no reason for it"
+        f"{crate}: {count} functions, and {_REASONS} has no reason for it"
         for crate, count in counts.items()
-        if count < FEWEST and not is_tests(crate) and not re.search(rf"\b{re.escape(crate)}\b", tree.text(REASONS))
+        if count < _FEWEST and not is_tests(crate) and not re.search(rf"\b{re.escape(crate)}\b", tree.text(_REASONS))
     ]
 
 
@@ -130,7 +130,7 @@ def unsaid(tree: Tree) -> list[str]:
         for name in sources(tree, crate):
             found += [
                 f"{name}: nothing uses, names or documents {public['name']}"
-                for public in PUBLIC.finditer(tree.text(name))
+                for public in _PUBLIC.finditer(tree.text(name))
                 if "///" not in public["above"] and not re.search(rf"\b{public['name']}\b", others)
             ]
     return found
@@ -138,11 +138,11 @@ def unsaid(tree: Tree) -> list[str]:
 
 def doors(tree: Tree) -> list[str]:
     """Public modules whose names the crate's first page hands out too, but for the paths that a page says are kept."""
-    kept, found = tree.text(REASONS), []
+    kept, found = tree.text(_REASONS), []
     for crate in names(tree):
         page = f"crates/{crate}/src/lib.rt"
-        for module in MODULE.findall(tree.text(page)) if tree.has(page) else ():
+        for module in _MODULE.findall(tree.text(page)) if tree.has(page) else ():
             handed_out = re.search(rf"(?m)^pub use {module}::", tree.text(page))
             if handed_out and f"`{crate}::{module}`" not in kept:
-                found.append(f"{page}: two paths lead to the names of {module}, and {REASONS} does not say why")
+                found.append(f"{page}: two paths lead to the names of {module}, and {_REASONS} does not say why")
     return found

@@ -6,9 +6,9 @@ from . import crates
 from .tree import Tree
 
 PAGE = "docs/ARCHITECTURE.md"
-MOST_WORDS = 10
-SAID = re.compile(r"# (?P<what>[^\[\]]+?)(?: \[(?P<apart>[^\[\]]+)\])?")
-ROW = re.compile(r"(?m)^\| (?P<crate>\w+) \|[^|\n]*\|[^|\n]*\|(?P<apart>[^|\n]*)\|$")
+_MOST_WORDS = 10
+_SAID = re.compile(r"# (?P<what>[^\[\]]+?)(?: \[(?P<apart>[^\[\]]+)\])?")
+_ROW = re.compile(r"(?m)^\| (?P<crate>\w+) \|[^|\n]*\|[^|\n]*\|(?P<apart>[^|\n]*)\|$")
 
 
 def families(tree: Tree) -> dict[str, list[str]]:
@@ -28,7 +28,7 @@ def said(tree: Tree) -> dict[str, tuple[str, str]]:
     lines = [line for _, line in tree.lines(crates.LIST)]
     found = {}
     for above, line in zip(["", *lines], lines):
-        comment = SAID.fullmatch(above)
+        comment = _SAID.fullmatch(above)
         if re.match(r"\w", line):
             found[line.split(":")[0].split()[0]] = (comment["what"], comment["apart"] or "") if comment else ("", "")
     return found
@@ -36,10 +36,10 @@ def said(tree: Tree) -> dict[str, tuple[str, str]]:
 
 def told(tree: Tree) -> dict[str, str]:
     """Why each crate is apart, as the page's table has it."""
-    return {row["crate"]: row["apart"].strip() for row in ROW.finditer(tree.text(PAGE))}
+    return {row["crate"]: row["apart"].strip() for row in _ROW.finditer(tree.text(PAGE))}
 
 
-def of_names(tree: Tree) -> list[str]:
+def _of_names(tree: Tree) -> list[str]:
     """Crates whose name is that of no family of their house, and families without a crate of their name."""
     by_house, houses = families(tree), crates.houses(tree)
     known = [name for names in by_house.values() for name in names]
@@ -51,15 +51,15 @@ def of_names(tree: Tree) -> list[str]:
     return found
 
 
-def of_words(tree: Tree) -> list[str]:
+def _of_words(tree: Tree) -> list[str]:
     """Crates of which crates.txt says nothing or too much, or not why they are apart, or another reason than the
     page."""
     known, reasons = [name for names in families(tree).values() for name in names], told(tree)
     found = []
     for crate, (what, apart) in said(tree).items():
         is_part = crate not in known and not crates.is_tests(crate)
-        if not 0 < len(what.split()) <= MOST_WORDS:
-            found.append(f"{crates.LIST}: what {crate} is, in one to {MOST_WORDS} words, does not stand above it")
+        if not 0 < len(what.split()) <= _MOST_WORDS:
+            found.append(f"{crates.LIST}: what {crate} is, in one to {_MOST_WORDS} words, does not stand above it")
         if is_part and not apart:
             found.append(f"{crates.LIST}: why {crate} is apart does not stand above it, in brackets")
         if reasons.get(crate) != apart:
@@ -69,4 +69,4 @@ def of_words(tree: Tree) -> list[str]:
 
 def kept(tree: Tree) -> list[str]:
     """What does not agree."""
-    return [*of_names(tree), *of_words(tree)]
+    return [*_of_names(tree), *_of_words(tree)]

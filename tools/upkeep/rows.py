@@ -5,19 +5,19 @@ import re
 from .tree import Tree
 
 FILES = re.compile(r"crates/\w+_tests/src/(?:\w+/)*cases\.rt")
-ROW = re.compile(r"(?i)[0-9a-f]{16}|(?:\\x[0-9a-f]{2}){8}")
-WORDS = re.compile(r"\s*(?://|#)")
+_ROW = re.compile(r"(?i)[0-9a-f]{16}|(?:\\x[0-9a-f]{2}){8}")
+_WORDS = re.compile(r"\s*(?://|#)")
 # what another row ends with, or begins with where it is a line of its own
-OTHER = re.compile(r'\s*$|<|.*\),$|.*";$| {4}b?"')
+_OTHER = re.compile(r'\s*$|<|.*\),$|.*";$| {4}b?"')
 
 
-def has_words(lines: list[str], at: int) -> bool:
+def _has_words(lines: list[str], at: int) -> bool:
     """Whether words stand above this line, before any other row. An answer has those of its line, which begins with
     `>`."""
     for line in reversed(lines[:at]):
-        if WORDS.match(line):
+        if _WORDS.match(line):
             return True
-        if OTHER.match(line) or line.startswith(">") and lines[at].startswith(">"):
+        if _OTHER.match(line) or line.startswith(">") and lines[at].startswith(">"):
             return False
     return False
 
@@ -30,6 +30,6 @@ def without_words(tree: Tree) -> list[str]:
         found += [
             f"{name}:{at + 1}: a row without words before it"
             for at, line in enumerate(lines)
-            if ROW.search(line) and not WORDS.match(line) and not has_words(lines, at)
+            if _ROW.search(line) and not _WORDS.match(line) and not _has_words(lines, at)
         ]
     return found

@@ -7,8 +7,8 @@ from collections.abc import Iterator
 from .tree import Tree
 
 FOLDER = "python/wisangub/"
-PACKAGES = {"aiohttp", "jinja2", "markupsafe", "psycopg", "rich"}
-KNOWN = set(sys.stdlib_module_names) | PACKAGES | {"wisangub"}
+_PACKAGES = {"aiohttp", "jinja2", "markupsafe", "psycopg", "rich"}
+_KNOWN = set(sys.stdlib_module_names) | _PACKAGES | {"wisangub"}
 
 
 def imported(text: str) -> Iterator[tuple[int, str]]:
@@ -27,5 +27,5 @@ def alone(tree: Tree) -> list[str]:
         f"{name}:{line}: imports {word}, which is not shipped"
         for name in files
         for line, word in imported(tree.text(name))
-        if word not in KNOWN
+        if word not in _KNOWN
     ]

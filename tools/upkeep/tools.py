@@ -4,9 +4,9 @@ import re
 
 from .tree import Tree
 
-LIST = "CONTRIBUTING.md"
-FOLDERS = ("bin/", "tools/", "trials/", "measures/")
-MAIN = 'if __name__ == "__main__":'
+_LIST = "CONTRIBUTING.md"
+_FOLDERS = ("bin/", "tools/", "trials/", "measures/")
+_MAIN = 'if __name__ == "__main__":'
 
 
 def scripts(tree: Tree) -> list[str]:
@@ -14,7 +14,7 @@ def scripts(tree: Tree) -> list[str]:
     return [
         name
         for name in tree.names
-        if name.startswith(FOLDERS) and name.count("/") == 1 and tree.text(name).startswith("#!")
+        if name.startswith(_FOLDERS) and name.count("/") == 1 and tree.text(name).startswith("#!")
     ]
 
 
@@ -23,16 +23,16 @@ def modules(tree: Tree) -> list[str]:
     return [
         name
         for name in tree.names
-        if name.endswith(".py") and MAIN in tree.text(name) and not tree.text(name).startswith("#!")
+        if name.endswith(".py") and _MAIN in tree.text(name) and not tree.text(name).startswith("#!")
     ]
 
 
 def in_list(tree: Tree) -> list[str]:
     """Tools that CONTRIBUTING does not name."""
     return [
-        f"{LIST}: {name} is not in the list of tools"
+        f"{_LIST}: {name} is not in the list of tools"
         for name in scripts(tree)
-        if not re.search(rf"(?<![\w/]){re.escape(name)}\b", tree.text(LIST))
+        if not re.search(rf"(?<![\w/]){re.escape(name)}\b", tree.text(_LIST))
     ]
 
 

@@ -5,7 +5,7 @@ import subprocess
 from dataclasses import dataclass, field
 
 
-def listed(top: pathlib.Path) -> list[str]:
+def _listed(top: pathlib.Path) -> list[str]:
     """The files that git tracks or would; without git those of the folder, but for what is built."""
     call = ["git", "-C", str(top), "ls-files", "--cached", "--others", "--exclude-standard", "-z"]
     ended = subprocess.run(call, capture_output=True, text=True, check=False)
@@ -24,7 +24,7 @@ class Tree:
     read: dict[str, str] = field(default_factory=dict)
 
     def __post_init__(self) -> None:
-        self.names = self.names or listed(self.top)
+        self.names = self.names or _listed(self.top)
 
     def text(self, name: str) -> str:
         """A file's text; one that is no UTF-8 has none."""

@@ -4,11 +4,11 @@ import re
 
 from .tree import Tree
 
-PUT_OFF = re.compile(r"\b(?:TO" r"DO|FIX" r"ME|HA" r"CK)\b")
-TEXTS = (".md", ".rt", ".antt", ".py", ".sh", ".c", ".h", ".rs", ".sql", ".txt", ".html", ".css", ".js", ".toml")
-HELD = "bin conform control crates docs measures mibs model python signs tools trials vectors".split()
-CITED = re.compile(r"(?<![\w/.<-])((?:" + "|".join(HELD) + r")/[\w./*{},-]*)")
-BUILT = re.compile(r"/out(?:/|$)|[*{<]|\.\.|NNN|NAME")
+_PUT_OFF = re.compile(r"\b(?:TO" r"DO|FIX" r"ME|HA" r"CK)\b")
+_TEXTS = (".md", ".rt", ".antt", ".py", ".sh", ".c", ".h", ".rs", ".sql", ".txt", ".html", ".css", ".js", ".toml")
+_HELD = "bin conform control crates docs measures mibs model python signs tools trials vectors".split()
+_CITED = re.compile(r"(?<![\w/.<-])((?:" + "|".join(_HELD) + r")/[\w./*{},-]*)")
+_BUILT = re.compile(r"/out(?:/|$)|[*{<]|\.\.|NNN|NAME")
 
 
 def put_off(tree: Tree) -> list[str]:
@@ -16,16 +16,16 @@ def put_off(tree: Tree) -> list[str]:
     return [
         f"{name}:{number}: {found[0]}"
         for name in tree.names
-        if name.endswith(TEXTS) or "." not in name.rsplit("/", 1)[-1]
+        if name.endswith(_TEXTS) or "." not in name.rsplit("/", 1)[-1]
         for number, line in tree.lines(name)
-        if (found := PUT_OFF.search(line))
+        if (found := _PUT_OFF.search(line))
     ]
 
 
-def cited(line: str) -> list[str]:
+def _cited(line: str) -> list[str]:
     """The paths of the repository that a line names, but for what is built and for patterns."""
-    found = [path.rstrip(".,-") for path in CITED.findall(line)]
-    return [path for path in found if not BUILT.search(path)]
+    found = [path.rstrip(".,-") for path in _CITED.findall(line)]
+    return [path for path in found if not _BUILT.search(path)]
 
 
 def gone(tree: Tree) -> list[str]:
@@ -34,6 +34,6 @@ def gone(tree: Tree) -> list[str]:
         f"{name}:{number}: there is no {path}"
         for name in tree.documents()
         for number, line in tree.lines(name)
-        for path in cited(line)
+        for path in _cited(line)
         if not tree.has(path) and not any(tree.has(f"{path}{end}") for end in (".py", ".antt", ".rt"))
     ]

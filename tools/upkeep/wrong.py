@@ -9,24 +9,24 @@ from .edits import edits_of, faults
 from .tree import Tree
 
 LIST = "tools/upkeep/wrong_bodies.txt"
-ROW = re.compile(r"(?P<star>\* )?(?P<crate>\w+)/(?P<name>[\w.-]+)(?:: (?P<reason>.+))?")
-FOLDERS = ("must-fail", "wrong-bodies")
-PUBLIC = re.compile(
+_ROW = re.compile(r"(?P<star>\* )?(?P<crate>\w+)/(?P<name>[\w.-]+)(?:: (?P<reason>.+))?")
+_FOLDERS = ("must-fail", "wrong-bodies")
+_PUBLIC = re.compile(
     r'(?m)^[ \t]*pub (?:const )?(?:extern "C" )?fn (?P<name>\w+)(?P<head>(?:.|\n)*?)(?P<body>\{\}?)[ \t]*$'
 )
-FEWEST = 5  # of so many public functions with a body one has a clause, or the crate is no crate of promises
+_FEWEST = 5  # of so many public functions with a body one has a clause, or the crate is no crate of promises
 
 
 def listed(tree: Tree) -> list[str]:
     """Wrong bodies of the list that are gone with no reason, or stand elsewhere, and reasons for what is not gone."""
     found = []
     for number, line in tree.lines(LIST) if tree.has(LIST) else []:
-        row = ROW.fullmatch(line)
+        row = _ROW.fullmatch(line)
         if not row:
             found += [f"{LIST}:{number}: no row of a wrong body"] if line and not line.startswith("#") else []
             continue
         name = f"{row['crate']}/{row['name']}"
-        stands = [folder for folder in FOLDERS if f"crates/{row['crate']}/{folder}/{row['name']}.edit" in tree.names]
+        stands = [folder for folder in _FOLDERS if f"crates/{row['crate']}/{folder}/{row['name']}.edit" in tree.names]
         if row["reason"] and stands:
             found.append(f"{LIST}:{number}: {name} is not gone, and a reason is given")
         elif not row["reason"] and not stands:
@@ -38,17 +38,17 @@ def listed(tree: Tree) -> list[str]:
     return found
 
 
-def promises(tree: Tree, crate: str) -> bool:
+def _promises(tree: Tree, crate: str) -> bool:
     """Whether public functions of a crate have clauses; laws have no body, and what is measured or run has no
     clause."""
     heads = [
         public["head"]
         for name in crates.sources(tree, crate)
-        for public in PUBLIC.finditer(tree.text(name))
+        for public in _PUBLIC.finditer(tree.text(name))
         if public["body"] == "{"
     ]
     stated = sum(bool(re.search(r"\bensures\b", head)) for head in heads)
-    return stated > 0 and FEWEST * stated >= len(heads)
+    return stated > 0 and _FEWEST * stated >= len(heads)
 
 
 def owed(tree: Tree) -> list[str]:
@@ -56,7 +56,7 @@ def owed(tree: Tree) -> list[str]:
     return [
         f"crates/{crate}/must-fail: no wrong body"
         for crate in crates.names(tree)
-        if promises(tree, crate) and not any(name.startswith(f"crates/{crate}/must-fail/") for name in tree.names)
+        if _promises(tree, crate) and not any(name.startswith(f"crates/{crate}/must-fail/") for name in tree.names)
     ]
 
 

@@ -7,7 +7,7 @@ from model.codes import Activation, MessageId, checksum
 from .messages import Case
 
 
-def case(at: int, memory: int, number: int, words: str) -> Case:
+def _case(at: int, memory: int, number: int, words: str) -> Case:
     """The case of this number, which decides what is not given."""
     beacon, pixel, swapped = at % 2, at // 2 % 2, at % 5 == 0
     duration, priority = (0, 1, 65535)[at % 3], (0, 100, 255)[at // 3 % 3]
@@ -39,4 +39,4 @@ def cases() -> Iterator[Case]:
         for number in (1, 255, 256, 65535):
             for words in made[at % 2 :: 2]:
                 at += 1
-                yield case(at, memory, number, words)
+                yield _case(at, memory, number, words)

@@ -8,7 +8,7 @@ from model.objects import DMS
 from wisangub.snmp.names import COLUMNS, SCALARS
 
 Case = dict[str, Any]  # a line of a file of vectors, as JSON has it
-Bindings = Sequence[wire.Binding]
+_Bindings = Sequence[wire.Binding]
 NULL: wire.Tagged = (wire.NULL, b"")
 
 
@@ -21,7 +21,7 @@ def cell(column: str, memory: int = 3, number: int = 1) -> wire.Name:
 
 
 def request(
-    kind: int, bindings: Bindings, community: bytes = b"admin", number: int = 1, status: int = 0, index: int = 0
+    kind: int, bindings: _Bindings, community: bytes = b"admin", number: int = 1, status: int = 0, index: int = 0
 ) -> bytes:
     return wire.written(wire.Message(kind, community, number, status, index, list(bindings)))
 

@@ -9,16 +9,16 @@ from wisangub.snmp.names import COLUMNS, SCALARS
 
 from .messages import NULL, Case, cell, request, scalar
 
-Named = tuple[str, bytes]
-STATUS = "dmsMessageStatus"
+_Named = tuple[str, bytes]
+_STATUS = "dmsMessageStatus"
 
 
-def put(name: wire.Name, tag: int, held: object) -> bytes:
+def _put(name: wire.Name, tag: int, held: object) -> bytes:
     """A Set of one object by the writer."""
     return request(wire.SET, [(name, (tag, held))])
 
 
-def of_scalars() -> Iterator[Named]:
+def _of_scalars() -> Iterator[_Named]:
     for key, word in SCALARS.items():
         yield f"Get {word}", request(wire.GET, [(DMS + key + (0,), NULL)], b"public")
         yield f"GetNext before {word}", request(wire.GET_NEXT, [(DMS + key, NULL)], b"public")
@@ -27,10 +27,10 @@ def of_scalars() -> Iterator[Named]:
         assert held is not None
         yield f"Set {word} to what it is, by the writer", request(wire.SET, [(DMS + key + (0,), held)])
         yield f"Set {word} by the reader", request(wire.SET, [(DMS + key + (0,), held)], b"public")
-        yield f"Set {word} with a value of another type", put(DMS + key + (0,), wire.GAUGE, 1)
+        yield f"Set {word} with a value of another type", _put(DMS + key + (0,), wire.GAUGE, 1)
 
 
-def of_cells() -> Iterator[Named]:
+def _of_cells() -> Iterator[_Named]:
     rows = ((2, 1), (2, 2), (3, 1), (3, 2), (3, 3), (4, 1), (5, 1), (7, 1), (7, 255), (7, 256), (6, 1), (3, 0))
     for column in COLUMNS.values():
         for memory, number in rows:
@@ -39,13 +39,13 @@ def of_cells() -> Iterator[Named]:
         yield f"GetNext of {column}", request(wire.GET_NEXT, [(cell(column)[:-2], NULL)], b"public")
         yield f"GetNext after {column}.2.1", request(wire.GET_NEXT, [(cell(column, 2, 1), NULL)], b"public")
         yield f"GetNext after {column}.7.255", request(wire.GET_NEXT, [(cell(column, 7, 255), NULL)], b"public")
-        yield f"Set {column}.2.1, a permanent row", put(cell(column, 2, 1), wire.INTEGER, 6)
+        yield f"Set {column}.2.1, a permanent row", _put(cell(column, 2, 1), wire.INTEGER, 6)
         is_text = column in ("dmsMessageMultiString", "dmsMessageOwner")
         value = (wire.OCTETS, b"A") if is_text else (wire.INTEGER, 1)
-        yield f"Set {column}.3.1 while the row is not used", put(cell(column), *value)
+        yield f"Set {column}.3.1 while the row is not used", _put(cell(column), *value)
 
 
-def ranges() -> Iterator[Named]:
+def ranges() -> Iterator[_Named]:
     greatest = {
         "defaultBackgroundColor": 9,
         "defaultForegroundColor": 9,
@@ -59,13 +59,13 @@ def ranges() -> Iterator[Named]:
     }
     for word, most in greatest.items():
         for number in sorted({-1, 0, 1, 2, most, most + 1}):
-            yield f"Set {word} to {number}", put(scalar(word), wire.INTEGER, number)
+            yield f"Set {word} to {number}", _put(scalar(word), wire.INTEGER, number)
     for size in (4, 5, 6):
         name = f"Set dmsEndDurationMessage to {size} octets"
-        yield name, put(scalar("dmsEndDurationMessage"), wire.OCTETS, bytes(size))
+        yield name, _put(scalar("dmsEndDurationMessage"), wire.OCTETS, bytes(size))
 
 
-def commands() -> Iterator[Named]:
+def commands() -> Iterator[_Named]:
     for word, code in (
         ("the permanent message", "ffffff020001750200000000"),
         ("another checksum", "ffffff020001750300000000"),
@@ -77,15 +77,15 @@ def commands() -> Iterator[Named]:
         ("what is shown", "ffffff050001000000000000"),
         ("five minutes", "0005ff0200017502c0000201"),
     ):
-        yield f"activate {word}", put(scalar("dmsActivateMessage"), wire.OCTETS, bytes.fromhex(code))
+        yield f"activate {word}", _put(scalar("dmsActivateMessage"), wire.OCTETS, bytes.fromhex(code))
     for status in (5, 6, 7, 8, 9):
-        yield f"ask row 3.1 for status {status}", put(cell(STATUS), wire.INTEGER, status)
+        yield f"ask row 3.1 for status {status}", _put(cell(_STATUS), wire.INTEGER, status)
 
 
-def of_many() -> Iterator[Named]:
+def _of_many() -> Iterator[_Named]:
     """Of several bindings."""
-    one: wire.Binding = (cell(STATUS), (wire.INTEGER, 6))
-    two: wire.Binding = (cell(STATUS, 4, 1), (wire.INTEGER, 6))
+    one: wire.Binding = (cell(_STATUS), (wire.INTEGER, 6))
+    two: wire.Binding = (cell(_STATUS, 4, 1), (wire.INTEGER, 6))
     colour: wire.Binding = (scalar("defaultForegroundColor"), (wire.INTEGER, 3))
     bad: wire.Binding = (scalar("defaultForegroundColor"), (wire.INTEGER, 10))
     unknown: wire.Binding = ((1, 3), NULL)
@@ -113,8 +113,8 @@ def of_many() -> Iterator[Named]:
     yield "octets that spell no message", b"\x30\x00"
 
 
-def requests() -> Iterator[Named]:
-    for some in (of_scalars, of_cells, ranges, commands, of_many):
+def requests() -> Iterator[_Named]:
+    for some in (_of_scalars, _of_cells, ranges, commands, _of_many):
         yield from some()
 
 

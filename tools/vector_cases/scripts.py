@@ -6,20 +6,20 @@ from model import text, wire
 
 from .messages import GET_STATUS, Case, request, scalar
 
-Named = tuple[str, list[str]]
-PUBLISH = ["publish 3 1 41 - 0 0 200 65535 255 192.0.2.1"]
-PUBLISH += [f"{to} {number}" for number in range(4) for to in ("to-sign", "to-centre")]
-PUBLISHED = PUBLISH + ["sign-tick", "to-sign 4", "to-centre 4", "to-sign 5", "to-centre 5", "centre-tick"]
+_Named = tuple[str, list[str]]
+_PUBLISH = ["publish 3 1 41 - 0 0 200 65535 255 192.0.2.1"]
+_PUBLISH += [f"{to} {number}" for number in range(4) for to in ("to-sign", "to-centre")]
+PUBLISHED = _PUBLISH + ["sign-tick", "to-sign 4", "to-centre 4", "to-sign 5", "to-centre 5", "centre-tick"]
 PUBLISHED += ["to-sign 6", "to-centre 6"]
-ACTIVATE = "activate ffffff020001750200000000"
-CODES = (
+_ACTIVATE = "activate ffffff020001750200000000"
+_CODES = (
     ("0700020000", "blank message 2"),
     ("0200017502", "the permanent message"),
     ("0200017503", "another checksum"),
     ("0500010000", "what is shown"),
     ("0600010000", "no type of memory"),
 )
-COMMANDS = (
+_COMMANDS = (
     "publish 2 1 41 - 0 0 1 0 0 1.2.3.4",
     "publish 3 0 41 - 0 0 1 0 0 1.2.3.4",
     "publish 3 1 41 - 2 0 1 0 0 1.2.3.4",
@@ -29,7 +29,7 @@ COMMANDS = (
     "publish 3 1 41 - 0 1 9 0 9 1.2.3.4",
     "publish 4 1 5b78785d - 1 0 9 0 9 1.2.3.4",
 )
-WRONG = (
+_WRONG = (
     "to-sign",
     "to-sign x",
     "to-sign 4294967296",
@@ -48,12 +48,12 @@ WRONG = (
 )
 
 
-def forged(word: str, value: int | bytes, tag: int = wire.INTEGER) -> str:
+def _forged(word: str, value: int | bytes, tag: int = wire.INTEGER) -> str:
     """A Set of one object, which no centre sends."""
     return "forge-sign " + request(wire.SET, [(scalar(word), (tag, value))]).hex()
 
 
-def publications() -> Iterator[Named]:
+def _publications() -> Iterator[_Named]:
     yield "nothing", []
     for size in range(1, len(PUBLISHED) + 1):
         yield f"the first {size} events of a publication", PUBLISHED[:size]
@@ -63,9 +63,9 @@ def publications() -> Iterator[Named]:
             yield f"a publication with event {at + 1} repeated", PUBLISHED[: at + 1] + PUBLISHED[at:]
 
 
-def activations() -> Iterator[Named]:
+def _activations() -> Iterator[_Named]:
     for ticks in (1, 2, 3, 6, 8, 9, 10):
-        silent = [ACTIVATE] + ["centre-tick"] * ticks
+        silent = [_ACTIVATE] + ["centre-tick"] * ticks
         yield f"an activation without an answer for {ticks} ticks", silent
         answered = silent + ["to-sign 0", "to-sign 1", "to-sign 2", "to-centre 0"]
         yield f"the third send of an activation, after {ticks} ticks", answered
@@ -84,24 +84,24 @@ def activations() -> Iterator[Named]:
             yield f"a blank message for {minutes} minutes, after {ticks} seconds", events
 
 
-def own_codes() -> Iterator[Named]:
-    for code, word in CODES:
+def _own_codes() -> Iterator[_Named]:
+    for code, word in _CODES:
         octets = bytes.fromhex(code)
-        lost = [forged("dmsPowerLossMessage", octets, wire.OCTETS), "power-lost"]
+        lost = [_forged("dmsPowerLossMessage", octets, wire.OCTETS), "power-lost"]
         yield f"a loss of power that shows {word}", lost
-        ended = [forged("dmsEndDurationMessage", octets, wire.OCTETS), "blank 7 1 255 0.0.0.0", "to-sign 0"]
+        ended = [_forged("dmsEndDurationMessage", octets, wire.OCTETS), "blank 7 1 255 0.0.0.0", "to-sign 0"]
         yield f"the end of a duration that shows {word}", ended + ["sign-tick"] * 60
         for loss in (1, 60, 61):
-            short = forged("dmsShortPowerRecoveryMessage", octets, wire.OCTETS)
-            back = [forged("dmsShortPowerLossTime", 60), short, "power-lost", "sign-tick", "to-sign 0"]
+            short = _forged("dmsShortPowerRecoveryMessage", octets, wire.OCTETS)
+            back = [_forged("dmsShortPowerLossTime", 60), short, "power-lost", "sign-tick", "to-sign 0"]
             name = f"a return of power after {loss} seconds that shows {word}"
             yield name, PUBLISHED + back + [f"power-back {loss}"]
-        silence = [forged("dmsTimeCommLoss", 1), forged("dmsCommunicationsLossMessage", octets, wire.OCTETS)]
+        silence = [_forged("dmsTimeCommLoss", 1), _forged("dmsCommunicationsLossMessage", octets, wire.OCTETS)]
         yield f"a silence that shows {word}", silence + ["sign-tick"] * 60
 
 
-def silences() -> Iterator[Named]:
-    begun = [forged("dmsTimeCommLoss", 1)] + ["sign-tick"] * 59
+def _silences() -> Iterator[_Named]:
+    begun = [_forged("dmsTimeCommLoss", 1)] + ["sign-tick"] * 59
     for ticks in (59, 60, 119):
         rest = ["sign-tick"] * ticks
         name = f"after 59 seconds of silence, then {ticks} seconds"
@@ -114,19 +114,19 @@ def silences() -> Iterator[Named]:
         yield f"a loss of power after {at} events of a publication", lost
 
 
-def lines() -> Iterator[Named]:
-    for words in COMMANDS:
+def lines() -> Iterator[_Named]:
+    for words in _COMMANDS:
         yield f"the command {words}", [words, "to-sign 0", "to-centre 0", "centre-tick"]
-    for words in WRONG:
+    for words in _WRONG:
         yield f"the wrong line {words!r}", ["sign-tick", "# a comment", "", words]
-    other = [forged("defaultFont", 2), ACTIVATE, "to-sign 0", "to-centre 1", "to-sign 1", "to-centre 2"]
+    other = [_forged("defaultFont", 2), _ACTIVATE, "to-sign 0", "to-centre 1", "to-sign 1", "to-centre 2"]
     yield "another default font for which the message has no picture", other
     accepted = "forge-centre " + request(wire.RESPONSE, []).hex()
     yield "a forged acceptance", ["activate ffffff0300019a6600000000", accepted]
 
 
-def scripts() -> Iterator[Named]:
-    for some in (publications, activations, own_codes, silences, lines):
+def scripts() -> Iterator[_Named]:
+    for some in (_publications, _activations, _own_codes, _silences, lines):
         yield from some()
 
 

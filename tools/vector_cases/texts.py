@@ -6,10 +6,10 @@ from model import layout, multi, text
 
 from .messages import Case
 
-Named = tuple[str, str]
+_Named = tuple[str, str]
 
 
-def tags() -> Iterator[Named]:
+def tags() -> Iterator[_Named]:
     yield "no text", ""
     for octet in "A B 1 [[ ]] AB C [[A]]".split(" "):
         yield f"the characters {octet}", octet
@@ -20,7 +20,7 @@ def tags() -> Iterator[Named]:
         yield f"the tag {tag} that nothing closes", f"A[{tag}"
 
 
-def values() -> Iterator[Named]:
+def values() -> Iterator[_Named]:
     greatest = (("cb", 9), ("pb", 9), ("cf", 9), ("nl", 9), ("jl", 4), ("jp", 4), ("fo", 255), ("pt", 255))
     for tag, most in greatest:
         for number in sorted({0, 1, 2, 3, 4, most, most + 1, 99999, 100000}):
@@ -42,7 +42,7 @@ def values() -> Iterator[Named]:
     yield "a tag of a space", "[ ]"
 
 
-def counts() -> Iterator[Named]:
+def counts() -> Iterator[_Named]:
     for count in (1, 2, 3, 4, 5):
         yield f"{count} As, of which three fit a line", "A" * count
         yield f"{count} As in the small font", "[fo2]" + "A" * count
@@ -61,7 +61,7 @@ def counts() -> Iterator[Named]:
             yield f"part {first} of a page without a character and then part {second}", f"[jp{first}][jp{second}]A"
 
 
-def mixtures() -> Iterator[Named]:
+def _mixtures() -> Iterator[_Named]:
     yield "three parts of a line that touch", "[fo2][jl2]AA[jl3]A[jl4]AA"
     yield "parts of a line that overlap", "[jl2]AA[jl3]AA"
     yield "parts of a page that overlap", "[jp2]A[nl]A[jp4]A"
@@ -79,8 +79,8 @@ def mixtures() -> Iterator[Named]:
     yield "a fault of the markup before one of the layout", "[xx]AAAAA"
 
 
-def texts() -> Iterator[Named]:
-    for some in (tags, values, counts, mixtures):
+def texts() -> Iterator[_Named]:
+    for some in (tags, values, counts, _mixtures):
         yield from some()
 
 

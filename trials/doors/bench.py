@@ -20,7 +20,7 @@ from wisangub.process.places import TOP
 
 from .patience import PACE
 
-MOST_TOLD = 3000  # characters of what was found, the last ones
+_MOST_TOLD = 3000  # characters of what was found, the last ones
 
 
 @dataclass
@@ -46,7 +46,7 @@ class Trial:
         self.passed, self.failed = self.passed + is_well, self.failed + (not is_well)
         if not is_well:
             told = str(found)
-            print(f"FAILED {name}: {told if len(told) <= MOST_TOLD else f'.. {told[-MOST_TOLD:]}'}", flush=True)
+            print(f"FAILED {name}: {told if len(told) <= _MOST_TOLD else f'.. {told[-_MOST_TOLD:]}'}", flush=True)
         return is_well
 
     def is_late(self) -> bool:

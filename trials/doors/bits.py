@@ -14,11 +14,11 @@ from .follower import Follower, lines_of
 from .manager import DMS, Manager
 from .requests import Bindings, Changes
 
-LAST, OTHERS = 10, 2000  # records each bit of which is changed, and bits of others
+_LAST, _OTHERS = 10, 2000  # records each bit of which is changed, and bits of others
 TEXT = DMS + (5, 8, 1, 3)
 
 
-class Bits:
+class _Bits:
     """A journal that a sign's door wrote, with SETs each of which was answered, the last one over several sectors."""
 
     def __init__(self, trial: Trial) -> None:
@@ -57,9 +57,9 @@ class Bits:
     def bits(self) -> None:
         """Each bit of the last records, and some of others: damage, by the reader."""
         last = len(self.text)
-        for _ in range(LAST):
+        for _ in range(_LAST):
             last = self.text.rfind(b"\n", 0, last - 1) + 1
-        bits = [*range(8 * last, 8 * len(self.text)), *(self.trial.chance.randrange(8 * last) for _ in range(OTHERS))]
+        bits = [*range(8 * last, 8 * len(self.text)), *(self.trial.chance.randrange(8 * last) for _ in range(_OTHERS))]
         taken = []
         for bit in bits if not self.trial.is_short else self.trial.chance.sample(bits, 600):
             octets = self.flipped(bit)
@@ -141,7 +141,7 @@ class Bits:
         print(f"last writes with some of their sectors: {len(every)}", flush=True)
 
 
-def older(trial: Trial, path: pathlib.Path, text: bytes) -> None:
+def _older(trial: Trial, path: pathlib.Path, text: bytes) -> None:
     """A journal of form 1 is written anew by a door, and is kept as it was."""
     lines = [line.replace(b"journal 2 ", b"journal 1 ") for line in lines_of(text)]
     path.write_bytes(written(lines))
@@ -185,10 +185,10 @@ def unknown(trial: Trial, path: pathlib.Path, text: bytes) -> None:
 
 def run(trial: Trial) -> None:
     """All of it."""
-    bits = Bits(trial)
+    bits = _Bits(trial)
     bits.bits()
     bits.sectors()
     bits.doors()
-    older(trial, bits.path, bits.text)
+    _older(trial, bits.path, bits.text)
     if not trial.is_late():
         unknown(trial, bits.path, bits.text)

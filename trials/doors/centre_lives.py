@@ -16,7 +16,7 @@ from .numbers import numbers
 from .refusals import refusing
 from .relay import Relay
 
-FAULTS = (("write", errno.ENOSPC), ("write", errno.EIO), ("fdatasync", errno.EIO), ("open", errno.EACCES))
+_FAULTS = (("write", errno.ENOSPC), ("write", errno.EIO), ("fdatasync", errno.EIO), ("open", errno.EACCES))
 
 
 class Centres:
@@ -27,7 +27,7 @@ class Centres:
         self.commands = self.killed = 0
         self.takes = 1.5  # seconds of a life that is not killed
         self.printed: set[str] = set()
-        self.faults = itertools.cycle([(call, error, at) for at in range(1, 13) for call, error in FAULTS])
+        self.faults = itertools.cycle([(call, error, at) for at in range(1, 13) for call, error in _FAULTS])
 
     def command(self) -> str:
         """What an operator asks for."""

@@ -13,7 +13,7 @@ from .refusals import built
 from .relay import Relay
 
 
-def fresh_lives(trial: Trial, port: int, count: int) -> int:
+def _fresh_lives(trial: Trial, port: int, count: int) -> int:
     """Centres that begin anew again and again, and are killed at random moments: no number is used again. How many were
     killed."""
     relay = Relay(trial, port)
@@ -82,7 +82,7 @@ def run(trial: Trial, count: int) -> None:
     )
     again(trial, centres)
     relay.end()
-    begun_anew = fresh_lives(trial, sign.port, 3 if trial.is_short else 60)
+    begun_anew = _fresh_lives(trial, sign.port, 3 if trial.is_short else 60)
     trial.holds("the sign goes on", sign.stop() == 0, sign.errors.decode())
     print(
         f"kills of a centre: {centres.killed}, {len(relay.requests)} requests, and {begun_anew} of centres that began "

@@ -20,7 +20,7 @@ from .requests import Changes
 PAGE = 4096  # octets of which a file in memory has a whole number
 
 
-class Mounted:
+class _Mounted:
     """A small file system in memory, where it may be mounted."""
 
     def __init__(self, trial: Trial) -> None:
@@ -41,7 +41,7 @@ class Mounted:
             self.call("umount", "-l", str(self.folder))
 
 
-def answered(follower: Follower, door: Door, changes: Changes, count: int) -> list[bool]:
+def _answered(follower: Follower, door: Door, changes: Changes, count: int) -> list[bool]:
     """Whether each of so many SETs was answered."""
     manager = Manager(door.port)
     found = []
@@ -52,15 +52,15 @@ def answered(follower: Follower, door: Door, changes: Changes, count: int) -> li
     return found
 
 
-def full(trial: Trial, mounted: Mounted) -> None:
+def full(trial: Trial, mounted: _Mounted) -> None:
     """A disk that runs full: SETs are lost and Gets answered, until there is room again."""
     path = mounted.folder / "journal"
     follower, changes = Follower(path), Changes(trial.chance)
     filler = mounted.folder / "filler"
     door = trial.sign("--journal", str(path), "--no-ticks")
-    trial.holds("on a small disk SETs are answered", all(answered(follower, door, changes, 3)), door.errors.decode())
+    trial.holds("on a small disk SETs are answered", all(_answered(follower, door, changes, 3)), door.errors.decode())
     fill(filler)
-    found = answered(follower, door, changes, 40)
+    found = _answered(follower, door, changes, 40)
     trial.holds(
         "on a full disk SETs are lost", not any(found[found.index(False) :] if False in found else [True]), found
     )
@@ -70,9 +70,9 @@ def full(trial: Trial, mounted: Mounted) -> None:
     trial.holds("and answers Gets", bool(manager.get([Changes.COUNTER])))
     manager.close()
     filler.unlink()
-    trial.holds("with room again SETs are answered", all(answered(follower, door, changes, 3)), door.errors.decode())
+    trial.holds("with room again SETs are answered", all(_answered(follower, door, changes, 3)), door.errors.decode())
     door.kill()
-    look_again(trial, "after a full disk", path, follower)
+    _look_again(trial, "after a full disk", path, follower)
 
 
 def fill(filler: pathlib.Path) -> None:
@@ -86,7 +86,7 @@ def fill(filler: pathlib.Path) -> None:
                 pass
 
 
-def full_at_start(trial: Trial, mounted: Mounted) -> None:
+def _full_at_start(trial: Trial, mounted: _Mounted) -> None:
     """On a full disk a door that needs its journal says why and ends; another one starts from what is there."""
     filler = mounted.folder / "filler"
     fill(filler)
@@ -101,12 +101,12 @@ def full_at_start(trial: Trial, mounted: Mounted) -> None:
     (mounted.folder / "packed").write_bytes(records.records(lines))
     for name in ("packed", "none"):
         fill(filler)
-        goes_on(trial, f"a full disk at the start of {name}", mounted.folder / name, b"No space left", filler.unlink)
+        _goes_on(trial, f"a full disk at the start of {name}", mounted.folder / name, b"No space left", filler.unlink)
     door = trial.sign("--journal", str(mounted.folder / "none"), "--no-ticks")
     trial.holds("and it is begun where there is room", door.port != 0 and door.stop() == 0, door.errors.decode())
 
 
-def goes_on(trial: Trial, name: str, path: pathlib.Path, words: bytes, repair: Callable[[], object]) -> None:
+def _goes_on(trial: Trial, name: str, path: pathlib.Path, words: bytes, repair: Callable[[], object]) -> None:
     """A sign that starts where the disk takes nothing answers Gets and no SET, and says so by its exit status; after a
     repair it answers SETs, and the next start has them."""
     changes = Changes(trial.chance)
@@ -122,7 +122,7 @@ def goes_on(trial: Trial, name: str, path: pathlib.Path, words: bytes, repair: C
     door = trial.sign("--journal", str(path), "--no-ticks")
     repair()
     follower = Follower(path)
-    trial.holds(f"{name}: then SETs are answered", all(answered(follower, door, changes, 3)), door.errors.decode())
+    trial.holds(f"{name}: then SETs are answered", all(_answered(follower, door, changes, 3)), door.errors.decode())
     trial.holds(f"{name}: and it ends well", door.stop() == 0, door.errors.decode())
     after = trial.sign("--journal", str(path), "--no-ticks")
     if trial.holds(f"{name}: and starts again", after.port != 0, after.errors.decode()):
@@ -133,7 +133,7 @@ def goes_on(trial: Trial, name: str, path: pathlib.Path, words: bytes, repair: C
     trial.holds(f"{name}: and ends", after.stop() == 0, after.errors.decode())
 
 
-def seconds_on_full(trial: Trial, mounted: Mounted) -> None:
+def _seconds_on_full(trial: Trial, mounted: _Mounted) -> None:
     """On a disk that is full at a start seconds pass and a duration ends; it is said each minute, and written after."""
     path, filler = mounted.folder / "seconds", mounted.folder / "filler"
     door, changes, follower = trial.sign("--journal", str(path)), Changes(trial.chance), Follower(path)
@@ -157,13 +157,13 @@ def seconds_on_full(trial: Trial, mounted: Mounted) -> None:
     mode = manager.get([DMS + (6, 7, 0)])
     trial.holds("and a duration ends", bool(mode) and mode[0][1] == (wire.INTEGER, 14), mode)
     filler.unlink()
-    trial.holds("with room again a SET is answered", all(answered(follower, door, changes, 2)), door.errors.decode())
+    trial.holds("with room again a SET is answered", all(_answered(follower, door, changes, 2)), door.errors.decode())
     manager.close()
     trial.holds("and nothing is lost", door.stop() == 0, door.errors.decode())
-    look_again(trial, "after seconds on a full disk", path, follower)
+    _look_again(trial, "after seconds on a full disk", path, follower)
 
 
-def centre_on_full(trial: Trial, mounted: Mounted) -> None:
+def _centre_on_full(trial: Trial, mounted: _Mounted) -> None:
     """A centre whose disk is full at its start takes no command, and says why."""
     filler = mounted.folder / "filler"
     fill(filler)
@@ -183,7 +183,7 @@ def centre_on_full(trial: Trial, mounted: Mounted) -> None:
     filler.unlink()
 
 
-def log_on_full(trial: Trial, mounted: Mounted) -> None:
+def _log_on_full(trial: Trial, mounted: _Mounted) -> None:
     """A log whose disk is full: its door goes on, and writes it again where there is room."""
     log, filler = mounted.folder / "log", mounted.folder / "filler"
     path = trial.new_folder() / "journal"
@@ -191,19 +191,19 @@ def log_on_full(trial: Trial, mounted: Mounted) -> None:
     door = trial.sign("--journal", str(path), "--no-ticks", "--log", str(log))
     fill(filler)
     trial.holds(
-        "with a log on a full disk SETs are answered", all(answered(follower, door, changes, 30)), door.errors.decode()
+        "with a log on a full disk SETs are answered", all(_answered(follower, door, changes, 30)), door.errors.decode()
     )
     is_told = eventually(lambda: b"the log" in door.errors and b"No space left" in door.errors)
     trial.holds("and the door says so", is_told, door.errors)
     filler.unlink()
-    trial.holds("with room again SETs are answered", all(answered(follower, door, changes, 3)), door.errors.decode())
+    trial.holds("with room again SETs are answered", all(_answered(follower, door, changes, 3)), door.errors.decode())
     trial.holds("and the log is written again", b"written again" in door.errors, door.errors.decode())
     trial.holds("such a door ends well", door.stop() == 0 and b"Exception" not in door.errors, door.errors.decode())
     torn = [line for line in log.read_text(encoding="utf-8").splitlines() if not line.startswith("20")]
     trial.holds("each line of the log is one", not torn, torn)
 
 
-def look_again(trial: Trial, name: str, path: pathlib.Path, follower: Follower) -> None:
+def _look_again(trial: Trial, name: str, path: pathlib.Path, follower: Follower) -> None:
     """What a door finds after a kill is what was answered."""
     door = trial.sign("--journal", str(path), "--no-ticks")
     if trial.holds(f"{name}: a door starts", door.port != 0, door.errors.decode()):
@@ -214,7 +214,7 @@ def look_again(trial: Trial, name: str, path: pathlib.Path, follower: Follower) 
     trial.holds(f"{name}: and ends", door.stop() == 0, door.errors.decode())
 
 
-def read_only(trial: Trial, mounted: Mounted) -> None:
+def _read_only(trial: Trial, mounted: _Mounted) -> None:
     """A folder that can only be read: no door begins there."""
     path = mounted.folder / "journal"
     if not mounted.remount("ro"):
@@ -225,7 +225,9 @@ def read_only(trial: Trial, mounted: Mounted) -> None:
     for name in ("journal", "other"):
         mounted.remount("ro")
         how = lambda: mounted.remount("rw")  # noqa: E731
-        goes_on(trial, f"a disk that can only be read at the start of {name}", mounted.folder / name, b"Read-only", how)
+        _goes_on(
+            trial, f"a disk that can only be read at the start of {name}", mounted.folder / name, b"Read-only", how
+        )
     mounted.remount("rw")
     door = trial.sign("--journal", str(path), "--no-ticks")
     trial.holds(
@@ -251,12 +253,12 @@ def run(trial: Trial) -> None:
         folder.chmod(0o500)
         refused(trial, "a folder that is not ours", str(folder / "journal"), b"Permission denied")
         folder.chmod(0o700)
-    mounted = Mounted(trial)
+    mounted = _Mounted(trial)
     try:
         if mounted.is_there:
-            parts = [full, full_at_start, log_on_full, centre_on_full, read_only]
-            for part in parts + ([] if trial.is_short else [seconds_on_full]):
-                is_any = part not in (log_on_full, centre_on_full)
+            parts = [full, _full_at_start, _log_on_full, _centre_on_full, _read_only]
+            for part in parts + ([] if trial.is_short else [_seconds_on_full]):
+                is_any = part not in (_log_on_full, _centre_on_full)
                 if not trial.is_late() and (is_any or trial.is_ours(f"{part.__name__} of a full disk")):
                     part(trial, mounted)
         else:

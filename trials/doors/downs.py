@@ -14,10 +14,10 @@ from .bench import Trial
 from .follower import Follower, lines_of
 from .manager import DMS, Manager, Name
 
-VOLATILE: Name = DMS + (5, 8, 1, 9, 4, 1)
+_VOLATILE: Name = DMS + (5, 8, 1, 9, 4, 1)
 
 
-def sets(bindings: list[tuple[Name, tuple[int, object]]]) -> bytes:
+def _sets(bindings: list[tuple[Name, tuple[int, object]]]) -> bytes:
     """The line of a SET."""
     octets: bytes = wire.written(wire.Message(wire.SET, b"admin", 1, 0, 0, bindings))
     return b"datagram " + octets.hex().encode()
@@ -28,16 +28,16 @@ def lines(head: Head, last: Moment) -> list[bytes]:
     record is five seconds before the moment."""
     code = Activation(2, 255, MessageId(7, 9, 0), b"\x7f\0\0\1")
     made = [
-        sets([(VOLATILE, (wire.INTEGER, 6))]),
-        sets([(DMS + (6, 10, 0), (wire.INTEGER, 30))]),
-        sets([(DMS + (6, 8, 0), (wire.OCTETS, MessageId(7, 8, 0).octets(False)))]),
-        sets([(DMS + (6, 3, 0), (wire.OCTETS, code.octets(False)))]),
+        _sets([(_VOLATILE, (wire.INTEGER, 6))]),
+        _sets([(DMS + (6, 10, 0), (wire.INTEGER, 30))]),
+        _sets([(DMS + (6, 8, 0), (wire.OCTETS, MessageId(7, 8, 0).octets(False)))]),
+        _sets([(DMS + (6, 3, 0), (wire.OCTETS, code.octets(False)))]),
     ]
     early = last.later(-5)
     return [head.line(), early.start(), early.clock(), *made, b"ticks 5"]
 
 
-def life(trial: Trial, name: str, last: Moment, wanted: list[bytes], *words: str) -> None:
+def _life(trial: Trial, name: str, last: Moment, wanted: list[bytes], *words: str) -> None:
     """A start over such a journal: the lines that it records, the last number with the seconds that the start took, and
     the walk after it."""
     path, begun = trial.new_folder() / "journal", time.monotonic()
@@ -49,7 +49,7 @@ def life(trial: Trial, name: str, last: Moment, wanted: list[bytes], *words: str
         new = [line for line in lines_of(path.read_bytes())[before:] if not line.startswith(records.OWN)]
         trial.holds(
             f"{name}: it records what the time was",
-            len(new) == len(wanted) and all(is_near(*pair, took) for pair in zip(new, wanted)),
+            len(new) == len(wanted) and all(_is_near(*pair, took) for pair in zip(new, wanted)),
             (new, wanted),
         )
         follower = Follower(path)
@@ -61,7 +61,7 @@ def life(trial: Trial, name: str, last: Moment, wanted: list[bytes], *words: str
     trial.holds(f"{name}: and ends", door.stop() == 0, door.errors.decode())
 
 
-def of_a_centre(trial: Trial) -> None:
+def _of_a_centre(trial: Trial) -> None:
     """A centre is told nothing of the time without a process: what waits for a reply waits as it did."""
     path = trial.new_folder() / "journal"
     octets = records.records([Head("centre", "bench", 1, 2).line(), b"blank 5 65535 255 127.0.0.1", b"tick"])
@@ -75,7 +75,7 @@ def of_a_centre(trial: Trial) -> None:
     trial.holds("and nothing is recorded of the hour", path.read_bytes() == octets, path.read_bytes())
 
 
-def is_near(found: bytes, wanted: bytes, more: int) -> bool:
+def _is_near(found: bytes, wanted: bytes, more: int) -> bool:
     """Whether two lines are the same, but for a number of seconds that may be so many more, and is not 0."""
     one, _, number = found.partition(b" ")
     other, _, least = wanted.partition(b" ")
@@ -102,10 +102,10 @@ def run(trial: Trial) -> None:
         ("--down power", True, 40, [b"power-lost", b"power-back 40"], ["--down", "power"]),
     ]
     if trial.is_ours("a centre"):
-        of_a_centre(trial)
+        _of_a_centre(trial)
     for name, is_same_boot, seconds, wanted, words in rows:
         if trial.is_late():
             break
         now = Moment.now()
         last = now if is_same_boot else Moment("another", now.wall, 10**6)
-        life(trial, name, last.later(-seconds), wanted, *words)
+        _life(trial, name, last.later(-seconds), wanted, *words)

@@ -13,9 +13,9 @@ from .manager import Manager
 from .refusals import built, refusing
 from .requests import Changes
 
-SETS = 6  # of a life
-MOST_CALLS = 20  # of one kind in a life
-LIVES: list[tuple[str, int, dict[str, int]]] = [
+_SETS = 6  # of a life
+_MOST_CALLS = 20  # of one kind in a life
+_LIVES: list[tuple[str, int, dict[str, int]]] = [
     ("write", errno.ENOSPC, {}),
     ("write", errno.EIO, {"short": 20}),
     ("write", errno.EROFS, {"more": 2}),
@@ -29,12 +29,12 @@ LIVES: list[tuple[str, int, dict[str, int]]] = [
 ]
 
 
-def is_ending(door: Door) -> bool:
+def _is_ending(door: Door) -> bool:
     """Whether a door has ended, or said that it does."""
     return door.process.poll() is not None or b"is not known" in door.errors
 
 
-class Faults:
+class _Faults:
     """Lives over one journal: each with a fault, and then one without, which has SETs answered after it."""
 
     lives = 0
@@ -55,7 +55,7 @@ class Faults:
             environment=refusing(self.library, self.path, call, at, error, **more),
         )
         answered = self.ask(door) if door.port else []
-        is_over = is_ending(door) or answered[-1:] == [False] and eventually(lambda: is_ending(door))
+        is_over = _is_ending(door) or answered[-1:] == [False] and eventually(lambda: _is_ending(door))
         status = door.ended() if is_over else None
         told = self.is_told(door, error, all(answered) and status is None)
         if status is not None:
@@ -109,15 +109,15 @@ class Faults:
         """Whether each of several SETs was answered."""
         manager = Manager(door.port)
         answered: list[bool] = []
-        while len(answered) < SETS or not answered[-1] and not is_ending(door) and len(answered) < 2 * SETS:
+        while len(answered) < _SETS or not answered[-1] and not _is_ending(door) and len(answered) < 2 * _SETS:
             octets = manager.request(wire.SET, self.changes.counter())
-            answered.append(self.follower.surely(manager, octets, lambda: is_ending(door)))
+            answered.append(self.follower.surely(manager, octets, lambda: _is_ending(door)))
         manager.close()
         return answered
 
     def after(self, name: str) -> None:
         """A life without a fault: what it finds, and SETs that are answered."""
-        Faults.lives += 1
+        _Faults.lives += 1
         door = self.trial.sign("--journal", str(self.path), "--no-ticks")
         if self.trial.holds(f"after {name}: it starts", door.port != 0, door.errors.decode()):
             manager = Manager(door.port)
@@ -135,27 +135,27 @@ class Faults:
         self.trial.doors.remove(door)
 
 
-def each(trial: Trial, library: pathlib.Path, faults: Faults, most: int) -> None:
+def _each(trial: Trial, library: pathlib.Path, faults: _Faults, most: int) -> None:
     """Each call of each kind in turn, as long as there is one more: over a journal that goes on, and over new ones."""
-    for call, error, more in LIVES:
+    for call, error, more in _LIVES:
         for at in range(1, most):
             if call in ("ftruncate", "fsync"):
                 faults.tear()
             if trial.is_late() or not faults.life(call, at, error, **more):
                 break
-    for call, error, more in LIVES:
+    for call, error, more in _LIVES:
         for at in range(1, most):
-            if trial.is_late() or not Faults(trial, library).life(call, at, error, **more):
+            if trial.is_late() or not _Faults(trial, library).life(call, at, error, **more):
                 break
 
 
-def some(trial: Trial, faults: Faults) -> None:
+def some(trial: Trial, faults: _Faults) -> None:
     """The first calls of those that a life makes at each datagram, and others once."""
     for at in range(1, 4):
-        for call, error, more in (LIVES[0], LIVES[1], LIVES[4]):
+        for call, error, more in (_LIVES[0], _LIVES[1], _LIVES[4]):
             if not trial.is_late():
                 faults.life(call, at, error, **more)
-    for call, error, more in (LIVES[3], LIVES[5], LIVES[7], LIVES[8]):
+    for call, error, more in (_LIVES[3], _LIVES[5], _LIVES[7], _LIVES[8]):
         if not trial.is_late():
             faults.life(call, 3 if call == "write" else 1, error, **more)
 
@@ -165,12 +165,12 @@ def run(trial: Trial) -> None:
     library = built(trial)
     if library is None:
         return
-    faults = Faults(trial, library)
+    faults = _Faults(trial, library)
     if trial.is_short:
         some(trial, faults)
     else:
-        each(trial, library, faults, MOST_CALLS)
+        _each(trial, library, faults, _MOST_CALLS)
     for call in ("link", "rename") if trial.is_ours("--fresh with a disk that refuses") else ():
         if not trial.is_late():
             faults.fresh(call)
-    print(f"faults of the disk: {Faults.lives}", flush=True)
+    print(f"faults of the disk: {_Faults.lives}", flush=True)

@@ -17,7 +17,7 @@ from .manager import Manager
 from .requests import Changes
 
 
-class Files:
+class _Files:
     """A journal that a door wrote, and what becomes of it."""
 
     def __init__(self, trial: Trial) -> None:
@@ -177,7 +177,7 @@ class Files:
 
 def run(trial: Trial) -> None:
     """All of it."""
-    files = Files(trial)
+    files = _Files(trial)
     anew = Anew(trial, files.path.parent, files.written)
     at_once = 3 if trial.is_short else 8
     parts = [files.changed, files.others, files.prefixes]

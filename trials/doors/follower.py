@@ -11,15 +11,15 @@ from model.sign import Sign
 from .bench import Trial
 from .manager import Manager, Name
 
-RECORD = re.compile(rb"(.*) #([1-9][0-9]*) ([1-9][0-9]*) ([0-9a-f]{8})", re.DOTALL)
+_RECORD = re.compile(rb"(.*) #([1-9][0-9]*) ([1-9][0-9]*) ([0-9a-f]{8})", re.DOTALL)
 
 
-def records_of(octets: bytes, begin: int, number: int) -> tuple[list[bytes], int, int]:
+def _records_of(octets: bytes, begin: int, number: int) -> tuple[list[bytes], int, int]:
     """The lines of the whole records of a journal from an octet on, the first with this number, by docs/JOURNAL.md,
     with the octet after them and the number of the next."""
     found: list[bytes] = []
     while (end := octets.find(b"\n", begin)) != -1:
-        shape = RECORD.fullmatch(octets[begin:end])
+        shape = _RECORD.fullmatch(octets[begin:end])
         if shape is None or int(shape[2]) != number or not 1 <= int(shape[3]) <= number:
             break
         if int(shape[4], 16) != zlib.crc32(octets[begin : end - 8]):
@@ -31,7 +31,7 @@ def records_of(octets: bytes, begin: int, number: int) -> tuple[list[bytes], int
 
 def lines_of(octets: bytes) -> list[bytes]:
     """The lines of all whole records of a journal."""
-    return records_of(octets, 0, 1)[0]
+    return _records_of(octets, 0, 1)[0]
 
 
 class Follower:
@@ -63,7 +63,7 @@ class Follower:
         asked. The model is handed what is new."""
         octets = self.path.read_bytes()
         trial.holds(f"{name}: the journal begins as it did", octets.startswith(self.seen), self.path)
-        new, end, self.number = records_of(octets, len(self.seen), self.number)
+        new, end, self.number = _records_of(octets, len(self.seen), self.number)
         self.seen = octets[:end]
         wanted = [bytes.fromhex(line[9:].decode()) for line in new if line.startswith(b"datagram ")]
         for octets in wanted:

@@ -13,9 +13,9 @@ from .bench import Door, Trial
 from .follower import lines_of
 from .manager import Manager
 
-Form = tuple[int, ...]  # of the lengths of the message, the version, the community, the PDU, and all within the PDU
-PLACES, MOST_DIGITS = 5, 4
-SHORTEST, LONGEST = (0,) * PLACES, (MOST_DIGITS,) * PLACES
+_Form = tuple[int, ...]  # of the lengths of the message, the version, the community, the PDU, and all within the PDU
+PLACES, _MOST_DIGITS = 5, 4
+SHORTEST, _LONGEST = (0,) * PLACES, (_MOST_DIGITS,) * PLACES
 
 
 def requests() -> list[tuple[bytes, bool]]:
@@ -32,11 +32,11 @@ def length(size: int, form: int) -> bytes:
     return bytes([128 + digits]) + size.to_bytes(digits, "big")
 
 
-def element(tag: int, content: bytes, form: int) -> bytes:
+def _element(tag: int, content: bytes, form: int) -> bytes:
     return bytes([tag]) + length(len(content), form) + content
 
 
-def within(octets: bytes, form: int) -> bytes:
+def _within(octets: bytes, form: int) -> bytes:
     """The same elements, spelled in the shortest form, with all their lengths in this one."""
     made, at = b"", 0
     while at < len(octets):
@@ -45,11 +45,11 @@ def within(octets: bytes, form: int) -> bytes:
             begin += size - 128
             size = int.from_bytes(octets[at + 2 : begin], "big")
         content, at = octets[begin : begin + size], begin + size
-        made += element(tag, within(content, form) if tag == wire.SEQUENCE else content, form)
+        made += _element(tag, _within(content, form) if tag == wire.SEQUENCE else content, form)
     return made
 
 
-def respelled(octets: bytes, forms: Form) -> bytes | None:
+def respelled(octets: bytes, forms: _Form) -> bytes | None:
     """The same message with its lengths in these forms."""
     message = wire.spelled(octets)
     if message is None:
@@ -57,31 +57,31 @@ def respelled(octets: bytes, forms: Form) -> bytes | None:
     listed = wire.element(wire.SEQUENCE, b"".join(map(wire.binding, message.bindings)))
     pdu = wire.integer(message.number) + wire.integer(message.status) + wire.integer(message.index) + listed
     made = (
-        element(wire.INTEGER, b"\0", forms[1])
-        + element(wire.OCTETS, message.community, forms[2])
-        + element(message.kind, within(pdu, forms[4]), forms[3])
+        _element(wire.INTEGER, b"\0", forms[1])
+        + _element(wire.OCTETS, message.community, forms[2])
+        + _element(message.kind, _within(pdu, forms[4]), forms[3])
     )
-    return element(wire.SEQUENCE, made, forms[0])
+    return _element(wire.SEQUENCE, made, forms[0])
 
 
-def forms() -> Iterator[Form]:
+def forms() -> Iterator[_Form]:
     """Every form of each of the lengths alone, and all at once."""
     yield SHORTEST
-    for form in range(1, MOST_DIGITS + 1):
+    for form in range(1, _MOST_DIGITS + 1):
         for place in range(PLACES):
             yield tuple(form if at == place else 0 for at in range(PLACES))
         yield (form,) * PLACES
 
 
-def taken_for_gets(trial: Trial, some: list[bytes]) -> None:
+def _taken_for_gets(trial: Trial, some: list[bytes]) -> None:
     """Each request with every form of each outer length beside every one of the others: it is taken for a Get where it
     is one and they are in the shortest form, and nowhere else."""
     count, other = 0, []
     for octets in some:
         message = wire.spelled(octets)
-        for inner in (0, MOST_DIGITS):
+        for inner in (0, _MOST_DIGITS):
             shortest = respelled(octets, (0, 0, 0, 0, inner))
-            for outer in itertools.product(range(MOST_DIGITS + 1), repeat=PLACES - 1):
+            for outer in itertools.product(range(_MOST_DIGITS + 1), repeat=PLACES - 1):
                 made = respelled(octets, (*outer, inner))
                 assert made is not None and message is not None
                 count += 1
@@ -91,7 +91,7 @@ def taken_for_gets(trial: Trial, some: list[bytes]) -> None:
     print(f"requests with every form of each length: {count} looked at", flush=True)
 
 
-class Lives:
+class _Lives:
     """Lives of a sign over one journal: requests in some form of their lengths, a kill, and the whole walk after it.
     The model is handed each datagram that was answered."""
 
@@ -122,7 +122,7 @@ class Lives:
         other = [one for one in self.names if found.get(one) != self.sign.objects.value(one)]
         self.trial.holds(f"{name}: after a kill the sign is what they left", not other, other[:5])
 
-    def life(self, form: Form, some: list[bytes]) -> None:
+    def life(self, form: _Form, some: list[bytes]) -> None:
         """Some requests, a kill, and what comes back; a journal that grew long is begun anew."""
         name = f"{len(some)} requests with lengths {form}, after {self.count} lives"
         if self.count % 100 == 99:
@@ -147,7 +147,7 @@ class Lives:
         self.trial.doors.remove(door)
 
 
-def is_spelled(octets: bytes) -> bool:
+def _is_spelled(octets: bytes) -> bool:
     """Whether it can be spelled in another form."""
     return wire.spelled(octets) is not None
 
@@ -155,15 +155,15 @@ def is_spelled(octets: bytes) -> bool:
 def run(trial: Trial) -> None:
     """All requests in each form of their lengths, with a kill after all; in the long form those that change a sign with
     a kill at each in the shortest form and in the longest. All of them one at a time are a trial of `spelled`."""
-    every = [octets for octets, _ in requests() if is_spelled(octets)]
+    every = [octets for octets, _ in requests() if _is_spelled(octets)]
     changing = [octets for octets, changes in requests() if changes]
-    taken_for_gets(trial, trial.chance.sample(every, 4) if trial.is_short else every)
-    lives = Lives(trial)
+    _taken_for_gets(trial, trial.chance.sample(every, 4) if trial.is_short else every)
+    lives = _Lives(trial)
     for form in forms() if not trial.is_short else [SHORTEST, (0, 0, 0, 1, 0), (1,) * PLACES]:
         if trial.is_late():
             break
         lives.life(form, every)
-    for form in () if trial.is_short else (SHORTEST, LONGEST):
+    for form in () if trial.is_short else (SHORTEST, _LONGEST):
         for octets in changing:
             lives.life(form, [octets])
     print(f"requests in forms of their lengths: {lives.count} lives with a kill at the end of each", flush=True)

@@ -11,12 +11,12 @@ from .bench import Trial
 from .manager import Manager
 from .patience import PACE
 
-AT_ONCE = 16
-MOST_REPLY = 65_536
-MOST_TOLD = 10  # batches that are told of
+_AT_ONCE = 16
+_MOST_REPLY = 65_536
+_MOST_TOLD = 10  # batches that are told of
 
 
-class Exchange:
+class _Exchange:
     """A sign's door, and the model of its sign, which is handed the same datagrams."""
 
     def __init__(self, trial: Trial) -> None:
@@ -36,7 +36,7 @@ class Exchange:
         found = []
         self.socket.settimeout(PACE.patience())
         try:
-            found = [self.socket.recv(MOST_REPLY) for _ in wanted]
+            found = [self.socket.recv(_MOST_REPLY) for _ in wanted]
         except OSError:
             pass
         self.sent, self.replied = self.sent + len(some), self.replied + len(found)
@@ -47,7 +47,7 @@ class Exchange:
         """The door still runs, no reply is left over, and each value is the model's."""
         self.socket.settimeout(0.2)
         try:
-            left = self.socket.recv(MOST_REPLY)
+            left = self.socket.recv(_MOST_REPLY)
         except OSError:
             left = b""
         self.trial.holds("no reply is left over", not left, left.hex())
@@ -62,9 +62,9 @@ class Exchange:
 
 def run(trial: Trial, datagrams: Iterable[bytes]) -> None:
     """All of them, many at once; it ends where too many batches fail."""
-    exchange, left = Exchange(trial), iter(datagrams)
+    exchange, left = _Exchange(trial), iter(datagrams)
     batches = failed = 0
-    while failed < MOST_TOLD and (some := list(itertools.islice(left, AT_ONCE))):
+    while failed < _MOST_TOLD and (some := list(itertools.islice(left, _AT_ONCE))):
         batches, failed = batches + 1, failed + (not exchange.batch(some))
     trial.holds(f"{batches} batches of hostile datagrams", failed == 0, failed)
     trial.passed += batches - failed

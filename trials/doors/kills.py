@@ -20,7 +20,7 @@ def killed_later(door: Door, which: str, seconds: float) -> threading.Timer:
     return timer
 
 
-class Kills:
+class _Kills:
     """Lives of a sign over one journal, each of which is ended by a kill."""
 
     def __init__(self, trial: Trial, folder: pathlib.Path) -> None:
@@ -145,7 +145,7 @@ class Kills:
 def run(trial: Trial, count: int) -> None:
     """So many kills, and a last look."""
     begun = time.monotonic()
-    kills = Kills(trial, trial.new_folder())
+    kills = _Kills(trial, trial.new_folder())
     at = 0
     while kills.killed < count and at < 2 * count and not trial.is_late():
         (kills.early if at % 8 == 7 else kills.life)(at)

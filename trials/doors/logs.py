@@ -10,7 +10,7 @@ from .manager import Manager
 from .requests import Changes
 
 
-def logged(trial: Trial) -> None:
+def _logged(trial: Trial) -> None:
     """A log as lines and as JSON, and its mode; a co-process that is killed; an IPv6 address."""
     path = trial.new_folder() / "log"
     rows: list[tuple[list[str], bytes]] = [
@@ -28,8 +28,8 @@ def logged(trial: Trial) -> None:
         last = Manager(door.port)
         last.get([Changes.COUNTER], 0.1)
         last.close()
-        says_dead(trial, door)
-    if has_ipv6():
+        _says_dead(trial, door)
+    if _has_ipv6():
         door = trial.sign("--host", "::1")
         trial.holds("an IPv6 address", b"a sign at [::1]:" in door.output, door.errors.decode())
         centre = trial.door("wisangub-centre", "--to", f"[::1]:{door.port}", stdin=subprocess.PIPE)
@@ -44,7 +44,7 @@ def logged(trial: Trial) -> None:
         trial.skip("IPv6", "no address ::1 here")
 
 
-def of_a_centre(trial: Trial) -> None:
+def _of_a_centre(trial: Trial) -> None:
     """A centre's log tells what was asked for, what went out and what came in, in words; as JSON too, on its standard
     output."""
     sign = trial.sign("--log", "-", "--json")
@@ -76,7 +76,7 @@ def of_a_centre(trial: Trial) -> None:
     trial.holds("a sign's events as JSON", {"start", "in", "out", "accepted", "end"} <= events, events)
 
 
-def says_dead(trial: Trial, door: Door) -> None:
+def _says_dead(trial: Trial, door: Door) -> None:
     """A door whose co-process was killed."""
     trial.holds(
         "a co-process that was killed",
@@ -85,7 +85,7 @@ def says_dead(trial: Trial, door: Door) -> None:
     )
 
 
-def has_ipv6() -> bool:
+def _has_ipv6() -> bool:
     """Whether this machine has the address ::1."""
     try:
         with socket.socket(socket.AF_INET6, socket.SOCK_DGRAM) as one:
@@ -97,5 +97,5 @@ def has_ipv6() -> bool:
 
 def run(trial: Trial) -> None:
     """Everything."""
-    logged(trial)
-    of_a_centre(trial)
+    _logged(trial)
+    _of_a_centre(trial)

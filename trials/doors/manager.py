@@ -13,7 +13,7 @@ Name = tuple[int, ...]
 DMS: Name = (1, 3, 6, 1, 4, 1, 1206, 4, 2, 3)
 
 
-def number_of(octets: bytes) -> int | None:
+def _number_of(octets: bytes) -> int | None:
     """The request-id of a message, None of octets that spell none."""
     message = wire.spelled(octets)
     return None if message is None else message.number
@@ -32,12 +32,12 @@ class Manager:
 
     def exchange(self, octets: bytes, patience: float | None = None) -> bytes | None:
         """The reply to a datagram, None where none comes. A late reply to another one is let go."""
-        wanted, ends = number_of(octets), time.monotonic() + (PACE.patience() if patience is None else patience)
+        wanted, ends = _number_of(octets), time.monotonic() + (PACE.patience() if patience is None else patience)
         try:
             self.socket.send(octets)
             while select.select([self.socket], [], [], max(0.0, ends - time.monotonic()))[0]:
                 reply = self.socket.recv(65_535)
-                if number_of(reply) == wanted:
+                if _number_of(reply) == wanted:
                     return reply
         except OSError:
             pass
@@ -45,7 +45,7 @@ class Manager:
 
     def exchange_all(self, many: list[bytes], patience: float) -> list[bytes | None]:
         """The replies to datagrams that are sent at once, None for each that has none after so many seconds."""
-        at = {number_of(octets): place for place, octets in enumerate(many)}
+        at = {_number_of(octets): place for place, octets in enumerate(many)}
         replies: list[bytes | None] = [None] * len(many)
         ends = time.monotonic() + patience
         try:
@@ -53,15 +53,15 @@ class Manager:
                 self.socket.send(octets)
             while None in replies and select.select([self.socket], [], [], max(0.0, ends - time.monotonic()))[0]:
                 reply = self.socket.recv(65_535)
-                if number_of(reply) in at:
-                    replies[at[number_of(reply)]] = reply
+                if _number_of(reply) in at:
+                    replies[at[_number_of(reply)]] = reply
         except OSError:
             pass
         return replies
 
     def surely(self, octets: bytes, is_over: Callable[[], bool]) -> bytes | None:
         """The reply to a datagram; None where a Get that was sent after it was answered first, or the sign is gone."""
-        wanted, after = number_of(octets), self.request(wire.GET, [])
+        wanted, after = _number_of(octets), self.request(wire.GET, [])
         ends = time.monotonic() + PACE.patience()
         try:
             self.socket.send(octets)
@@ -69,8 +69,8 @@ class Manager:
             while time.monotonic() < ends and not is_over():
                 if select.select([self.socket], [], [], 0.05)[0]:
                     reply = self.socket.recv(65_535)
-                    if number_of(reply) in (wanted, self.number):
-                        return reply if number_of(reply) == wanted else None
+                    if _number_of(reply) in (wanted, self.number):
+                        return reply if _number_of(reply) == wanted else None
         except OSError:
             pass
         return None

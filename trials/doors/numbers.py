@@ -5,7 +5,7 @@ from model import wire
 from .bench import Trial
 from .manager import DMS
 
-ACTIVATE = DMS + (6, 3, 0)
+_ACTIVATE = DMS + (6, 3, 0)
 
 
 def numbers(trial: Trial, requests: list[bytes]) -> set[int]:
@@ -16,7 +16,7 @@ def numbers(trial: Trial, requests: list[bytes]) -> set[int]:
         message = wire.spelled(octets)
         if trial.holds("a centre sends messages", message is not None, octets.hex()) and message is not None:
             sent.setdefault(message.number, []).append(octets)
-            if message.kind == wire.SET and message.bindings[0][0] == ACTIVATE:
+            if message.kind == wire.SET and message.bindings[0][0] == _ACTIVATE:
                 activations.add(message.number)
     for number, datagrams in sent.items():
         trial.holds(f"number {number} has the same octets each time", len(set(datagrams)) == 1, datagrams)

@@ -11,7 +11,7 @@ from .bench import Door, Trial, eventually
 from .follower import lines_of
 from .patience import PACE
 
-SHORT = "0.05"  # seconds from tick to tick where no sign answers
+_SHORT = "0.05"  # seconds from tick to tick where no sign answers
 
 
 def tick() -> float:
@@ -19,13 +19,13 @@ def tick() -> float:
     return min(max(0.2, PACE.start() / 2), 1.0)
 
 
-def commanded(trial: Trial, port: int, lines: str, *words: str) -> tuple[int, list[str]]:
+def _commanded(trial: Trial, port: int, lines: str, *words: str) -> tuple[int, list[str]]:
     """The status of a centre's door that is given lines, and what it printed."""
-    door, status = given(trial, port, lines, *words)
+    door, status = _given(trial, port, lines, *words)
     return status, door.output.decode().splitlines()
 
 
-def given(trial: Trial, port: int, lines: str, *words: str) -> tuple[Door, int]:
+def _given(trial: Trial, port: int, lines: str, *words: str) -> tuple[Door, int]:
     """A centre's door that is given lines, and its status."""
     call = ["--to", f"127.0.0.1:{port}", "--tick", f"{tick():.2f}", *words]
     door = trial.door("wisangub-centre", *call, stdin=subprocess.PIPE)
@@ -37,7 +37,7 @@ def given(trial: Trial, port: int, lines: str, *words: str) -> tuple[Door, int]:
     return door, status
 
 
-COMMANDS = [  # what is commanded, the exit status, and what is told
+_COMMANDS = [  # what is commanded, the exit status, and what is told
     ("blank 5 65535 255 127.0.0.1", 0, "last accepted"),
     ("blank 5 65535 255 127.0.0.1\nnonsense", 1, "bad line"),
     ("# nothing\n\n", 0, ""),
@@ -49,11 +49,11 @@ COMMANDS = [  # what is commanded, the exit status, and what is told
     ('publish-text 3 1 "AB" "me" 0 0 9 65535 255 127.0.0.1', 0, "last accepted"),
     ("blank 5 65535 8 127.0.0.1", 1, "last failed at step 7: the sign refused the activation for cause 3, priority"),
 ]
-SOME = 5  # commands of which the sign answers one question at least within a second
-WIDE = 'publish-text 3 2 "ABABABABAB" - 0 0 9 65535 255 127.0.0.1\n'
-IN_ERROR = "last failed at step 5: the row has status 5, error"
-AT_FAULT = r"step 5 \(is the message valid\): the sign found fault 5 at octet 4: (wider than the matrix by|textTooBig)"
-GIVEN_UP = [  # what is said of two commands to a silent sign
+_SOME = 5  # commands of which the sign answers one question at least within a second
+_WIDE = 'publish-text 3 2 "ABABABABAB" - 0 0 9 65535 255 127.0.0.1\n'
+_IN_ERROR = "last failed at step 5: the row has status 5, error"
+_AT_FAULT = r"step 5 \(is the message valid\): the sign found fault 5 at octet 4: (wider than the matrix by|textTooBig)"
+_GIVEN_UP = [  # what is said of two commands to a silent sign
     "given up after 0.3 seconds: the job is not done",
     "busy",
     "last none",
@@ -68,15 +68,15 @@ GIVEN_UP = [  # what is said of two commands to a silent sign
 ]
 
 
-def in_error(trial: Trial, port: int) -> None:
+def _in_error(trial: Trial, port: int) -> None:
     """A text that does not fit: standard error says what the sign found, and standard output only how it ended. The
     question is no record."""
     path, is_told = trial.new_folder() / "centre", False
-    for _ in range(SOME):
-        door, status = given(trial, port, WIDE, "--journal", str(path))
+    for _ in range(_SOME):
+        door, status = _given(trial, port, _WIDE, "--journal", str(path))
         lines = door.output.decode().splitlines()
-        trial.holds("a text that does not fit", status == 1 and lines == ["idle", IN_ERROR], (status, lines))
-        is_told = re.search(AT_FAULT, door.errors.decode()) is not None
+        trial.holds("a text that does not fit", status == 1 and lines == ["idle", _IN_ERROR], (status, lines))
+        is_told = re.search(_AT_FAULT, door.errors.decode()) is not None
         if is_told:
             break
     trial.holds("what the sign found", is_told, door.errors.decode())
@@ -85,14 +85,14 @@ def in_error(trial: Trial, port: int) -> None:
     trial.holds("the question is no record", bool(records) and not is_below, records)
 
 
-def operated(trial: Trial) -> None:
+def _operated(trial: Trial) -> None:
     """Commands, what they end as, and the exit status."""
     sign = trial.sign("--log", "-")
-    in_error(trial, sign.port)
-    for line, status, told in COMMANDS:
+    _in_error(trial, sign.port)
+    for line, status, told in _COMMANDS:
         if trial.is_late():
             break
-        found = commanded(trial, sign.port, line + "\n")
+        found = _commanded(trial, sign.port, line + "\n")
         trial.holds(
             f"{line!r}: exit {status}, {told}",
             found[0] == status and any(told in line for line in found[1] or [""]),
@@ -100,7 +100,7 @@ def operated(trial: Trial) -> None:
         )
     else:
         last = [
-            line for line in commanded(trial, sign.port, "blank 5 65535 8 127.0.0.1\n")[1] if line.startswith("ledger")
+            line for line in _commanded(trial, sign.port, "blank 5 65535 8 127.0.0.1\n")[1] if line.startswith("ledger")
         ]
         trial.holds("a ledger's status in words", bool(last) and last[0].endswith(" refused 5, genErr"), last)
     trial.holds("a sign ends at a SIGTERM", sign.stop() == 0, sign.errors.decode())
@@ -108,27 +108,27 @@ def operated(trial: Trial) -> None:
     trial.holds("the reading community asks below 0", set(asked) == {b"public"}, sign.output)
 
 
-def unanswered(trial: Trial) -> None:
+def _unanswered(trial: Trial) -> None:
     """Commands to a sign that is silent, and to a port where there is none."""
     with socket.socket(socket.AF_INET, socket.SOCK_DGRAM) as silent:
         silent.bind(("127.0.0.1", 0))
-        status, lines = commanded(
+        status, lines = _commanded(
             trial,
             silent.getsockname()[1],
             "blank 5 65535 255 127.0.0.1\nblank 6 65535 255 127.0.0.1\n",
-            *("--wait", "0.3", "--tick", SHORT),
+            *("--wait", "0.3", "--tick", _SHORT),
         )
     trial.holds(
         "a silent sign is given up, and the next command waits for the job's end",
-        status == 1 and lines == GIVEN_UP,
+        status == 1 and lines == _GIVEN_UP,
         (status, lines),
     )
-    door, status = given(trial, silent_port(), "blank 5 65535 255 127.0.0.1\n", "--tick", SHORT)
+    door, status = _given(trial, _silent_port(), "blank 5 65535 255 127.0.0.1\n", "--tick", _SHORT)
     is_said = b"\nlast failed at step 7: no reply\n" in door.output and b"nothing listens there" in door.errors
     trial.holds("no sign there", status == 1 and is_said, (status, door.output, door.errors))
 
 
-def outsiders(trial: Trial) -> None:
+def _outsiders(trial: Trial) -> None:
     """A reply from another address than the sign's answers nothing, though it spells what is waited for."""
     with socket.socket(socket.AF_INET, socket.SOCK_DGRAM) as sign, socket.socket(
         socket.AF_INET, socket.SOCK_DGRAM
@@ -153,7 +153,7 @@ def outsiders(trial: Trial) -> None:
         trial.holds("and the sign's does", door.ended() == 0 and b"last accepted" in door.output, door.output.decode())
 
 
-def idles(trial: Trial) -> None:
+def _idles(trial: Trial) -> None:
     """The ticks of a centre that has nothing to do leave no record: not between two commands, not at a start."""
     sign, path = trial.sign("--no-ticks"), trial.new_folder() / "centre"
     call = ["--to", f"127.0.0.1:{sign.port}", "--tick", f"{tick():.2f}", "--journal", str(path)]
@@ -170,7 +170,7 @@ def idles(trial: Trial) -> None:
         trial.holds(f"idle after command {count}: no record", path.read_bytes() == before, path.read_bytes())
     operator.close()
     trial.holds("an idle centre ends", door.ended() == 0, door.errors.decode())
-    status = commanded(trial, sign.port, "status\n", "--journal", str(path))
+    status = _commanded(trial, sign.port, "status\n", "--journal", str(path))
     trial.holds("a start of an idle centre: no record", path.read_bytes() == before and status[0] == 0, status)
     words = [line.partition(b" ")[0] for line in lines_of(before)[1:]]
     is_so = words.count(b"blank") == 2 and set(words) <= {b"blank", b"datagram", b"tick"}
@@ -178,7 +178,7 @@ def idles(trial: Trial) -> None:
     trial.holds("the sign of an idle centre ends", sign.stop() == 0, sign.errors.decode())
 
 
-def silent_port() -> int:
+def _silent_port() -> int:
     """A port where nobody is."""
     with socket.socket(socket.AF_INET, socket.SOCK_DGRAM) as one:
         one.bind(("127.0.0.1", 0))
@@ -187,7 +187,7 @@ def silent_port() -> int:
 
 def run(trial: Trial) -> None:
     """Everything."""
-    operated(trial)
-    unanswered(trial)
-    outsiders(trial)
-    idles(trial)
+    _operated(trial)
+    _unanswered(trial)
+    _outsiders(trial)
+    _idles(trial)

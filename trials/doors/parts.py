@@ -14,7 +14,7 @@ from .bench import Trial
 from .patience import PACE, Hangs, watched
 
 
-def takes_nothing(test: Callable[..., object]) -> bool:
+def _takes_nothing(test: Callable[..., object]) -> bool:
     return not inspect.signature(test).parameters
 
 
@@ -29,7 +29,7 @@ def run(trial: Trial) -> None:
                 raise
             trial.skip(path.stem, "there is no pytest")
             continue
-        for name in [name for name in vars(module) if name.startswith("test_") and takes_nothing(vars(module)[name])]:
+        for name in [name for name in vars(module) if name.startswith("test_") and _takes_nothing(vars(module)[name])]:
             try:
                 with contextlib.redirect_stderr(io.StringIO()), watched(PACE.patience()):
                     vars(module)[name]()

@@ -7,7 +7,7 @@ import time
 from typing import Any, Iterator
 
 TIMES = 60  # of what a door's start takes: after so long a wait is given up
-LEAST, MOST = 30.0, 600.0  # seconds
+LEAST, _MOST = 30.0, 600.0  # seconds
 RINGS_AGAIN = 5.0  # seconds, should what is ended go on waiting
 
 
@@ -17,7 +17,7 @@ class Pace:
 
     def __init__(self) -> None:
         self.starts: collections.deque[float] = collections.deque(maxlen=20)
-        self.most = MOST
+        self.most = _MOST
 
     def took(self, seconds: float) -> None:
         """A start took so long."""

@@ -8,8 +8,8 @@ from model.codes import Activation, MessageId, checksum
 from .manager import DMS, Manager, Name
 
 Bindings = list[tuple[Name, tuple[int, object]]]
-ROWS = ((3, 1), (3, 2), (4, 1))
-TEXTS = (b"A", b"B", b"AB", b"1", b"A[nl]B", b"")
+_ROWS = ((3, 1), (3, 2), (4, 1))
+_TEXTS = (b"A", b"B", b"AB", b"1", b"A[nl]B", b"")
 
 
 class Changes:
@@ -40,12 +40,14 @@ class Changes:
         return self.counter() + self.number()
 
     def status(self) -> Bindings:
-        return [(DMS + (5, 8, 1, 9) + self.chance.choice(ROWS), (wire.INTEGER, self.chance.choice([6, 6, 6, 7, 7, 8])))]
+        return [
+            (DMS + (5, 8, 1, 9) + self.chance.choice(_ROWS), (wire.INTEGER, self.chance.choice([6, 6, 6, 7, 7, 8])))
+        ]
 
     def field(self) -> Bindings:
-        row = self.chance.choice(ROWS)
+        row = self.chance.choice(_ROWS)
         return [
-            (DMS + (5, 8, 1, 3) + row, (wire.OCTETS, self.chance.choice(TEXTS))),
+            (DMS + (5, 8, 1, 3) + row, (wire.OCTETS, self.chance.choice(_TEXTS))),
             (DMS + (5, 8, 1, 8) + row, (wire.INTEGER, self.chance.randint(1, 9))),
         ]
 
@@ -54,7 +56,7 @@ class Changes:
             [
                 MessageId(7, self.chance.randint(1, 255), 0),
                 MessageId(2, 1, checksum(b"B", 0, 0)),
-                *(MessageId(*self.chance.choice(ROWS), checksum(text, 0, 0)) for text in TEXTS),
+                *(MessageId(*self.chance.choice(_ROWS), checksum(text, 0, 0)) for text in _TEXTS),
             ]
         )
         code = Activation(self.chance.choice([1, 5, 65_535]), 255, named, b"\x7f\0\0\1")

@@ -11,16 +11,18 @@ from .bench import Trial
 from .manager import DMS
 
 SECONDS = 3.0
-COUNTER = DMS + (6, 10, 0)
+_COUNTER = DMS + (6, 10, 0)
 
 
 def requests(kind: int, count: int) -> list[bytes]:
     """Requests of a kind under numbers of their own."""
     value = (wire.NULL, b"") if kind == wire.GET else (wire.INTEGER, 7)
-    return [wire.written(wire.Message(kind, b"admin", 1_000_000 + at, 0, 0, [(COUNTER, value)])) for at in range(count)]
+    return [
+        wire.written(wire.Message(kind, b"admin", 1_000_000 + at, 0, 0, [(_COUNTER, value)])) for at in range(count)
+    ]
 
 
-def rate(port: int, kind: int, in_flight: int, seconds: float) -> float:
+def _rate(port: int, kind: int, in_flight: int, seconds: float) -> float:
     """Replies a second, with so many requests in flight."""
     made = requests(kind, 1000)
     with socket.socket(socket.AF_INET, socket.SOCK_DGRAM) as one:
@@ -33,14 +35,14 @@ def rate(port: int, kind: int, in_flight: int, seconds: float) -> float:
                 for octets in made[:in_flight]:
                     one.send(octets)
                 continue
-            answered = drained(one)
+            answered = _drained(one)
             count += answered
             for at in range(answered):
                 one.send(made[(count + at) % len(made)])
         return count / (now - begun)
 
 
-def drained(one: socket.socket) -> int:
+def _drained(one: socket.socket) -> int:
     """How many replies wait."""
     count = 0
     while True:
@@ -59,7 +61,7 @@ def run(trial: Trial) -> None:
         door = trial.sign(*words)
         for kind, name in ((wire.GET, "Gets"), (wire.SET, "SETs")):
             for in_flight in (1, 16):
-                found = rate(door.port, kind, in_flight, seconds)
+                found = _rate(door.port, kind, in_flight, seconds)
                 trial.holds(f"{name}, {in_flight} in flight: answered", found > 1, found)
                 print(
                     f"{'with' if is_kept else 'without'} a journal, {name}, {in_flight} in flight: "

@@ -22,13 +22,13 @@ from .bench import Trial
 from .gets import forms, requests, respelled
 from .manager import Name
 
-NOW = Moment("boot", 1_000_000, 1000)  # of all starts: no second passes
-WHO = description.communities_of(None)  # of the bench sign
-AT_ONCE = 20  # names of a Get
+_NOW = Moment("boot", 1_000_000, 1000)  # of all starts: no second passes
+_WHO = description.communities_of(None)  # of the bench sign
+_AT_ONCE = 20  # names of a Get
 LONG = 100_000  # octets of a journal that is not begun anew yet
 
 
-class Wire:
+class _Wire:
     """What stands in place of a socket: the replies that were sent."""
 
     def __init__(self) -> None:
@@ -38,19 +38,19 @@ class Wire:
         self.sent.append(octets)
 
 
-class Spelled:
+class _Spelled:
     """Lives of a sign in this process, each of a request; the model is handed the requests that were answered."""
 
     def __init__(self, trial: Trial) -> None:
         self.trial, self.count, self.recorded, self.last = trial, 0, 0, "no request"
         self.sign = Sign(text.bench())
         self.names: list[Name] = self.sign.objects.names
-        self.walk = [self.get(at) for at in range(0, len(self.names), AT_ONCE)]
+        self.walk = [self.get(at) for at in range(0, len(self.names), _AT_ONCE)]
         self.anew()
 
     def get(self, at: int) -> bytes:
         """A Get of some of the names, as a line."""
-        asked = [(name, (wire.NULL, b"")) for name in self.names[at : at + AT_ONCE]]
+        asked = [(name, (wire.NULL, b"")) for name in self.names[at : at + _AT_ONCE]]
         return b"datagram " + wire.written(wire.Message(wire.GET, b"admin", 1 + at, 0, 0, asked)).hex().encode()
 
     def anew(self) -> None:
@@ -67,7 +67,7 @@ class Spelled:
         process.begin(b"state", "a sign")
         process.replay(journal.lines())
         keeper = Keeper(journal)
-        keeper.start(NOW, None)
+        keeper.start(_NOW, None)
         return process, keeper
 
     def killed(self, process: CoProcess, keeper: Keeper) -> None:
@@ -86,8 +86,8 @@ class Spelled:
             self.anew()
         process, keeper = self.started()
         self.look(process)
-        wires: Any = Wire()
-        door = SignDoor(process, wires, keeper, None, 1000.0, is_quiet=True, communities=WHO)
+        wires: Any = _Wire()
+        door = SignDoor(process, wires, keeper, None, 1000.0, is_quiet=True, communities=_WHO)
         door.answer([(made, ("127.0.0.1", 1))])
         wanted, _ = self.sign.receive(made)
         name = f"{made.hex()}, {name}"
@@ -113,7 +113,7 @@ class Spelled:
         self.state, self.values, self.replies = state, values, replies
 
 
-def spellings() -> Iterator[tuple[str, bytes]]:
+def _spellings() -> Iterator[tuple[str, bytes]]:
     """Each request as it stands, and in each form of its lengths in which it is no longer than a datagram may be."""
     for octets, _ in requests():
         yield "as it stands", octets
@@ -125,8 +125,8 @@ def spellings() -> Iterator[tuple[str, bytes]]:
 
 def run(trial: Trial) -> None:
     """All of them; in the short form some."""
-    begun, before, spelled = time.monotonic(), trial.failed, Spelled(trial)
-    every = list(spellings())
+    begun, before, spelled = time.monotonic(), trial.failed, _Spelled(trial)
+    every = list(_spellings())
     for name, made in trial.chance.sample(every, 100) if trial.is_short else every:
         if spelled.count and trial.is_late():
             break

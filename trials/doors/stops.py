@@ -15,12 +15,12 @@ from .patience import PACE
 from .requests import Changes
 
 
-def ended_well(door: Door) -> bool:
+def _ended_well(door: Door) -> bool:
     """Whether what a door said is in words."""
     return door.ended() != 999 and b"Traceback" not in door.errors and b"Exception ignored" not in door.errors
 
 
-def interrupts(trial: Trial, count: int) -> None:
+def _interrupts(trial: Trial, count: int) -> None:
     """SIGINT and SIGTERM at random moments of a start, of work and of an end."""
     path = trial.new_folder() / "journal"
     for at in range(count):
@@ -29,8 +29,8 @@ def interrupts(trial: Trial, count: int) -> None:
         is_sign = trial.other is not None or at % 2 == 0
         tool = "wisangub-sign" if is_sign else "wisangub-centre"
         words = ["--port", "0", "--journal", f"{path}-{at}"] if is_sign else ["--to", "127.0.0.1:9", "--wait", "9"]
-        door = trial.door(tool, *words, stdin=None if is_sign else lines_in(b"blank 5 65535 255 127.0.0.1\n"))
-        started(door)
+        door = trial.door(tool, *words, stdin=None if is_sign else _lines_in(b"blank 5 65535 255 127.0.0.1\n"))
+        _started(door)
         inner = door.inner()
         for _ in range(trial.chance.randint(1, 2)):
             time.sleep(trial.chance.uniform(0.0, 0.7))
@@ -38,13 +38,13 @@ def interrupts(trial: Trial, count: int) -> None:
                 door.process.send_signal(trial.chance.choice([signal.SIGINT, signal.SIGTERM]))
         if not eventually(lambda: door.process.poll() is not None, 1.0):
             door.stop()
-        trial.holds(f"interrupt {at} of {tool}: words and no traceback", ended_well(door), door.errors.decode())
+        trial.holds(f"interrupt {at} of {tool}: words and no traceback", _ended_well(door), door.errors.decode())
         trial.holds(f"interrupt {at} of {tool}: no process stays", eventually(lambda: is_gone(inner)), inner)
         door.forget()
         trial.doors.remove(door)
 
 
-def lines_in(octets: bytes) -> int:
+def _lines_in(octets: bytes) -> int:
     """A pipe that has these octets to be read."""
     reader, writer = os.pipe()
     os.write(writer, octets)
@@ -52,19 +52,19 @@ def lines_in(octets: bytes) -> int:
     return reader
 
 
-def started(door: Door) -> None:
+def _started(door: Door) -> None:
     """Until the interpreter is past its own beginning, where an interrupt is none of a door's: it lets SIGPIPE be, and
     SIGINT too, or the door waits for both signals."""
 
     def has_begun() -> bool:
-        ignored, caught = signals(door.process.pid, "SigIgn"), signals(door.process.pid, "SigCgt")
+        ignored, caught = _signals(door.process.pid, "SigIgn"), _signals(door.process.pid, "SigCgt")
         is_python = signal.SIGPIPE in ignored and (signal.SIGINT not in caught or signal.SIGTERM in caught)
         return is_python or door.process.poll() is not None
 
     eventually(has_begun)
 
 
-def signals(number: int, which: str) -> set[int]:
+def _signals(number: int, which: str) -> set[int]:
     """The signals that a process ignores, or catches."""
     try:
         with open(f"/proc/{number}/status", encoding="latin-1") as file:
@@ -97,7 +97,7 @@ def stands_still(trial: Trial, seconds: float) -> None:
     trial.holds("and before what came meanwhile", before >= seconds - 2, lines[-6:])
 
 
-def co_process_stands_still(trial: Trial) -> None:
+def _co_process_stands_still(trial: Trial) -> None:
     """A door whose co-process is stopped waits for it, and ends at the second SIGTERM at the latest."""
     door = trial.sign("--journal", str(trial.new_folder() / "journal"), "--no-ticks")
     inner, manager = door.inner(), Manager(door.port)
@@ -116,14 +116,14 @@ def co_process_stands_still(trial: Trial) -> None:
     while door.process.poll() is None and time.monotonic() < ends:  # a busy machine may take two for one
         door.process.send_signal(signal.SIGTERM)
         time.sleep(0.2)
-    is_well = door.ended() == -signal.SIGTERM and ended_well(door)
+    is_well = door.ended() == -signal.SIGTERM and _ended_well(door)
     trial.holds("the second SIGTERM ends it", is_well, door.errors.decode())
     os.kill(inner, signal.SIGCONT)
     trial.holds("and its co-process ends", eventually(lambda: is_gone(inner)))
     manager.close()
 
 
-def by_another_hand(trial: Trial) -> None:
+def _by_another_hand(trial: Trial) -> None:
     """A journal that is moved, removed, replaced, cut or written by another hand while a door has it open: nothing that
     is not kept under its name is answered, and the door ends with words."""
     rows: list[tuple[str, Callable[[str], None]]] = [
@@ -145,7 +145,7 @@ def by_another_hand(trial: Trial) -> None:
         octets = manager.request(wire.SET, [(Changes.COUNTER, (wire.INTEGER, 2))])
         is_answered = follower.surely(manager, octets, lambda: door.process.poll() is not None)
         trial.holds(f"a journal that is {name}: what is not kept is not answered", bool(reply) and not is_answered)
-        is_well = door.ended() == 1 and b"another hand" in door.errors and ended_well(door)
+        is_well = door.ended() == 1 and b"another hand" in door.errors and _ended_well(door)
         trial.holds(f"a journal that is {name}: said in words", is_well, door.errors.decode())
         manager.close()
 
@@ -163,11 +163,11 @@ def append(path: str, octets: bytes) -> None:
         file.write(octets)
 
 
-def read_once(trial: Trial) -> None:
+def _read_once(trial: Trial) -> None:
     """A description that can be read once is read once: what the journal is of is what the sign is."""
     path = trial.new_folder() / "journal"
     text = (TOP / "signs/roadside.sign").read_bytes()
-    reader = lines_in(text)
+    reader = _lines_in(text)
     door = trial.sign("--journal", str(path), "--sign", f"/proc/{os.getpid()}/fd/{reader}", "--no-ticks")
     trial.holds("a description from a pipe", door.port != 0 and door.stop() == 0, door.errors.decode())
     os.close(reader)
@@ -177,9 +177,9 @@ def read_once(trial: Trial) -> None:
 
 def run(trial: Trial) -> None:
     """All of it; in the long form a sign stands still for more than a minute."""
-    by_another_hand(trial)
-    read_once(trial)
+    _by_another_hand(trial)
+    _read_once(trial)
     if trial.is_ours("a co-process that stands still"):
-        co_process_stands_still(trial)
+        _co_process_stands_still(trial)
     stands_still(trial, 3.0 if trial.is_short else 70.0)
-    interrupts(trial, 8 if trial.is_short else 100)
+    _interrupts(trial, 8 if trial.is_short else 100)

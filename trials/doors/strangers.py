@@ -19,13 +19,13 @@ from .gets import PLACES, requests, respelled
 from .manager import DMS, Manager
 from .requests import Bindings, Changes
 
-MANY = 100_000  # mutated datagrams of the long form
-SILENT = DMS + (6, 13, 0)
+_MANY = 100_000  # mutated datagrams of the long form
+_SILENT = DMS + (6, 13, 0)
 SILENCE = DMS + (6, 12, 0)
-BATCH = 50  # lines that are handed over together
-STRANGE = (b"private", b"admin", b"public", b"administrator", b"Admin", b"publi", b"public ", b"", b"admin\0")
-SIXTH = (3, 4, 5, 6, 7, 8, 10, 12, 13, 17, 24)
-ALL = [DMS + (4, 1, 0), DMS + (5, 2, 0), DMS + (5, 9, 0), *(DMS + (6, at, 0) for at in SIXTH)]
+_BATCH = 50  # lines that are handed over together
+_STRANGE = (b"private", b"admin", b"public", b"administrator", b"Admin", b"publi", b"public ", b"", b"admin\0")
+_SIXTH = (3, 4, 5, 6, 7, 8, 10, 12, 13, 17, 24)
+ALL = [DMS + (4, 1, 0), DMS + (5, 2, 0), DMS + (5, 9, 0), *(DMS + (6, at, 0) for at in _SIXTH)]
 
 
 def mutated(octets: bytes, chance: random.Random) -> bytes:
@@ -48,7 +48,7 @@ def mutated(octets: bytes, chance: random.Random) -> bytes:
     return bytes(made)
 
 
-class Strangers:
+class _Strangers:
     """A sign and another one beside it, which is handed what the first one's journal has."""
 
     def __init__(self, trial: Trial, name: str, path: pathlib.Path | None, who: tuple[bytes, bytes]) -> None:
@@ -76,7 +76,7 @@ class Strangers:
         chance = self.chance
         which = chance.random()
         some = self.asked if which < 0.35 else self.edges
-        octets = chance.choice(some) if which < 0.5 else self.request(chance.choice(STRANGE))
+        octets = chance.choice(some) if which < 0.5 else self.request(chance.choice(_STRANGE))
         if chance.random() < 0.2:
             forms = tuple(chance.choice([0, 0, 1, 2, 4]) for _ in range(PLACES))
             octets = respelled(octets, forms) or octets
@@ -98,7 +98,7 @@ class Strangers:
         return chance.choice(
             [
                 *made,
-                [(SILENT, (wire.INTEGER, chance.choice([0, 1, 1, 2])))],
+                [(_SILENT, (wire.INTEGER, chance.choice([0, 1, 1, 2])))],
                 [(SILENCE, (wire.OCTETS, bytes([7, 0, chance.randint(1, 9), 0, 0])))],
             ]
         )
@@ -150,17 +150,17 @@ class Strangers:
             sign.end()
 
 
-def against_program(trial: Trial, count: int) -> None:
+def _against_program(trial: Trial, count: int) -> None:
     """Mutated datagrams in many states, to the bench sign and to another one."""
     begun = time.monotonic()
     for name, path, who in (
         ("the bench sign", None, (b"public", b"admin")),
         ("a sign at a road", TOP / "signs/roadside.sign", (b"public", b"administrator")),
     ):
-        strangers = Strangers(trial, name, path, who)
+        strangers = _Strangers(trial, name, path, who)
         strangers.step(strangers.edges)
-        for at in range(count // BATCH // 2):
-            strangers.step([strangers.datagram() for _ in range(BATCH)])
+        for at in range(count // _BATCH // 2):
+            strangers.step([strangers.datagram() for _ in range(_BATCH)])
             strangers.between()
             strangers.look(is_whole=at % 7 == 0)
             if strangers.other or trial.is_late() and min(strangers.sorts.values()) > 0:
@@ -173,7 +173,7 @@ def against_program(trial: Trial, count: int) -> None:
         print(f"mutated datagrams to {name}: {told}, {time.monotonic() - begun:.0f} s", flush=True)
 
 
-def fill(trial: Trial) -> None:
+def _fill(trial: Trial) -> None:
     """Strangers who send as much as they can leave nothing in a journal, or `heard`."""
     path = trial.new_folder() / "journal"
     door = trial.sign("--journal", str(path), "--no-ticks")
@@ -193,7 +193,7 @@ def fill(trial: Trial) -> None:
     trial.holds("and has recorded nothing of theirs but that the silence is over", is_well, lines[:9])
 
 
-def so_many(trial: Trial) -> None:
+def _so_many(trial: Trial) -> None:
     """Of the writing community some are recorded in a second, some wait, and the rest is dropped and counted."""
     folder = trial.new_folder()
     path, log = folder / "journal", folder / "log"
@@ -214,7 +214,7 @@ def so_many(trial: Trial) -> None:
 
 def run(trial: Trial) -> None:
     """All of it."""
-    against_program(trial, 2000 if trial.is_short else MANY)
-    for part in (fill, so_many):
+    _against_program(trial, 2000 if trial.is_short else _MANY)
+    for part in (_fill, _so_many):
         if not trial.is_late():
             part(trial)

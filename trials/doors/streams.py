@@ -23,27 +23,27 @@ def run(trial: Trial) -> None:
         path = trial.new_folder() / "journal"
         words = ["--port", "0", "--journal", str(path), *([] if trial.other else ["--log", "-"])]
         call = trial.call("wisangub-sign", *words)
-        process = shell(f'exec "$@" {row}' if row != "| true" else '"$@" | true', call)
-        trial.holds(f"a sign with {row} begins", eventually(lambda: has_begun(path)), path)
-        errors = ended(process, path, call[0])
+        process = _shell(f'exec "$@" {row}' if row != "| true" else '"$@" | true', call)
+        trial.holds(f"a sign with {row} begins", eventually(lambda: _has_begun(path)), path)
+        errors = _ended(process, path, call[0])
         is_well = b"Traceback" not in errors and b"Exception" not in errors
         trial.holds(f"a sign with {row} ends", process.returncode == 0 and is_well, (process.returncode, errors))
         lines = lines_of(path.read_bytes())
         trial.holds(f"a sign with {row} keeps a journal", lines[-1].startswith(b"clock ") and len(lines) >= 4, lines)
         if row != "| true" and trial.other is None:
-            centre = shell(f'exec "$@" {row}', [sys.executable, str(TOP / "bin/wisangub-centre"), "--to", "x"])
-            communicated(centre)
+            centre = _shell(f'exec "$@" {row}', [sys.executable, str(TOP / "bin/wisangub-centre"), "--to", "x"])
+            _communicated(centre)
             trial.holds(f"a centre with {row} has its status", centre.returncode == 2, centre.returncode)
 
 
-def shell(line: str, call: list[str]) -> subprocess.Popen[bytes]:
+def _shell(line: str, call: list[str]) -> subprocess.Popen[bytes]:
     """A call that a shell makes with other standard files."""
     pipe = subprocess.PIPE
     words = ["sh", "-c", line, "sh", *call]
     return subprocess.Popen(words, stdin=subprocess.DEVNULL, stdout=pipe, stderr=pipe, process_group=0)
 
 
-def has_begun(path: pathlib.Path) -> bool:
+def _has_begun(path: pathlib.Path) -> bool:
     """Whether a door has recorded its start."""
     try:
         return any(line.startswith(b"clock ") for line in lines_of(path.read_bytes()))
@@ -51,7 +51,7 @@ def has_begun(path: pathlib.Path) -> bool:
         return False
 
 
-def ended(process: subprocess.Popen[bytes], path: pathlib.Path, program: str) -> bytes:
+def _ended(process: subprocess.Popen[bytes], path: pathlib.Path, program: str) -> bytes:
     """Asks the door of a journal to end, whose process may be a shell's: what it said on standard error."""
     numbers = [int(name) for name in os.listdir("/proc") if name.isdecimal()]
     for number in numbers:
@@ -60,12 +60,12 @@ def ended(process: subprocess.Popen[bytes], path: pathlib.Path, program: str) ->
         except OSError:
             continue
         if str(path).encode() in words and words[0] == program.encode():
-            eventually(functools.partial(is_waiting, number))
+            eventually(functools.partial(_is_waiting, number))
             os.kill(number, signal.SIGTERM)
-    return communicated(process)
+    return _communicated(process)
 
 
-def communicated(process: subprocess.Popen[bytes]) -> bytes:
+def _communicated(process: subprocess.Popen[bytes]) -> bytes:
     """What a process said on standard error, once it and all that it started have ended, or are ended."""
     try:
         return process.communicate(timeout=PACE.patience())[1]
@@ -74,7 +74,7 @@ def communicated(process: subprocess.Popen[bytes]) -> bytes:
         return process.communicate(timeout=PACE.patience())[1]
 
 
-def is_waiting(number: int) -> bool:
+def _is_waiting(number: int) -> bool:
     """Whether a process takes a SIGTERM by itself."""
     try:
         status = pathlib.Path(f"/proc/{number}/status").read_text(encoding="latin-1")

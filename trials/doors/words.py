@@ -11,12 +11,12 @@ from wisangub.process.places import TOP
 from .bench import Door, Trial
 from .patience import PACE
 
-AT_ONCE = 8  # doors that are started together
-RESOLVER = {"RES_OPTIONS": "timeout:1 attempts:1", "LOCALDOMAIN": ""}  # no server of names is waited for long
+_AT_ONCE = 8  # doors that are started together
+_RESOLVER = {"RES_OPTIONS": "timeout:1 attempts:1", "LOCALDOMAIN": ""}  # no server of names is waited for long
 Row = tuple[str, list[str], str]  # what is wrong, the options, and the words of the refusal
 
 
-def says(trial: Trial, name: str, door: Door, status: int, words: str) -> None:
+def _says(trial: Trial, name: str, door: Door, status: int, words: str) -> None:
     """A door ends with this status and these words, and announces nothing."""
     found = door.ended()
     well = (
@@ -30,13 +30,13 @@ def says(trial: Trial, name: str, door: Door, status: int, words: str) -> None:
 
 def refused(trial: Trial, tool: str, rows: list[Row]) -> None:
     """Each row's door says so, with status 2."""
-    for at in range(0, len(rows), AT_ONCE):
+    for at in range(0, len(rows), _AT_ONCE):
         if trial.is_late():
             break
-        some = rows[at : at + AT_ONCE]
-        doors = [trial.door(tool, *words, environment=RESOLVER) for _, words, _ in some]
+        some = rows[at : at + _AT_ONCE]
+        doors = [trial.door(tool, *words, environment=_RESOLVER) for _, words, _ in some]
         for (name, _, told), door in zip(some, doors):
-            says(trial, name, door, 2, told)
+            _says(trial, name, door, 2, told)
 
 
 def signs(trial: Trial) -> None:
@@ -51,11 +51,11 @@ def signs(trial: Trial) -> None:
     with socket.socket(socket.AF_INET, socket.SOCK_DGRAM) as other:
         other.bind(("127.0.0.1", 0))
         port = str(other.getsockname()[1])
-        rows = [*of_descriptions(folder), *of_addresses(port), *of_options(folder), *of_files(folder)]
+        rows = [*_of_descriptions(folder), *_of_addresses(port), *_of_options(folder), *_of_files(folder)]
         refused(trial, "wisangub-sign", [(name, ["--port", "0", *words], told) for name, words, told in rows])
 
 
-def of_descriptions(folder: pathlib.Path) -> list[Row]:
+def _of_descriptions(folder: pathlib.Path) -> list[Row]:
     return [
         ("a refused description", ["--sign", f"{folder}/bad.sign"], "line "),
         ("a description that breaks off", ["--sign", f"{folder}/short.sign"], "line "),
@@ -65,7 +65,7 @@ def of_descriptions(folder: pathlib.Path) -> list[Row]:
     ]
 
 
-def of_addresses(port: str) -> list[Row]:
+def _of_addresses(port: str) -> list[Row]:
     """Where this port is in use."""
     return [
         ("a port in use", ["--port", port], "in use"),
@@ -75,7 +75,7 @@ def of_addresses(port: str) -> list[Row]:
     ]
 
 
-def of_options(folder: pathlib.Path) -> list[Row]:
+def _of_options(folder: pathlib.Path) -> list[Row]:
     more = f"{folder}/more.sign"
     return [
         ("--fresh without a journal", ["--fresh"], "--journal"),
@@ -100,7 +100,7 @@ def of_options(folder: pathlib.Path) -> list[Row]:
     ]
 
 
-def of_files(folder: pathlib.Path) -> list[Row]:
+def _of_files(folder: pathlib.Path) -> list[Row]:
     """Files that are no journal, no log or no description."""
     more = f"{folder}/more.sign"
     return [
@@ -133,7 +133,7 @@ def described(trial: Trial) -> None:
         trial.holds(f"{name}: the program refuses it", re.fullmatch(r"line \d+", line) is not None, program)
         for tool, words in (("wisangub-sign", ["--port", "0"]), ("wisangub-centre", ["--to", "127.0.0.1:9"])):
             door = trial.door(tool, "--sign", str(path), *words)
-            says(trial, f"{name}, {tool}", door, 2, f"{path}: {line}: no description of a sign")
+            _says(trial, f"{name}, {tool}", door, 2, f"{path}: {line}: no description of a sign")
             is_told = all(said in door.errors for said in program.stderr.splitlines())
             trial.holds(f"{name}, {tool}: with the program's reason", is_told, (program.stderr, door.errors))
 

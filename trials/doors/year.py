@@ -17,10 +17,10 @@ from .bench import Trial
 from .manager import DMS, Manager
 
 MINUTES = 365 * 24 * 60
-BATCH = 20_000  # lines that are made at once
+_BATCH = 20_000  # lines that are made at once
 
 
-def minute(at: int, now: Moment) -> Iterator[bytes]:
+def _minute(at: int, now: Moment) -> Iterator[bytes]:
     """What a door records in a minute: ten Gets each ten seconds, a SET, each second, the clock."""
     for poll in range(6):
         if poll == 3:
@@ -40,7 +40,7 @@ def year(now: Moment, minutes: int) -> Iterator[bytes]:
     yield begun.start()
     yield begun.clock()
     for at in range(minutes):
-        yield from minute(at, begun)
+        yield from _minute(at, begun)
 
 
 def ticks(now: Moment, count: int) -> Iterator[bytes]:
@@ -63,7 +63,7 @@ def write(head: Head, path: pathlib.Path, lines: Iterator[bytes]) -> int:
                 count += 1
                 file.write(records.record(line, count, synced))
                 synced = count + 1 if line.startswith(b"datagram") else synced
-            some = list(itertools.islice(lines, BATCH))
+            some = list(itertools.islice(lines, _BATCH))
     os.chmod(path, 0o600)
     return count
 

@@ -16,11 +16,11 @@ from model.sign import Sign
 from .against_vectors import cases
 from .trial import MOST_TALK, SIGNS, Late, Trial, described
 
-LINES = 2000
-WALKED, WALKED_SHORT = 1000, 60  # calls with a walk after each
-PREFIXES, PREFIXES_SHORT = 150, 12  # talks with a walk at the end alone
-AT_ONCE = 30  # names of a Get of a walk
-COMMANDS = (
+_LINES = 2000
+_WALKED, _WALKED_SHORT = 1000, 60  # calls with a walk after each
+_PREFIXES, _PREFIXES_SHORT = 150, 12  # talks with a walk at the end alone
+_AT_ONCE = 30  # names of a Get of a walk
+_COMMANDS = (
     "publish 3 1 41 - 0 0 200 65535 255 192.0.2.1",
     "publish 4 1 5b6e705d - 1 1 1 5 255 192.0.2.1",
     "blank 1 60 255 192.0.2.1",
@@ -29,8 +29,8 @@ COMMANDS = (
     "sign-tick",
     "",
 )
-OTHERS = ("tick", "tick", "ticks 61", "heard", "power-lost", "power-back 3", "power-back 9999", "state", "show", "x")
-BENCH = text.BENCH.decode("latin-1")
+_OTHERS = ("tick", "tick", "ticks 61", "heard", "power-lost", "power-back 3", "power-back 9999", "state", "show", "x")
+_BENCH = text.BENCH.decode("latin-1")
 
 
 def datagrams(which: str) -> list[str]:
@@ -39,15 +39,15 @@ def datagrams(which: str) -> list[str]:
     return [f"datagram {one}" for one in octets]
 
 
-def sign_lines(trial: Trial, count: int = LINES) -> list[str]:
+def _sign_lines(trial: Trial, count: int = _LINES) -> list[str]:
     """Requests of the vectors in any order, seconds, losses of power, and what is shown."""
     octets = datagrams("request")
-    return [trial.chance.choice(octets if trial.chance.random() < 0.8 else OTHERS) for _ in range(count)]
+    return [trial.chance.choice(octets if trial.chance.random() < 0.8 else _OTHERS) for _ in range(count)]
 
 
-def centre_lines(trial: Trial, count: int = LINES) -> list[str]:
+def _centre_lines(trial: Trial, count: int = _LINES) -> list[str]:
     octets = datagrams("reply")
-    others = (*COMMANDS, "tick", "tick", "status", "restart")
+    others = (*_COMMANDS, "tick", "tick", "status", "restart")
     return [trial.chance.choice(octets if trial.chance.random() < 0.5 else others) for _ in range(count)]
 
 
@@ -55,13 +55,13 @@ def walk() -> list[str]:
     """Gets of every instance of the bench sign, and what it shows."""
     names = Sign(text.bench()).objects.names
     lines = []
-    for at in range(0, len(names), AT_ONCE):
-        bindings = [(name, (wire.NULL, b"")) for name in names[at : at + AT_ONCE]]
+    for at in range(0, len(names), _AT_ONCE):
+        bindings = [(name, (wire.NULL, b"")) for name in names[at : at + _AT_ONCE]]
         lines.append(f"datagram {wire.written(wire.Message(wire.GET, b'public', at, 0, 0, bindings)).hex()}")
     return [*lines, "state", "show"]
 
 
-def as_told(answer: str) -> str:
+def _as_told(answer: str) -> str:
     """An answer of the program as the library gives it: without what is accepted, and which value is out of range."""
     word, _, rest = answer.partition(" ")
     if word == "refused":
@@ -69,17 +69,17 @@ def as_told(answer: str) -> str:
     return f"reply {rest.partition(' ')[2]}" if word == "accepted" else answer
 
 
-def lines_of(file: IO[bytes] | None) -> Iterator[str]:
+def _lines_of(file: IO[bytes] | None) -> Iterator[str]:
     assert file is not None
     return (line.decode("latin-1").rstrip("\n") for line in file)
 
 
-def kill(processes: Iterable[subprocess.Popen[bytes]]) -> None:
+def _kill(processes: Iterable[subprocess.Popen[bytes]]) -> None:
     for process in processes:
         process.kill()
 
 
-def compare(trial: Trial, name: str, end: str, description: str, lines: list[str]) -> None:
+def _compare(trial: Trial, name: str, end: str, description: str, lines: list[str]) -> None:
     """Both answer the same lines in the same way."""
     prefix = "centre " if end == "centre" else ""
     inputs = {"theirs": "".join(f"{line}\n" for line in lines), "ours": "".join(f"{prefix}{line}\n" for line in lines)}
@@ -92,15 +92,15 @@ def compare(trial: Trial, name: str, end: str, description: str, lines: list[str
             processes[which] = subprocess.Popen(words, stdin=stdin, stdout=subprocess.PIPE, stderr=subprocess.DEVNULL)
     most = trial.most(MOST_TALK)
     ends = time.monotonic() + most
-    late = threading.Timer(most, kill, (processes.values(),))
+    late = threading.Timer(most, _kill, (processes.values(),))
     late.start()
-    found, wanted = (lines_of(processes[which].stdout) for which in ("ours", "theirs"))
+    found, wanted = (_lines_of(processes[which].stdout) for which in ("ours", "theirs"))
     pairs = enumerate(itertools.zip_longest(found, wanted), 1)
     other = next(
-        ((at, one, two) for at, (one, two) in pairs if one is None or two is None or one != as_told(two)), None
+        ((at, one, two) for at, (one, two) in pairs if one is None or two is None or one != _as_told(two)), None
     )
     if other:
-        kill(processes.values())
+        _kill(processes.values())
     statuses = [process.wait() for process in processes.values()]
     late.cancel()
     for process in processes.values():
@@ -112,29 +112,29 @@ def compare(trial: Trial, name: str, end: str, description: str, lines: list[str
     trial.check(name, other is None and statuses == [0, 0], f"{told}, exit {statuses}")
 
 
-def walks(trial: Trial) -> None:
+def _walks(trial: Trial) -> None:
     """The whole walk, what is shown and its pages after every call; a centre's status and ledger after every call. A
     Get ends the silence of a sign, so calls are tried without walks between them too: each beginning of a talk, with
     one walk after it."""
-    gets, count = walk(), WALKED_SHORT if trial.is_short() else WALKED
-    lines = [one for line in sign_lines(trial, count) for one in (line, *gets)]
-    compare(trial, f"the whole walk after each of {count} calls", "sign", BENCH, lines)
-    lines = [one for line in centre_lines(trial, count) for one in (line, "status")]
-    compare(trial, f"the ledger after each of {count} calls", "centre", BENCH, lines)
-    lines = sign_lines(trial, PREFIXES)
-    step = PREFIXES // PREFIXES_SHORT if trial.is_short() else 1
-    for size in range(step, PREFIXES + 1, step):
+    gets, count = walk(), _WALKED_SHORT if trial.is_short() else _WALKED
+    lines = [one for line in _sign_lines(trial, count) for one in (line, *gets)]
+    _compare(trial, f"the whole walk after each of {count} calls", "sign", _BENCH, lines)
+    lines = [one for line in _centre_lines(trial, count) for one in (line, "status")]
+    _compare(trial, f"the ledger after each of {count} calls", "centre", _BENCH, lines)
+    lines = _sign_lines(trial, _PREFIXES)
+    step = _PREFIXES // _PREFIXES_SHORT if trial.is_short() else 1
+    for size in range(step, _PREFIXES + 1, step):
         if trial.left() > 0:
-            compare(trial, f"the whole walk after {size} calls without one", "sign", BENCH, [*lines[:size], *gets])
+            _compare(trial, f"the whole walk after {size} calls without one", "sign", _BENCH, [*lines[:size], *gets])
 
 
 def run(trial: Trial) -> None:
     if not os.access(trial.program, os.X_OK):
         trial.skip("talks with the program", f"there is none at {trial.program}")
         return
-    compare(trial, "each request and datagram, one after the other", "sign", BENCH, datagrams("request"))
-    compare(trial, "each reply and datagram, one after the other", "centre", BENCH, datagrams("reply"))
-    for name, description in [("bench", BENCH), *((sign, described(sign)) for sign in SIGNS)]:
-        compare(trial, f"a talk with a sign, {name}", "sign", description, sign_lines(trial))
-        compare(trial, f"a talk with a central system, {name}", "centre", description, centre_lines(trial))
-    walks(trial)
+    _compare(trial, "each request and datagram, one after the other", "sign", _BENCH, datagrams("request"))
+    _compare(trial, "each reply and datagram, one after the other", "centre", _BENCH, datagrams("reply"))
+    for name, description in [("bench", _BENCH), *((sign, described(sign)) for sign in SIGNS)]:
+        _compare(trial, f"a talk with a sign, {name}", "sign", description, _sign_lines(trial))
+        _compare(trial, f"a talk with a central system, {name}", "centre", description, _centre_lines(trial))
+    _walks(trial)

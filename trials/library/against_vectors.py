@@ -17,7 +17,7 @@ def cases(name: str) -> list[dict[str, Any]]:
     return [json.loads(line) for line in (TOP / "vectors" / f"{name}.jsonl").read_text(encoding="utf-8").splitlines()]
 
 
-class Named:
+class _Named:
     """Trials of one way, which their names begin with."""
 
     def __init__(self, trial: Trial, way: Way) -> None:
@@ -38,7 +38,7 @@ class Named:
         self.check(f"{name}: its end", status == 0 and not talk.faults, f"exit {status}: {talk.faults!r}")
 
 
-def headers(named: Named) -> None:
+def _headers(named: _Named) -> None:
     """Null, zero and short buffers at each function of the header."""
     for sign in SIGNS:
         words = named.trial.called(named.way, "header_test", str(TOP / "signs" / f"{sign}.sign"))
@@ -48,7 +48,7 @@ def headers(named: Named) -> None:
     named.check("header_test's use", status == 2 and "usage: header_test DESCRIPTION\n" in said, said)
 
 
-def requests(named: Named) -> None:
+def requests(named: _Named) -> None:
     """Each request to the bench sign as it starts."""
     with named.talk() as talk:
         for case in cases("requests"):
@@ -59,7 +59,7 @@ def requests(named: Named) -> None:
         named.over("requests", talk)
 
 
-def datagrams(named: Named) -> None:
+def datagrams(named: _Named) -> None:
     """Each datagram to both ends as they start: the sign's reply is the model's, and the central system sends
     nothing."""
     with named.talk() as talk:
@@ -73,7 +73,7 @@ def datagrams(named: Named) -> None:
         named.over("datagrams", talk)
 
 
-def texts(named: Named) -> None:
+def texts(named: _Named) -> None:
     """The pages of each text on the bench sign, or its fault."""
     with named.talk() as talk:
         for case in cases("texts"):
@@ -89,7 +89,7 @@ def texts(named: Named) -> None:
         named.over("texts", talk)
 
 
-def codes(named: Named) -> None:
+def codes(named: _Named) -> None:
     """The checksum and both codes of each message."""
     with named.talk() as talk:
         for case in cases("codes"):
@@ -101,7 +101,7 @@ def codes(named: Named) -> None:
         named.over("codes", talk)
 
 
-def events_of(script: str) -> tuple[str, list[str]]:
+def _events_of(script: str) -> tuple[str, list[str]]:
     """The description of a script and its events."""
     lines = [line for line in script.split("\n") if line.strip() and not line.startswith("#")]
     if lines[:1] == ["bench"]:
@@ -110,7 +110,7 @@ def events_of(script: str) -> tuple[str, list[str]]:
     return "\n".join(lines[:end]) + "\n", lines[end:]
 
 
-class World:
+class _World:
     """Both ends of a script, and all that they ever sent."""
 
     def __init__(self, talk: Talk) -> None:
@@ -154,17 +154,17 @@ class World:
         yield from (line for line in self.talk.ask_lines("centre status") if line.startswith("ledger "))
 
 
-def scripts(named: Named) -> None:
+def scripts(named: _Named) -> None:
     """Each script that is read, with both ends in one process; scripts of one description one after the other."""
     by_description: dict[str, list[tuple[dict[str, Any], list[str]]]] = {}
     for case in cases("scripts"):
         if "report" in case:
-            description, events = events_of(case["script"])
+            description, events = _events_of(case["script"])
             by_description.setdefault(description, []).append((case, events))
     for description, some in by_description.items():
         with named.talk(description) as talk:
             for case, events in some:
-                world = World(talk)
+                world = _World(talk)
                 for event in events:
                     world.happen(event)
                 wanted = [line for line in case["report"] if not line.startswith(("events ", "accepted "))]
@@ -173,13 +173,13 @@ def scripts(named: Named) -> None:
             named.over("scripts", talk)
 
 
-PARTS = (headers, requests, datagrams, texts, codes, scripts)
+_PARTS = (_headers, requests, datagrams, texts, codes, scripts)
 
 
 def run(trial: Trial, way: Way) -> None:
     """All vectors by one way; in the short form those parts for which there is time."""
-    for part in PARTS:
+    for part in _PARTS:
         if trial.left() > 0:
-            part(Named(trial, way))
+            part(_Named(trial, way))
         else:
             trial.skip(f"{way.name}, {part.__name__}", "there was no time left for it")

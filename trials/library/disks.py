@@ -18,14 +18,14 @@ from .strangers import SIGN, WAIT, request
 from .trial import Trial
 
 PAGE = 4096  # octets
-LEAST_START = 100  # of the records of a start
-MINUTE = 66  # seconds, and some
-CONTROL = (1, 3, 6, 1, 4, 1, 1206, 4, 2, 3, 6)
-TIME_COMM_LOSS = (*CONTROL, 13, 0)
-NAMES = [(*CONTROL, number, 0) for number in (7, 5, 13, 17)]
+_LEAST_START = 100  # of the records of a start
+_MINUTE = 66  # seconds, and some
+_CONTROL = (1, 3, 6, 1, 4, 1, 1206, 4, 2, 3, 6)
+_TIME_COMM_LOSS = (*_CONTROL, 13, 0)
+NAMES = [(*_CONTROL, number, 0) for number in (7, 5, 13, 17)]
 
 
-class Mounted:
+class _Mounted:
     """A small file system in memory, where one may be mounted."""
 
     def __init__(self, folder: pathlib.Path) -> None:
@@ -53,7 +53,7 @@ class Mounted:
             self.call("umount", "-l", str(self.folder))
 
 
-def sets(trial: Trial, name: str, door: Door, is_answered: bool) -> None:
+def _sets(trial: Trial, name: str, door: Door, is_answered: bool) -> None:
     """A Get is answered, and a SET only where the disk takes it."""
     door.socket.settimeout(MOST_REPLY)
     trial.check(f"{name}: a Get is answered", bool(door.ask(request(wire.GET, SIGN.reader, 1).hex())))
@@ -66,7 +66,7 @@ def refusing(trial: Trial, name: str, door: Door, why: str, is_kept: bool) -> No
     """The disk refuses: Gets alone are answered, and what is lost is said."""
     if not trial.check(f"{name}: it starts", bool(door.said), door.end()[1] if not door.said else ""):
         return
-    sets(trial, name, door, False)
+    _sets(trial, name, door, False)
     if not is_kept:
         time.sleep(1.2)
         status, faults = door.end()
@@ -76,24 +76,24 @@ def refusing(trial: Trial, name: str, door: Door, why: str, is_kept: bool) -> No
 
 def again(trial: Trial, name: str, door: Door, path: pathlib.Path) -> None:
     """The disk takes records again."""
-    sets(trial, name, door, True)
+    _sets(trial, name, door, True)
     status, faults = door.end()
     trial.check(f"{name}: it ends", status == 0 and "written again" in faults, f"exit {status}: {faults}")
     lines = records.lines_of(path.read_bytes())
     trial.check(f"{name}: it is recorded", sum(line.startswith(b"datagram ") for line in lines) >= 3, lines)
 
 
-def padded() -> bytes:
+def _padded() -> bytes:
     """A journal whose last page has no room for a start."""
     lines = [head(), *MOMENT]
-    while -len(octets := records.journal(lines)) % PAGE > LEAST_START:
+    while -len(octets := records.journal(lines)) % PAGE > _LEAST_START:
         lines.append(b"ticks 1")
     return octets
 
 
-def full(trial: Trial, mounted: Mounted, path: pathlib.Path) -> None:
+def _full(trial: Trial, mounted: _Mounted, path: pathlib.Path) -> None:
     """A disk that is full at a start, of a new journal and of one that is there."""
-    for name, octets in (("a new journal on a full disk", b""), ("a journal on a full disk", padded())):
+    for name, octets in (("a new journal on a full disk", b""), ("a journal on a full disk", _padded())):
         path.write_bytes(octets)
         filler = mounted.fill()
         refusing(trial, name, Door(trial, "signd", path), "No space left on device", False)
@@ -105,7 +105,7 @@ def full(trial: Trial, mounted: Mounted, path: pathlib.Path) -> None:
         again(trial, f"{name}, with room again", door, path)
 
 
-def read_only(trial: Trial, mounted: Mounted, path: pathlib.Path) -> None:
+def _read_only(trial: Trial, mounted: _Mounted, path: pathlib.Path) -> None:
     """A disk that can only be read at a start."""
     for place, name in ((path, "a disk to read"), (path.with_name("other"), "a disk to read, without a journal")):
         if not mounted.remount("ro"):
@@ -118,24 +118,24 @@ def read_only(trial: Trial, mounted: Mounted, path: pathlib.Path) -> None:
         again(trial, f"{name}, and written again", door, place)
 
 
-def silent(trial: Trial, mounted: Mounted, path: pathlib.Path) -> None:
+def silent(trial: Trial, mounted: _Mounted, path: pathlib.Path) -> None:
     """A silence on which the sign acts, and polls after it, while the disk takes no record: the next start has them."""
     if trial.is_short():
         trial.skip("a silence on a full disk", "it takes longer than a minute")
         return
     door = Door(trial, "signd", path)
-    minute = wire.Message(wire.SET, SIGN.writer, 1, 0, 0, [(TIME_COMM_LOSS, (wire.INTEGER, 1))])
+    minute = wire.Message(wire.SET, SIGN.writer, 1, 0, 0, [(_TIME_COMM_LOSS, (wire.INTEGER, 1))])
     trial.check("a silence: its time is set", bool(door.ask(wire.written(minute).hex())))
     filler = mounted.fill()
     door.socket.settimeout(WAIT)
     while door.ask(request(wire.SET, SIGN.writer, 2).hex()):
         pass
-    time.sleep(MINUTE)
+    time.sleep(_MINUTE)
     for number in range(5):
         time.sleep(1)
         door.ask(request(wire.GET, SIGN.reader, number).hex())
     filler.unlink()
-    sets(trial, "a silence on a full disk", door, True)
+    _sets(trial, "a silence on a full disk", door, True)
     gets = [wire.written(wire.Message(wire.GET, SIGN.reader, 1, 0, 0, [(name, (wire.NULL, b""))])) for name in NAMES]
     before = [door.ask(octets.hex()) for octets in gets]
     trial.check("a silence on a full disk: the sign acted", before[0].endswith("02010c"), before)
@@ -150,13 +150,13 @@ def silent(trial: Trial, mounted: Mounted, path: pathlib.Path) -> None:
 
 def run(trial: Trial) -> None:
     (trial.folder / "bench.sign").write_bytes(BENCH)
-    mounted = Mounted(trial.folder / "mounted")
+    mounted = _Mounted(trial.folder / "mounted")
     try:
         if not mounted.is_there:
             trial.skip("disks that refuse", "no file system can be mounted")
             return
-        full(trial, mounted, mounted.folder / "journal")
-        read_only(trial, mounted, mounted.folder / "journal")
+        _full(trial, mounted, mounted.folder / "journal")
+        _read_only(trial, mounted, mounted.folder / "journal")
         silent(trial, mounted, mounted.folder / "silent")
     finally:
         mounted.end()

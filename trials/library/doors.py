@@ -15,7 +15,7 @@ from wisangub.snmp.wire import is_get
 from .against_vectors import cases
 from .trial import TOP, Trial
 
-MOST_START = 60.0  # seconds
+_MOST_START = 60.0  # seconds
 MOST_REPLY = 20.0
 
 
@@ -49,7 +49,7 @@ class Door:
         """What it announces; nothing where it ended instead."""
         assert self.process.stdout is not None
         os.set_blocking(self.process.stdout.fileno(), False)
-        last, found = time.monotonic() + MOST_START, b""
+        last, found = time.monotonic() + _MOST_START, b""
         while time.monotonic() < last and not found.endswith(b"\n") and self.process.poll() is None:
             found += self.process.stdout.read() or b""
             time.sleep(0.01)
@@ -79,7 +79,7 @@ class Door:
         if self.process.poll() is None:
             self.process.send_signal(number)
         try:
-            _, faults = self.process.communicate(timeout=MOST_START)
+            _, faults = self.process.communicate(timeout=_MOST_START)
         except subprocess.TimeoutExpired:
             self.process.kill()
             _, faults = self.process.communicate()

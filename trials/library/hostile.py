@@ -7,13 +7,13 @@ import itertools
 from .against_vectors import cases
 from .trial import PLAIN, REFUSING, TOP, UNDER_VALGRIND, Trial, Way, described
 
-MOST_CALLS = 2000  # allocations of a talk
-MOST_START = 60  # seconds beside those that are asked for
-ROADSIDE = str(TOP / "signs" / "roadside.sign")
-MANY = ("show", "bits", "state", "centre status", "pages 415b6e705d42")  # lines that are answered by many
+_MOST_CALLS = 2000  # allocations of a talk
+_MOST_START = 60  # seconds beside those that are asked for
+_ROADSIDE = str(TOP / "signs" / "roadside.sign")
+_MANY = ("show", "bits", "state", "centre status", "pages 415b6e705d42")  # lines that are answered by many
 
 
-def lines_of_a_talk() -> list[str]:
+def _lines_of_a_talk() -> list[str]:
     """A line of each kind that takes memory, and some that take none."""
     requests = [case["request"] for case in cases("requests") if case["reply"]]
     return [
@@ -40,8 +40,8 @@ def told(trial: Trial, call: int) -> tuple[int, list[str]]:
     """A talk whose allocation of this number is refused: how often memory was wanting, and all answers."""
     with trial.talk(described("roadside"), REFUSING, REFUSED_CALL=str(call)) as talk:
         found = [talk.first("check 41")]
-        for line in lines_of_a_talk():
-            found += talk.ask_lines(line) if line in MANY else [talk.ask(line)]
+        for line in _lines_of_a_talk():
+            found += talk.ask_lines(line) if line in _MANY else [talk.ask(line)]
         status = talk.end()
     return talk.refused, [*found, f"exit {status}", talk.faults.decode("latin-1")]
 
@@ -52,18 +52,19 @@ def refusals(trial: Trial) -> None:
     _, wanted = told(trial, 0)
     for call in itertools.count(1):
         refused, found = told(trial, call)
-        if refused == 0 or call > MOST_CALLS:
+        if refused == 0 or call > _MOST_CALLS:
             break
         trial.same(f"allocation {call} is refused: how often memory is wanting", refused, 1)
         trial.same(f"allocation {call} is refused: the answers", found, wanted)
-    trial.check("all allocations of a talk are refused", 20 < call < MOST_CALLS and found == wanted, (call, found))
+    trial.check("all allocations of a talk are refused", 20 < call < _MOST_CALLS and found == wanted, (call, found))
     print(f"allocations that were refused: {call - 1}")
 
 
 def under_valgrind(trial: Trial) -> None:
     """What is not in the vectors: a talk that takes memory, and mutated datagrams."""
     status, said = trial.ran(
-        trial.called(UNDER_VALGRIND, "talk"), described("roadside") + "".join(f"{line}\n" for line in lines_of_a_talk())
+        trial.called(UNDER_VALGRIND, "talk"),
+        described("roadside") + "".join(f"{line}\n" for line in _lines_of_a_talk()),
     )
     trial.check("valgrind: a talk", status == 0 and "==" not in said, said[-600:])
     mutated(trial, UNDER_VALGRIND, 3, 1)
@@ -78,8 +79,8 @@ def datagrams() -> str:
 
 def mutated(trial: Trial, way: Way, seconds: int, seed: int) -> None:
     """Datagrams that are changed, for so many seconds."""
-    words = trial.called(way, "mutated", ROADSIDE, str(seconds), str(seed))
-    status, said = trial.ran(words, datagrams(), seconds + MOST_START)
+    words = trial.called(way, "mutated", _ROADSIDE, str(seconds), str(seed))
+    status, said = trial.ran(words, datagrams(), seconds + _MOST_START)
     trial.check(f"{way.name}: mutated datagrams", status == 0 and said.endswith("replies\n"), said[-600:])
     print(f"mutated datagrams, {way.name}, {seconds} s: {said.strip()[-100:]}", flush=True)
 

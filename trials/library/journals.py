@@ -15,11 +15,11 @@ from .doors import Door, settings
 from .trial import Trial
 
 LONG = 20000  # records
-MOST_KILLS = 300
+_MOST_KILLS = 300
 MOMENT = [b"start - 1795543676 1", b"clock 1795543676 1"]
 
 
-def turns(trial: Trial, kinds: tuple[str, ...], is_killed: bool) -> None:
+def _turns(trial: Trial, kinds: tuple[str, ...], is_killed: bool) -> None:
     """Doors one after the other over a journal answer as one that was never ended."""
     name = " then ".join(kinds) + (", killed" if is_killed else "")
     journal = trial.folder / f"{len(list(trial.folder.iterdir()))}.journal"
@@ -39,16 +39,16 @@ def turns(trial: Trial, kinds: tuple[str, ...], is_killed: bool) -> None:
     trial.check(f"journal, {name}: replies", all(before), before)
 
 
-def digest() -> bytes:
+def _digest() -> bytes:
     return hashlib.sha256(BENCH).hexdigest().encode()
 
 
 def head(form: int = 2) -> bytes:
     """The first line of a journal of the bench sign."""
-    return b"journal %d sign rules 1 description %b" % (form, digest())
+    return b"journal %d sign rules 1 description %b" % (form, _digest())
 
 
-def refusals(trial: Trial) -> None:
+def _refusals(trial: Trial) -> None:
     """What is no journal of this sign, or is damaged, is refused; a torn end is put aside."""
     journal = trial.folder / "refused.journal"
     Door(trial, "signd", journal).end()
@@ -94,7 +94,7 @@ def accepted(trial: Trial) -> None:
     trial.check("damage: what is before it stays", lines[3] == b"ticks 5" and lines[4].startswith(b"start "), lines)
 
 
-def killed_anew(trial: Trial) -> None:
+def _killed_anew(trial: Trial) -> None:
     """A journal of form 1 is written anew by doors that are killed at any moment: it is whole in one form, and all
     lines are there. The old file is kept once."""
     journal, older = trial.folder / "anew.journal", trial.folder / "anew.journal.form1"
@@ -102,7 +102,7 @@ def killed_anew(trial: Trial) -> None:
     octets = records.older(lines)
     journal.write_bytes(octets)
     kills = 0
-    while kills < MOST_KILLS and journal.read_bytes() == octets:
+    while kills < _MOST_KILLS and journal.read_bytes() == octets:
         door = Door(trial, "signd", journal, waits=False)
         time.sleep(trial.chance.random() * 0.02 * (1 + kills / 5))
         door.end(signal.SIGKILL)
@@ -118,19 +118,19 @@ def killed_anew(trial: Trial) -> None:
 
 def run(trial: Trial) -> None:
     (trial.folder / "bench.sign").write_bytes(BENCH)
-    turns(trial, ("signd", "signd"), False)
-    turns(trial, ("signd", "signd", "signd"), True)
-    refusals(trial)
+    _turns(trial, ("signd", "signd"), False)
+    _turns(trial, ("signd", "signd", "signd"), True)
+    _refusals(trial)
     accepted(trial)
-    killed_anew(trial)
+    _killed_anew(trial)
     if not os.access(trial.program, os.X_OK):
         trial.skip("journals with the door", f"there is no program at {trial.program}")
         return
-    turns(trial, ("door", "signd", "signd"), False)
-    turns(trial, ("door", "signd"), True)
+    _turns(trial, ("door", "signd", "signd"), False)
+    _turns(trial, ("door", "signd"), True)
     if FORM < 2:
         trial.skip("journals of signd with the door", f"it writes and reads form {FORM}")
         return
-    turns(trial, ("signd", "door", "signd"), False)
-    turns(trial, ("door", "signd", "door"), False)
-    turns(trial, ("signd", "door", "signd", "door"), True)
+    _turns(trial, ("signd", "door", "signd"), False)
+    _turns(trial, ("door", "signd", "door"), False)
+    _turns(trial, ("signd", "door", "signd", "door"), True)

@@ -14,7 +14,7 @@ from . import records
 from .doors import MOST_REPLY, Door, settings
 from .trial import Trial
 
-WAIT = 0.3  # seconds for a reply that does not come
+_WAIT = 0.3  # seconds for a reply that does not come
 
 
 def told(path: pathlib.Path) -> list[bytes]:
@@ -22,7 +22,7 @@ def told(path: pathlib.Path) -> list[bytes]:
     return [line for line in records.lines_of(path.read_bytes()) if line.startswith(b"power-")]
 
 
-def signalled(door: Door, number: signal.Signals, seconds: float = 0.2) -> None:
+def _signalled(door: Door, number: signal.Signals, seconds: float = 0.2) -> None:
     door.process.send_signal(number)
     time.sleep(seconds)
 
@@ -34,10 +34,10 @@ def lost(trial: Trial) -> None:
     door = Door(trial, "signd", journal)
     for octets in sets[:8]:
         door.ask(octets)
-    signalled(door, signal.SIGUSR1)
-    door.socket.settimeout(WAIT)
+    _signalled(door, signal.SIGUSR1)
+    door.socket.settimeout(_WAIT)
     trial.same("power: without it nothing is answered", door.ask(gets[0]), "")
-    signalled(door, signal.SIGUSR2)
+    _signalled(door, signal.SIGUSR2)
     door.socket.settimeout(MOST_REPLY)
     before = [door.ask(octets) for octets in gets]
     trial.check("power: it is back", all(before), before)
@@ -51,23 +51,23 @@ def lost(trial: Trial) -> None:
         door.end()
 
 
-def once(trial: Trial) -> None:
+def _once(trial: Trial) -> None:
     """A loss is one however often it is told, and across a kill; what is not lost does not come back."""
     journal = trial.folder / "once.journal"
     door = Door(trial, "signd", journal)
-    signalled(door, signal.SIGUSR2)
-    signalled(door, signal.SIGUSR1, 2.2)
-    signalled(door, signal.SIGUSR1)
-    signalled(door, signal.SIGUSR2)
-    signalled(door, signal.SIGUSR1, 2.2)
+    _signalled(door, signal.SIGUSR2)
+    _signalled(door, signal.SIGUSR1, 2.2)
+    _signalled(door, signal.SIGUSR1)
+    _signalled(door, signal.SIGUSR2)
+    _signalled(door, signal.SIGUSR1, 2.2)
     door.end(signal.SIGKILL)
     lines = told(journal)
     is_so = lines[:1] + lines[2:] == [b"power-lost"] * 2 and lines[1] in (b"power-back 2", b"power-back 3")
     trial.check("power: a second SIGUSR1 begins no loss", is_so, lines)
     door = Door(trial, "signd", journal)
-    door.socket.settimeout(WAIT)
+    door.socket.settimeout(_WAIT)
     trial.same("power: after a kill there is none", door.ask(settings()[1][0]), "")
-    signalled(door, signal.SIGUSR2)
+    _signalled(door, signal.SIGUSR2)
     trial.same("power: signd ends after a kill", door.end()[0], 0)
     back = told(journal)[3:]
     trial.check("power: a loss across a kill", back in ([b"power-back %d" % some] for some in range(2, 60)), back)
@@ -76,4 +76,4 @@ def once(trial: Trial) -> None:
 def run(trial: Trial) -> None:
     (trial.folder / "bench.sign").write_bytes(BENCH)
     lost(trial)
-    once(trial)
+    _once(trial)

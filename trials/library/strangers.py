@@ -12,29 +12,29 @@ from . import records
 from .doors import MOST_REPLY, Door
 from .trial import Trial
 
-ROW = (1, 3, 6, 1, 4, 1, 1206, 4, 2, 3, 5, 8, 1, 9, 3, 1)
+_ROW = (1, 3, 6, 1, 4, 1, 1206, 4, 2, 3, 5, 8, 1, 9, 3, 1)
 WAIT = 0.3  # seconds for a reply that does not come
 SIGN = text.bench()
 
 
 def request(kind: int, community: bytes, number: int, status: int = 6) -> bytes:
     """A request of the status of row 3.1."""
-    return wire.written(wire.Message(kind, community, number, 0, 0, [(ROW, (wire.INTEGER, status))]))
+    return wire.written(wire.Message(kind, community, number, 0, 0, [(_ROW, (wire.INTEGER, status))]))
 
 
-def datagrams_of(path: pathlib.Path) -> int:
+def _datagrams_of(path: pathlib.Path) -> int:
     return sum(line.startswith(b"datagram ") for line in records.lines_of(path.read_bytes()))
 
 
 def spelled(version: bytes, more: bytes) -> bytes:
     """A SET of the writing community with another version, or with more octets in its PDU."""
-    binding = wire.binding((ROW, (wire.INTEGER, 6)))
+    binding = wire.binding((_ROW, (wire.INTEGER, 6)))
     pdu = wire.integer(1) + wire.integer(0) + wire.integer(0) + wire.element(wire.SEQUENCE, binding) + more
     parts = wire.element(wire.INTEGER, version) + wire.element(wire.OCTETS, SIGN.writer) + wire.element(wire.SET, pdu)
     return wire.element(wire.SEQUENCE, parts)
 
 
-def unheard() -> dict[str, bytes]:
+def _unheard() -> dict[str, bytes]:
     """Datagrams that no sign answers."""
     set_ = request(wire.SET, SIGN.writer, 1)
     assert spelled(b"\0", b"") == set_
@@ -53,13 +53,13 @@ def unheard() -> dict[str, bytes]:
     }
 
 
-def unrecorded(trial: Trial) -> None:
+def _unrecorded(trial: Trial) -> None:
     """What no sign answers is not recorded, and a SET of the reading community as `heard`."""
     journal = trial.folder / "strangers.journal"
     door = Door(trial, "signd", journal, "--no-ticks")
     before = journal.read_bytes()
     door.socket.settimeout(WAIT)
-    for name, octets in unheard().items():
+    for name, octets in _unheard().items():
         trial.same(f"strangers, {name}: answered", door.ask(octets.hex()), "")
         trial.same(f"strangers, {name}: recorded", journal.read_bytes() == before, True)
     door.socket.settimeout(MOST_REPLY)
@@ -67,11 +67,11 @@ def unrecorded(trial: Trial) -> None:
     door.ask(request(wire.GET, SIGN.reader, 2).hex())  # the record is written once the reply is out
     trial.same("is recorded", records.lines_of(journal.read_bytes())[-1], b"heard")
     trial.check("a SET of the writing community", bool(door.ask(request(wire.SET, SIGN.writer, 3).hex())))
-    trial.same("is recorded", datagrams_of(journal), 1)
+    trial.same("is recorded", _datagrams_of(journal), 1)
     trial.same("strangers: signd ends", door.end()[0], 0)
 
 
-def measured(trial: Trial) -> None:
+def _measured(trial: Trial) -> None:
     """At most 50 a second are recorded, 64 more wait, and the rest is dropped and counted."""
     journal = trial.folder / "measured.journal"
     door = Door(trial, "signd", journal)
@@ -79,11 +79,11 @@ def measured(trial: Trial) -> None:
     begun = time.monotonic()
     for number in range(200):
         door.socket.send(request(wire.SET, SIGN.writer, number))
-    recorded = datagrams_of(journal)
+    recorded = _datagrams_of(journal)
     is_early = time.monotonic() < begun + 0.9
     answered = len(door.replies(2.0))
     trial.check("at a measure: in the first second", recorded <= 50 or not is_early, recorded)
-    trial.check("at a measure: answered", 100 <= answered <= 200 and datagrams_of(journal) == answered, answered)
+    trial.check("at a measure: answered", 100 <= answered <= 200 and _datagrams_of(journal) == answered, answered)
     trial.check("at a measure: no faster", time.monotonic() - begun > (answered - 1) // 50, answered)
     _, faults = door.end()
     trial.check("at a measure: the rest is counted", f"{200 - answered} datagrams" in faults or answered == 200, faults)
@@ -95,7 +95,7 @@ def measured(trial: Trial) -> None:
     door.end()
 
 
-def elsewhere(trial: Trial) -> None:
+def _elsewhere(trial: Trial) -> None:
     """IPv6; and no journal."""
     door = Door(trial, "signd", None, host="::1")
     trial.check("IPv6", door.said.startswith("a sign at [::1]:"), door.said)
@@ -106,6 +106,6 @@ def elsewhere(trial: Trial) -> None:
 
 def run(trial: Trial) -> None:
     (trial.folder / "bench.sign").write_bytes(BENCH)
-    unrecorded(trial)
-    measured(trial)
-    elsewhere(trial)
+    _unrecorded(trial)
+    _measured(trial)
+    _elsewhere(trial)

@@ -22,7 +22,7 @@ def answer(octets: bytes, community: bytes, number: int) -> wire.Message | None:
     return message
 
 
-def worded(value: tuple[int, object]) -> int | str:
+def _worded(value: tuple[int, object]) -> int | str:
     """An integer, or octets as digits."""
     held = value[1]
     return held if isinstance(held, int) else bytes(held).hex() if isinstance(held, bytes) else str(held)
@@ -37,7 +37,7 @@ def said(octets: bytes, community: bytes, number: int, asked: list[Name]) -> Val
         return f"error-status {message.status}, {status_word(message.status)}"
     if [name for name, _ in message.bindings] != asked:
         return "the reply does not answer what was asked"
-    return [worded(value) for _, value in message.bindings]
+    return [_worded(value) for _, value in message.bindings]
 
 
 def once(
@@ -52,12 +52,12 @@ def once(
             octets = wire.get(community, number, asked)
             if log:
                 log.datagram("reading", to, octets)
-            return None if sent(own, octets) else awaited(own, waiting, community, number, asked, log)
+            return None if sent(own, octets) else _awaited(own, waiting, community, number, asked, log)
     except OSError:
         return None
 
 
-def awaited(
+def _awaited(
     own: socket.socket, waiting: Waiting, community: bytes, number: int, asked: list[Name], log: Log | None
 ) -> Values | None:
     """The values of the Response, where one comes in time."""

@@ -40,7 +40,7 @@ def seconds(word: str) -> float:
     return found
 
 
-def asked_for() -> argparse.Namespace:
+def _asked_for() -> argparse.Namespace:
     """The options, as far as they go together."""
     words = options(__doc__, "wisangub-centre")
     words.add_argument(
@@ -56,7 +56,7 @@ def asked_for() -> argparse.Namespace:
     return asked
 
 
-def begun_with(first: int, wanted: int | None, is_fresh: bool) -> int:
+def _begun_with(first: int, wanted: int | None, is_fresh: bool) -> int:
     """The number that a journal began with; another one is wanted of a new journal alone."""
     if wanted not in (None, first) and not is_fresh:
         raise Refusal(f"--first {wanted}: the journal began with {first}, and goes on where it was")
@@ -64,7 +64,7 @@ def begun_with(first: int, wanted: int | None, is_fresh: bool) -> int:
 
 
 def main() -> int:
-    asked = asked_for()
+    asked = _asked_for()
     log = log_of(asked)
     text = description.read(asked.sign)
     first = description.first_of(text) if asked.first is None else asked.first
@@ -73,7 +73,7 @@ def main() -> int:
         if journal is None:
             LOG.info(f"request numbers begin at {first}: no journal tells which were used")
         elif journal.head.first is not None:
-            first = begun_with(journal.head.first, asked.first, asked.fresh)
+            first = _begun_with(journal.head.first, asked.first, asked.fresh)
             if journal.is_new:
                 LOG.info(f"{asked.journal}: a new journal, whose request numbers begin at {first}")
         centre = begun(asked, "centre", description.with_first(text, first), journal)

@@ -20,7 +20,7 @@ from .sockets import Address, Waiting, named, received, sent
 from .texts import ended, published
 
 COMMANDS = ("publish", "blank", "activate")
-MOST_LATE = 1000  # datagrams that are let go at once
+_MOST_LATE = 1000  # datagrams that are let go at once
 
 
 def last_command(chunks: Iterable[list[bytes]]) -> str:
@@ -172,7 +172,7 @@ class CentreDoor:
 
     def late(self) -> None:
         """What comes while no job is under way answers nothing, and is let go."""
-        for _ in range(MOST_LATE):
+        for _ in range(_MOST_LATE):
             heard = received(self.door)
             if heard is None:
                 break

@@ -27,11 +27,11 @@ def lines(waiting: Waiting) -> Iterator[str | None]:
         if is_long:
             yield None
         elif text and not text.startswith(b"#"):
-            yield decoded(text)
+            yield _decoded(text)
         is_long = False
 
 
-def decoded(line: bytes) -> str | None:
+def _decoded(line: bytes) -> str | None:
     """The line as text."""
     try:
         return line.decode("utf-8") if len(line) <= MOST_LINE else None

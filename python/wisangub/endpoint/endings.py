@@ -12,27 +12,27 @@ STEPS = (  # of a publication: docs/PROFILE.md, "Commands"
     "activate",
     "ask why it was refused",
 )
-VALID, WRITTEN = 5, 4  # the step that asks whether the row is valid, and the last one that writes to it
-FAILED = re.compile(r"^(?:last )?failed at step ([1-8]): (.*)$", re.DOTALL)
-IN_ERROR = re.compile(r"the row has status 5\b")
-GENERAL = re.compile(r"error-status 5\b")
-NO_REPLY = (
+_VALID, _WRITTEN = 5, 4  # the step that asks whether the row is valid, and the last one that writes to it
+_FAILED = re.compile(r"^(?:last )?failed at step ([1-8]): (.*)$", re.DOTALL)
+_IN_ERROR = re.compile(r"the row has status 5\b")
+_GENERAL = re.compile(r"error-status 5\b")
+_NO_REPLY = (
     "the request went out three times to {to}, and no reply came: it may be that nothing listens there, that the sign"
     " has another community, or that it answers from another address than was asked"
 )
-ANOTHER = "the row may be another system's"
+_ANOTHER = "the row may be another system's"
 
 
 def failed(how: str) -> tuple[int, str] | None:
     """The step at which a job failed, and why."""
-    found = FAILED.match(how)
+    found = _FAILED.match(how)
     return (int(found[1]), found[2]) if found else None
 
 
 def is_in_error(how: str) -> bool:
     """Whether it ended since the sign found the row in error: then it can be asked why."""
     found = failed(how)
-    return found is not None and found[0] == VALID and IN_ERROR.match(found[1]) is not None
+    return found is not None and found[0] == _VALID and _IN_ERROR.match(found[1]) is not None
 
 
 def cause(how: str, to: str) -> str:
@@ -41,8 +41,8 @@ def cause(how: str, to: str) -> str:
     if found is None:
         return ""
     if found[1] == "no reply":
-        return NO_REPLY.format(to=to)
-    return ANOTHER if found[0] <= WRITTEN and GENERAL.match(found[1]) else ""
+        return _NO_REPLY.format(to=to)
+    return _ANOTHER if found[0] <= _WRITTEN and _GENERAL.match(found[1]) else ""
 
 
 def explained(how: str, to: str, said: str = "") -> str:

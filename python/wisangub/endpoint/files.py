@@ -11,11 +11,11 @@ from wisangub.refusal import Refusal, reason
 
 MODE = 0o600
 NEW = ".new"  # the end of the name of a file that is to take another one's place
-OLDER = ".form1"  # of a journal of form 1 that was written anew
-CUT = ".cut-"  # comes before the date of what was cut from a journal
+_OLDER = ".form1"  # of a journal of form 1 that was written anew
+_CUT = ".cut-"  # comes before the date of what was cut from a journal
 WRITTEN = os.O_RDWR | os.O_CREAT | os.O_APPEND
-FULL = (errno.ENOSPC, errno.EDQUOT, errno.EROFS)  # of a disk that is full, or can only be read
-CHUNK = 1 << 20
+_FULL = (errno.ENOSPC, errno.EDQUOT, errno.EROFS)  # of a disk that is full, or can only be read
+_CHUNK = 1 << 20
 
 
 class NotKept(Refusal):
@@ -25,7 +25,7 @@ class NotKept(Refusal):
 def refusal(fault: OSError, words: str = "", status: int = 2) -> Refusal:
     """What a fault of the disk is: where that is full, or can only be read, it may be otherwise later."""
     told = f"{words}: {fault.strerror}" if words else reason(fault)
-    return NotKept(told, status) if fault.errno in FULL else Refusal(told, status)
+    return NotKept(told, status) if fault.errno in _FULL else Refusal(told, status)
 
 
 def opened(path: str, how: int = WRITTEN) -> int:
@@ -35,8 +35,8 @@ def opened(path: str, how: int = WRITTEN) -> int:
             file = os.open(path, how | os.O_CLOEXEC | os.O_NOCTTY, MODE)
         except OSError as fault:
             raise refusal(fault) from fault
-        lock(file, path)
-        if is_named(file, path):
+        _lock(file, path)
+        if _is_named(file, path):
             return file
         os.close(file)
 
@@ -46,7 +46,7 @@ def opened_to_read(path: str) -> int:
     return opened(path, os.O_RDONLY) if os.path.exists(path) else -1
 
 
-def lock(file: int, path: str) -> None:
+def _lock(file: int, path: str) -> None:
     """Takes the file for this door alone."""
     if not stat.S_ISREG(os.fstat(file).st_mode):
         raise Refusal(f"{path} is no plain file")
@@ -67,7 +67,7 @@ def own(file: int, path: str) -> None:
         raise Refusal(f"{path}: {reason(fault)}") from fault
 
 
-def is_named(file: int, path: str) -> bool:
+def _is_named(file: int, path: str) -> bool:
     """Whether the name still stands for the open file: another door may have put it aside."""
     try:
         return os.path.samestat(os.fstat(file), os.stat(path))
@@ -105,11 +105,11 @@ def synced_folder(path: str) -> None:
         raise refusal(fault, f"the folder of {path}", 1) from fault
 
 
-def dated() -> str:
+def _dated() -> str:
     return time.strftime("%Y-%m-%dT%H%M%S")
 
 
-def free(name: str) -> str:
+def _free(name: str) -> str:
     """This name, or one with a number after it, that no file has."""
     at = 1
     while os.path.lexists(name if at == 1 else f"{name}-{at}"):
@@ -120,7 +120,7 @@ def free(name: str) -> str:
 def copied(file: int, begin: int, end: int, to: int) -> None:
     """Copies octets of a file to another one, and waits until they are on the disk."""
     while begin < end:
-        octets = os.pread(file, min(CHUNK, end - begin), begin)
+        octets = os.pread(file, min(_CHUNK, end - begin), begin)
         begin += os.write(to, octets)
     os.fsync(to)
 
@@ -129,7 +129,7 @@ def kept_aside(file: int, begin: int, end: int, path: str) -> str:
     """A new file beside this one that has some of its octets, on the disk: its name."""
     name = ""
     try:
-        name = free(f"{path}{CUT}{dated()}")
+        name = _free(f"{path}{_CUT}{_dated()}")
         made = os.open(name, os.O_WRONLY | os.O_CREAT | os.O_EXCL | os.O_CLOEXEC, MODE)
         try:
             copied(file, begin, end, made)
@@ -148,20 +148,20 @@ def octets_aside(path: str) -> int:
     """How many octets were cut from the file of this name, as far as they lie beside it."""
     folder, name = os.path.split(os.path.abspath(path))
     with os.scandir(folder) as entries:
-        return sum(entry.stat().st_size for entry in entries if entry.name.startswith(name + CUT))
+        return sum(entry.stat().st_size for entry in entries if entry.name.startswith(name + _CUT))
 
 
 def put_aside(path: str, begin: Callable[[int], None]) -> tuple[int, str]:
     """A new file, begun, in the place of the one of this name, which is kept under another. At each moment there is a
     file of this name, so that a centre's numbers are never begun again."""
-    return replaced(path, free(f"{path}.{dated()}"), begin)
+    return replaced(path, _free(f"{path}.{_dated()}"), begin)
 
 
 def written_anew(path: str, begin: Callable[[int], None]) -> tuple[int, str]:
     """The same for a journal of form 1, which is kept as it was; where that has such a name already it has no other."""
-    aside = path + OLDER
+    aside = path + _OLDER
     is_kept = os.path.lexists(aside) and os.path.samestat(os.lstat(aside), os.stat(path))
-    return replaced(path, aside if is_kept else free(aside), begin)
+    return replaced(path, aside if is_kept else _free(aside), begin)
 
 
 def replaced(path: str, aside: str, begin: Callable[[int], None]) -> tuple[int, str]:

@@ -233,7 +233,7 @@ class Journal:
             cut(self.file, self.size, self.path)
             raise NotKept(f"{self.path}: {reason(fault)}", 1) from fault
         if synced:
-            sync(self.file, self.path)
+            _sync(self.file, self.path)
         self.size, self.number = self.size + len(octets), self.number + len(lines)
         self.since = self.number if synced else self.since
         if not stands(self.file, self.path, self.size):
@@ -261,7 +261,7 @@ def written(file: int, octets: bytes) -> None:
         done += os.write(file, octets[done:])
 
 
-def sync(file: int, path: str) -> None:
+def _sync(file: int, path: str) -> None:
     """What was written is on the disk; a failure ends the door, since what is there is not known."""
     try:
         os.fdatasync(file)

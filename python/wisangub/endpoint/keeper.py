@@ -6,7 +6,7 @@ from .clock import Moment, down
 from .files import NotKept
 from .journal import Journal
 
-MINUTE = 60  # seconds from one record of the clock to the next
+_MINUTE = 60  # seconds from one record of the clock to the next
 
 
 class Keeper:
@@ -38,7 +38,7 @@ class Keeper:
         self.seconds, self.since_clock = self.seconds + seconds, self.since_clock + seconds
         self.lost = self.lost + seconds if self.journal.refused else 0
         self.is_heard = False
-        if self.since_clock >= MINUTE:
+        if self.since_clock >= _MINUTE:
             self.clock(Moment.at(up))
 
     def clock(self, now: Moment) -> None:

@@ -4,27 +4,27 @@ of a later form."""
 import re
 from typing import Callable
 
-MOST_NUMBER = 2**32 - 1
-MOST_LINE = 65_536
-DATAGRAM = rb"datagram (?:-|(?:[0-9a-fA-F]{2})+)"
-LARGE = rb"([0-9]{1,10})"
+_MOST_NUMBER = 2**32 - 1
+_MOST_LINE = 65_536
+_DATAGRAM = rb"datagram (?:-|(?:[0-9a-fA-F]{2})+)"
+_LARGE = rb"([0-9]{1,10})"
 SIGN = re.compile(
     rb"%b|tick|heard|power-lost|ticks %b|power-back %b|start [!-~]+ [0-9]+ -?[0-9]+|clock [0-9]+ -?[0-9]+"
-    % (DATAGRAM, LARGE, LARGE)
+    % (_DATAGRAM, _LARGE, _LARGE)
 )
-CENTRE = re.compile(rb"%b|tick|restart|(?:publish|blank|activate)(?: .*)?" % DATAGRAM, re.DOTALL)
+_CENTRE = re.compile(rb"%b|tick|restart|(?:publish|blank|activate)(?: .*)?" % _DATAGRAM, re.DOTALL)
 
 
 def of_sign(line: bytes) -> bool:
     """Whether a sign's journal may have this line behind its first."""
     found = SIGN.fullmatch(line)
     number = found[1] or found[2] if found else None
-    return found is not None and len(line) <= MOST_LINE and (number is None or int(number) <= MOST_NUMBER)
+    return found is not None and len(line) <= _MOST_LINE and (number is None or int(number) <= _MOST_NUMBER)
 
 
 def of_centre(line: bytes) -> bool:
     """Whether a centre's may. A command is whatever an operator gave, and the program says what is wrong with it."""
-    return CENTRE.fullmatch(line) is not None and len(line) <= MOST_LINE
+    return _CENTRE.fullmatch(line) is not None and len(line) <= _MOST_LINE
 
 
 def of(end: str) -> Callable[[bytes], bool]:

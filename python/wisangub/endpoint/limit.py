@@ -7,15 +7,15 @@ SECOND = 1.0
 MOST_RECORDED = 50  # in any second, where nothing else is said
 MOST_WAITING = 64
 
-One = TypeVar("One")
+_One = TypeVar("_One")
 
 
-class Limit(Generic[One]):
+class Limit(Generic[_One]):
     """At most so many in any second are let through, in their order; some wait, and what comes then is dropped."""
 
     def __init__(self, most: int = MOST_RECORDED) -> None:
         self.times: collections.deque[float] = collections.deque(maxlen=most)  # when the last ones were let through
-        self.waiting: collections.deque[One] = collections.deque()
+        self.waiting: collections.deque[_One] = collections.deque()
         self.dropped = 0
 
     def from_when(self) -> float:
@@ -27,7 +27,7 @@ class Limit(Generic[One]):
         """The seconds until one that waits is let through; None where none does."""
         return max(0.0, self.from_when() - now) if self.waiting else None
 
-    def lets(self, one: One, now: float) -> bool:
+    def lets(self, one: _One, now: float) -> bool:
         """Whether this one is let through at once. Else it waits, or is dropped."""
         if not self.waiting and self.from_when() <= now:
             self.times.append(now)
@@ -38,9 +38,9 @@ class Limit(Generic[One]):
             self.dropped += 1
         return False
 
-    def due(self, now: float, count: int) -> list[One]:
+    def due(self, now: float, count: int) -> list[_One]:
         """Those that waited and are let through now, at most so many."""
-        found: list[One] = []
+        found: list[_One] = []
         while self.waiting and len(found) < count and self.from_when() <= now:
             self.times.append(now)
             found.append(self.waiting.popleft())

@@ -14,7 +14,7 @@ from .files import MODE
 from .sockets import Address, named
 
 
-def file_of(path: str) -> int:
+def _file_of(path: str) -> int:
     """The file that is written to at its end; `-` is standard output."""
     if path == "-":
         return 1
@@ -31,7 +31,7 @@ class Log:
     """Where events are told, as text or as JSON. A log that cannot be written leaves events out, and says so once."""
 
     def __init__(self, path: str, is_json: bool) -> None:
-        self.path, self.file, self.is_json, self.mib = path, file_of(path), is_json, Mib.read()
+        self.path, self.file, self.is_json, self.mib = path, _file_of(path), is_json, Mib.read()
         self.left_out = 0
         self.is_torn = self.is_given_up = False
 
@@ -43,7 +43,7 @@ class Log:
         """An event of any kind, in one line."""
         time = datetime.datetime.now(datetime.timezone.utc).isoformat(timespec="milliseconds").replace("+00:00", "Z")
         told: dict[str, object] = {"time": time, "peer": named(peer) if peer else "", "event": event, **(fields or {})}
-        self.write(json.dumps(told) if self.is_json else line_of(told))
+        self.write(json.dumps(told) if self.is_json else _line_of(told))
 
     def write(self, line: str) -> None:
         """A line, in one write, after a newline where the last one was written in part."""
@@ -64,7 +64,7 @@ class Log:
             self.left_out = 0
 
 
-def line_of(told: dict[str, object]) -> str:
+def _line_of(told: dict[str, object]) -> str:
     """An event as a line: values alone where they come first, then each with its name."""
     words = [str(told["time"]), str(told["peer"]) or "-", str(told["event"])]
     for name, value in told.items():

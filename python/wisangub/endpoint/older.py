@@ -6,9 +6,9 @@ from typing import Iterator
 
 from .records import CHUNK, OWN, Octets
 
-TAIL = 9  # the eight digits of a sum and the newline
+_TAIL = 9  # the eight digits of a sum and the newline
 SUMMED = 10  # a space, a number sign and the eight digits
-SHAPE = re.compile(rb" #[0-9a-f]{8}\n")
+_SHAPE = re.compile(rb" #[0-9a-f]{8}\n")
 
 
 def is_older(text: Octets) -> bool:
@@ -16,29 +16,29 @@ def is_older(text: Octets) -> bool:
     return text[:10] == b"journal 1 "
 
 
-def sum_at(text: Octets, end: int) -> int | None:
+def _sum_at(text: Octets, end: int) -> int | None:
     """The sum that is written before `end`; None where no eight small digits and a newline stand there."""
-    tail = text[max(0, end - TAIL) : end]
+    tail = text[max(0, end - _TAIL) : end]
     digits = tail[:-1]
-    if len(tail) != TAIL or tail[-1:] != b"\n" or digits.strip(b"0123456789abcdef"):
+    if len(tail) != _TAIL or tail[-1:] != b"\n" or digits.strip(b"0123456789abcdef"):
         return None
     return int(digits, 16)
 
 
-def checksum_at(text: Octets, end: int) -> int:
+def _checksum_at(text: Octets, end: int) -> int:
     """The CRC-32 of all octets up to the end of a whole record, from what is written there."""
-    written = sum_at(text, end)
-    return 0 if written is None else zlib.crc32(text[end - TAIL : end], written)
+    written = _sum_at(text, end)
+    return 0 if written is None else zlib.crc32(text[end - _TAIL : end], written)
 
 
-def whole_from(text: Octets, at: int, end: int) -> int:
+def _whole_from(text: Octets, at: int, end: int) -> int:
     """The end of the last whole record from `at` on, where a record begins, one record after the other."""
-    before = checksum_at(text, at)
+    before = _checksum_at(text, at)
     while True:
         after = text.find(b"\n", at, end) + 1
-        if not after or sum_at(text, after) != zlib.crc32(text[at : after - TAIL], before):
+        if not after or _sum_at(text, after) != zlib.crc32(text[at : after - _TAIL], before):
             return at
-        at, before = after, checksum_at(text, after)
+        at, before = after, _checksum_at(text, after)
 
 
 def whole(text: Octets) -> int:
@@ -49,16 +49,16 @@ def whole(text: Octets) -> int:
         end = text.rfind(b"\n", at, at + CHUNK) + 1
         if not end:
             return at
-        if sum_at(text, end) != zlib.crc32(text[at : end - TAIL], before):
-            return whole_from(text, at, end)
-        at, before = end, checksum_at(text, end)
+        if _sum_at(text, end) != zlib.crc32(text[at : end - _TAIL], before):
+            return _whole_from(text, at, end)
+        at, before = end, _checksum_at(text, end)
     return at
 
 
 def has_shape(text: Octets, at: int) -> bool:
     """Whether something behind an octet has the shape of a record: nobody can tell whether it was one."""
     while (mark := text.find(b" #", at)) != -1:
-        if SHAPE.match(text[mark : mark + SUMMED + 1]):
+        if _SHAPE.match(text[mark : mark + SUMMED + 1]):
             return True
         at = mark + 1
     return False
@@ -68,7 +68,7 @@ def is_whole_with_newline(text: Octets, at: int) -> bool:
     """Whether what stands from there to the end of the file would be a record with a newline in place of its last
     octet."""
     octets = text[at : len(text) - 1] + b"\n"
-    return sum_at(octets, len(octets)) == zlib.crc32(octets[:-TAIL], checksum_at(text, at))
+    return _sum_at(octets, len(octets)) == zlib.crc32(octets[:-_TAIL], _checksum_at(text, at))
 
 
 def every_line(text: Octets, size: int) -> Iterator[list[bytes]]:

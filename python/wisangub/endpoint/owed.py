@@ -1,6 +1,6 @@
 """Lines that wait for a disk: as they are, and from some number on seconds and polls in little memory."""
 
-MINUTE = 60
+_MINUTE = 60
 MOST_EXACT = 1000  # lines that are kept as they are
 
 
@@ -12,14 +12,14 @@ class Polls:
     def __init__(self) -> None:
         self.parts: list[tuple[int, int]] = []  # so many seconds, in gaps of at most so many
         self.seconds = 0  # since the last poll
-        self.most = MINUTE - 1  # the longest gap that does nothing new
+        self.most = _MINUTE - 1  # the longest gap that does nothing new
 
     def heard(self) -> None:
         """A poll after the seconds so far."""
         gap, self.seconds = self.seconds, 0
         if gap > self.most:
             self.parts.append((gap, gap))
-            self.most = gap - gap % MINUTE + MINUTE - 1
+            self.most = gap - gap % _MINUTE + _MINUTE - 1
         elif self.parts and self.parts[-1][1] == self.most:
             self.parts[-1] = (self.parts[-1][0] + gap, self.most)
         else:

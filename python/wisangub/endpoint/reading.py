@@ -10,9 +10,9 @@ from .clock import Moment
 from .damage import End
 from .records import FORM, SECTOR, Extent, Head, Octets, Unknown
 
-ANEW = "--fresh begins anew"
-ACCEPT = "--accept-damage goes on once from there, and puts the rest aside"
-ABOVE = "--fresh begins above all numbers that it may have used"
+_ANEW = "--fresh begins anew"
+_ACCEPT = "--accept-damage goes on once from there, and puts the rest aside"
+_ABOVE = "--fresh begins above all numbers that it may have used"
 
 
 @dataclass
@@ -38,17 +38,17 @@ def read(path: str, text: Octets, wanted: Head, accepts: bool) -> Found | None:
     """What the file of this journal has; None where that is nothing yet. Refuses what is another's, and damage that is
     not accepted."""
     first = first_of(text)
-    if first is None and is_begun(text, wanted):
+    if first is None and _is_begun(text, wanted):
         return None
-    head = compared(path, first, wanted)
-    extent = extent_of(path, text, head)
+    head = _compared(path, first, wanted)
+    extent = _extent_of(path, text, head)
     end = damage.end_of(text, extent) if head.form == FORM else damage.end_of_older(text, extent.size)
     if end is End.DAMAGED and (not accepts or head.end == "centre"):
-        how = ABOVE if head.end == "centre" else ACCEPT
+        how = _ABOVE if head.end == "centre" else _ACCEPT
         raise Refusal(
             f"{path}: damaged at octet {extent.size}: what stands there is no record as a door wrote it ({how})"
         )
-    kept, last = started(text, extent.size)
+    kept, last = _started(text, extent.size)
     number = records.number_at(text, kept) if kept < extent.size and head.form == FORM else extent.number
     return Found(head, len(text), kept, number, min(extent.since, number), last)
 
@@ -62,7 +62,7 @@ def first_of(text: Octets) -> bytes | None:
     return parts[0] if parts else None
 
 
-def is_begun(text: Octets, wanted: Head) -> bool:
+def _is_begun(text: Octets, wanted: Head) -> bool:
     """Whether a file without a whole record is what a door leaves that was killed at the first one."""
     octets = text[:SECTOR].rstrip(b"\0")
     begun = [records.record(replace(wanted, form=FORM).line(), 1, 1), replace(wanted, form=1).line() + b" #"]
@@ -70,7 +70,7 @@ def is_begun(text: Octets, wanted: Head) -> bool:
     return len(text) < SECTOR and b"\n" not in octets and len(octets) < len(begun[0]) and is_like
 
 
-def compared(path: str, first: bytes | None, wanted: Head) -> Head:
+def _compared(path: str, first: bytes | None, wanted: Head) -> Head:
     """What the journal is of; a journal of something else is refused by what differs."""
     found = Head.of(first) if first is not None else None
     if found is None:
@@ -82,13 +82,13 @@ def compared(path: str, first: bytes | None, wanted: Head) -> Head:
         ("rules", found.rules, wanted.rules),
     ):
         if has != asked:
-            raise Refusal(f"{path}: its {name} is {has}, and this door's {asked} ({ANEW})")
+            raise Refusal(f"{path}: its {name} is {has}, and this door's {asked} ({_ANEW})")
     if found.digest != wanted.digest:
-        raise Refusal(f"{path} is the journal of another description ({ANEW})")
+        raise Refusal(f"{path} is the journal of another description ({_ANEW})")
     return found
 
 
-def extent_of(path: str, text: Octets, head: Head) -> Extent:
+def _extent_of(path: str, text: Octets, head: Head) -> Extent:
     """How far the file is whole; a whole record with a line that its end does not know is refused by name."""
     is_known = known.of(head.end)
     try:
@@ -100,10 +100,10 @@ def extent_of(path: str, text: Octets, head: Head) -> Extent:
             at, number = at + sum(map(len, lines)) + (older.SUMMED + 1) * len(lines), number + len(lines)
         return Extent(size, number, number)
     except Unknown as fault:
-        raise Refusal(f"{path}: {fault}: no {head.end} knows this line ({ANEW})") from fault
+        raise Refusal(f"{path}: {fault}: no {head.end} knows this line ({_ANEW})") from fault
 
 
-def started(text: Octets, size: int) -> tuple[int, Moment | None]:
+def _started(text: Octets, size: int) -> tuple[int, Moment | None]:
     """The length of the records up to a start that was not finished, and the moment of the last of them."""
     start = text.rfind(b"\nstart ", 0, size) + 1
     while (clock := text.rfind(b"\nclock ", 0, size) + 1) < start:
@@ -112,10 +112,10 @@ def started(text: Octets, size: int) -> tuple[int, Moment | None]:
         return size, None
     at = text.find(b"\n", clock) + 1
     moment = Moment.of(text[start : text.find(b"\n", start)], text[clock:at])
-    return size, moment.later(sum(seconds_of(line) for line in text[at:size].split(b"\n")))
+    return size, moment.later(sum(_seconds_of(line) for line in text[at:size].split(b"\n")))
 
 
-def seconds_of(octets: bytes) -> int:
+def _seconds_of(octets: bytes) -> int:
     """The seconds that a record counts."""
     words = octets.split(b" ", 2)
     return int(words[1]) if words[0] == b"ticks" and words[1].isdigit() else int(words[0] == b"tick")

@@ -9,7 +9,7 @@ RULES = 1  # the rules' number of docs/PROFILE.md: it goes up only where an answ
 SUM = 8  # the digits of a sum
 CHUNK = 1 << 20
 SECTOR = 512
-MOST_DIGITS = 20  # of a number of the first record
+_MOST_DIGITS = 20  # of a number of the first record
 SHORTEST = 15  # octets of the shortest record that is handed over, `tick` of form 1; in form 2 it has 19
 OWN = (b"journal ", b"start ", b"clock ")  # records of the door's own; all others are lines that are handed over
 
@@ -75,13 +75,13 @@ def whole(text: Octets, is_known: Callable[[bytes], bool] | None = None) -> Exte
     """How far a file is whole. A whole record with a line that is not known, where it is asked, is Unknown."""
     found = Extent()
     while found.size < len(text) and (end := text.rfind(b"\n", found.size, found.size + CHUNK) + 1):
-        found = whole_ones(text[found.size : end - 1].split(b"\n"), found, is_known)
+        found = _whole_ones(text[found.size : end - 1].split(b"\n"), found, is_known)
         if found.size < end:
             break
     return found
 
 
-def whole_ones(some: list[bytes], before: Extent, is_known: Callable[[bytes], bool] | None) -> Extent:
+def _whole_ones(some: list[bytes], before: Extent, is_known: Callable[[bytes], bool] | None) -> Extent:
     """How far a file is whole that goes on with these records, without their newlines. Most records have the SINCE of
     the one before, or their own number."""
     at, number, since = before.size, before.number, before.since
@@ -121,7 +121,7 @@ def number_at(text: Octets, at: int) -> int:
     return int(text[at : text.find(b"\n", at)].rsplit(b" #", 1)[1].split(b" ")[0])
 
 
-def line_of(octets: bytes) -> bytes:
+def _line_of(octets: bytes) -> bytes:
     """The line of a record of form 2, with or without its newline."""
     return octets.rpartition(b" #")[0]
 
@@ -130,7 +130,7 @@ def lines_of(text: Octets, at: int, size: int) -> Iterator[list[bytes]]:
     """The lines that are handed over, of the whole records from `at` up to `size`, many at a time."""
     while at < size:
         end = text.rfind(b"\n", at, min(at + CHUNK, size)) + 1
-        yield [line_of(octets) for octets in text[at : end - 1].split(b"\n") if not octets.startswith(OWN)]
+        yield [_line_of(octets) for octets in text[at : end - 1].split(b"\n") if not octets.startswith(OWN)]
         at = end
 
 
@@ -156,7 +156,7 @@ class Head:
         if len(words) not in (7, 9) or words[0] != "journal" or words[3] != "rules" or words[5] != "description":
             return None
         numbers = [words[1], words[4], *words[8:]]
-        are_numbers = all(word.isascii() and word.isdecimal() and len(word) < MOST_DIGITS for word in numbers)
+        are_numbers = all(word.isascii() and word.isdecimal() and len(word) < _MOST_DIGITS for word in numbers)
         if not are_numbers or words[7:8] not in ([], ["first"]):
             return None
         return Head(words[2], words[6], int(words[8]) if words[8:] else None, int(words[1]), int(words[4]))

@@ -46,11 +46,11 @@ def checked(asked: argparse.Namespace) -> None:
     if asked.json and not asked.log:
         raise Refusal("--json is of a --log FILE")
     for what, other in (("journal", asked.journal), ("description", asked.sign)):
-        if asked.log and other and is_same(asked.log, other):
+        if asked.log and other and _is_same(asked.log, other):
             raise Refusal(f"{asked.log} cannot be the log and the {what}")
 
 
-def is_same(one: str, other: str) -> bool:
+def _is_same(one: str, other: str) -> bool:
     """Whether two names are of one file."""
     try:
         return os.path.samefile(one, other)

@@ -37,7 +37,7 @@ from .sockets import Waiting, bound, host_and_port, named
 PAGE = 8161  # the port of a page
 
 
-def asked_for() -> argparse.Namespace:
+def _asked_for() -> argparse.Namespace:
     """The options, as far as they go together."""
     words = options(__doc__, "wisangub-sign")
     words.add_argument("--host", default="127.0.0.1", help="an IPv4 or IPv6 address, or a name")
@@ -73,7 +73,7 @@ def has_power(sign: CoProcess) -> bool:
 
 
 def main() -> int:
-    asked = asked_for()
+    asked = _asked_for()
     log, text = log_of(asked), description.read(asked.sign)
     with bound(asked.host, asked.port) as door:
         journal = journal_of(asked, Head("sign", description.digest(text))) if asked.journal else None

@@ -10,7 +10,7 @@ from wisangub.refusal import Refusal
 from wisangub.snmp.wire import MOST_DATAGRAM
 
 MOST_FAULTS = 100  # of earlier datagrams, that are passed over at once
-MOST_WAIT = 86_400.0  # seconds that are waited for at once
+_MOST_WAIT = 86_400.0  # seconds that are waited for at once
 Address = tuple[Any, ...]
 
 
@@ -39,7 +39,7 @@ def host_and_port(words: str) -> tuple[str, int]:
     return found[1] or found[3], port
 
 
-def resolved(host: str, port: int) -> tuple[int, Address]:
+def _resolved(host: str, port: int) -> tuple[int, Address]:
     """The family and the address of a host's name or address, of IPv4 where a name has both."""
     try:
         found = min(socket.getaddrinfo(host, port, type=socket.SOCK_DGRAM), key=lambda one: one[0] != socket.AF_INET)
@@ -52,7 +52,7 @@ def bound(host: str, port: int) -> socket.socket:
     """A socket at this address."""
     if not 0 <= port <= 65535:
         raise Refusal(f"{port} is no port: 0 to 65535")
-    family, address = resolved(host, port)
+    family, address = _resolved(host, port)
     made = socket.socket(family, socket.SOCK_DGRAM)
     try:
         made.bind(address)
@@ -63,7 +63,7 @@ def bound(host: str, port: int) -> socket.socket:
 
 def connected(host: str, port: int) -> socket.socket:
     """A socket that sends to this address, and takes datagrams from it alone."""
-    family, address = resolved(host, port)
+    family, address = _resolved(host, port)
     made = socket.socket(family, socket.SOCK_DGRAM)
     try:
         made.connect(address)
@@ -129,5 +129,5 @@ class Waiting:
         """Which of these files can be read, after at most so many seconds."""
         if files != self.files:
             self.files, self.ready = list(files), self.poll_of(files)
-        found = self.ready.poll(None if seconds is None else 1000 * min(max(0.0, seconds), MOST_WAIT))
+        found = self.ready.poll(None if seconds is None else 1000 * min(max(0.0, seconds), _MOST_WAIT))
         return [] if self.is_stopped else [file for file, _ in found if file in files]

@@ -7,10 +7,10 @@ from wisangub.snmp.mib import Mib
 from wisangub.snmp.names import status_word
 
 WORD = re.compile(r'"((?:[^"\\]|\\.)*)"(?= |$)|([^ "]+)(?= |$)')
-FIELDS = ("MEMORY", "NUMBER", "TEXT", "OWNER", "BEACON", "PIXEL", "RUN", "MINUTES", "PRIORITY", "ADDRESS")
+_FIELDS = ("MEMORY", "NUMBER", "TEXT", "OWNER", "BEACON", "PIXEL", "RUN", "MINUTES", "PRIORITY", "ADDRESS")
 
 
-def octets_of(text: str, name: str) -> str:
+def _octets_of(text: str, name: str) -> str:
     """The digits of a text's octets, as in ISO 8859-1."""
     for place, character in enumerate(text, 1):
         if ord(character) > 255:
@@ -18,7 +18,7 @@ def octets_of(text: str, name: str) -> str:
     return text.encode("latin-1").hex() or "-"
 
 
-def words_of(line: str) -> list[tuple[str, bool]]:
+def _words_of(line: str) -> list[tuple[str, bool]]:
     """The words of a line and whether they stood in quotes, where \\" and \\\\ are a quote and a backslash."""
     words, at = [], 0
     while at < len(line):
@@ -37,13 +37,13 @@ def words_of(line: str) -> list[tuple[str, bool]]:
 def published(line: str) -> str:
     """The line `publish ..` of a line `publish-text ..`, which has the text and the owner as they are read; a `-`
     without quotes is none."""
-    words = words_of(line)[1:]
-    if len(words) != len(FIELDS):
-        raise Refusal(f"publish-text wants {len(FIELDS)} words, {' '.join(FIELDS)}, and not {len(words)}")
+    words = _words_of(line)[1:]
+    if len(words) != len(_FIELDS):
+        raise Refusal(f"publish-text wants {len(_FIELDS)} words, {' '.join(_FIELDS)}, and not {len(words)}")
     made = []
-    for name, (word, quoted) in zip(FIELDS, words):
+    for name, (word, quoted) in zip(_FIELDS, words):
         is_text = name in ("TEXT", "OWNER")
-        made.append(word if not is_text or word == "-" and not quoted else octets_of(word, name))
+        made.append(word if not is_text or word == "-" and not quoted else _octets_of(word, name))
     return " ".join(["publish", *made])
 
 

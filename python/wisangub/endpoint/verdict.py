@@ -7,15 +7,15 @@ from wisangub.snmp.mib import Mib
 from .asking import Name
 from .lack import lack
 
-OBJECTS = ("dmsValidateMessageError", "dmsMultiSyntaxError", "dmsMultiSyntaxErrorPosition")
-NONE, SYNTAX = 2, 5
-LACKS = {3: "the sign has no beacons", 4: "the sign has no pixel service"}
+_OBJECTS = ("dmsValidateMessageError", "dmsMultiSyntaxError", "dmsMultiSyntaxErrorPosition")
+_NONE, _SYNTAX = 2, 5
+_LACKS = {3: "the sign has no beacons", 4: "the sign has no pixel service"}
 
 
 def names(mib: Mib) -> list[Name]:
     """The names of what is asked for; none where the MIB is not here."""
     places = {object_: name for name, object_ in mib.objects.items()}
-    return [(*places[object_], 0) for object_ in OBJECTS if object_ in places]
+    return [(*places[object_], 0) for object_ in _OBJECTS if object_ in places]
 
 
 def text_of(line: str) -> bytes | None:
@@ -31,14 +31,14 @@ def words(mib: Mib, values: Sequence[int | str], line: str, program: str, descri
     """The verdict in words, the fault of a text in those of `signtool check` where that finds the same; nothing where
     the sign says no more than that."""
     numbers = [value for value in values if isinstance(value, int)]
-    if len(numbers) != len(OBJECTS) or numbers[0] == NONE:
+    if len(numbers) != len(_OBJECTS) or numbers[0] == _NONE:
         return ""
     verdict, code, at = numbers
-    if verdict != SYNTAX:
-        word = mib.words.get(OBJECTS[0], {}).get(verdict, "")
-        more = LACKS.get(verdict, word)
+    if verdict != _SYNTAX:
+        word = mib.words.get(_OBJECTS[0], {}).get(verdict, "")
+        more = _LACKS.get(verdict, word)
         return f"the sign's verdict is {verdict}" + (f": {more}" if more else "")
     text = text_of(line)
     why = lack(program, description, text, code, at) if text is not None else ""
-    why = why or mib.words.get(OBJECTS[1], {}).get(code, "")
+    why = why or mib.words.get(_OBJECTS[1], {}).get(code, "")
     return f"the sign found fault {code} at octet {at}" + (f": {why}" if why else "")

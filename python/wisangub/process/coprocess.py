@@ -7,18 +7,18 @@ from typing import Iterable, NoReturn, Sequence
 
 from wisangub.refusal import Refusal, reason
 
-WAIT = 10  # milliseconds, after which answers are read though the process takes nothing
+_WAIT = 10  # milliseconds, after which answers are read though the process takes nothing
 PATIENCE = 60_000  # milliseconds that a program may take to its first answer
-ENDS = (b"ok", b"dropped", b"bad line")
-ENDING_WORDS = (b"reply", b"accepted", b"send", b"refused")
-FIRST_WORDS = (b"shown", b"idle", b"busy")  # of what is asked first
-HOW = " (tools/build.py builds the program; --signtool model/signtool is the model in its place)"
+_ENDS = (b"ok", b"dropped", b"bad line")
+_ENDING_WORDS = (b"reply", b"accepted", b"send", b"refused")
+_FIRST_WORDS = (b"shown", b"idle", b"busy")  # of what is asked first
+_HOW = " (tools/build.py builds the program; --signtool model/signtool is the model in its place)"
 REFUSED = (b"read", b"too long", b"memory")  # what stands in place of a description's answers, with `line N`
 
 
-def is_last(answer: bytes) -> bool:
+def _is_last(answer: bytes) -> bool:
     """Whether a line is the last one of an answer."""
-    return answer in ENDS or answer.split(b" ")[0] in ENDING_WORDS
+    return answer in _ENDS or answer.split(b" ")[0] in _ENDING_WORDS
 
 
 class CoProcess:
@@ -32,7 +32,7 @@ class CoProcess:
             )
         except OSError as fault:
             why = reason(fault) if fault.filename != program else fault.strerror
-            raise Refusal(f"{program}: {why}{HOW if isinstance(fault, FileNotFoundError) else ''}") from fault
+            raise Refusal(f"{program}: {why}{_HOW if isinstance(fault, FileNotFoundError) else ''}") from fault
         assert self.process.stdin is not None and self.process.stdout is not None
         self.input, self.output = self.process.stdin.fileno(), self.process.stdout.fileno()
         os.set_blocking(self.input, False)
@@ -49,7 +49,7 @@ class CoProcess:
         while left:
             left = left[self.taken(left) :]
             if left:
-                self.room.poll(WAIT)
+                self.room.poll(_WAIT)
                 while self.answers.poll(0):
                     self.read()
 
@@ -104,7 +104,7 @@ class CoProcess:
     def ask(self, line: bytes) -> list[bytes]:
         """The whole answer to a line."""
         self.write(line + b"\n")
-        while not (self.left.endswith(b"\n") and is_last(self.left[self.left.rfind(b"\n", 0, -1) + 1 : -1])):
+        while not (self.left.endswith(b"\n") and _is_last(self.left[self.left.rfind(b"\n", 0, -1) + 1 : -1])):
             self.read()
         answer, self.left = self.left[:-1].split(b"\n"), b""
         return answer
@@ -127,10 +127,10 @@ class CoProcess:
         if answer.startswith(b"line ") or answer in REFUSED:
             self.end()  # what it says of the line comes first
             raise Refusal(f"{name}: {answer.decode()}: no description of a sign")
-        if answer.split(b" ")[0] not in FIRST_WORDS:
+        if answer.split(b" ")[0] not in _FIRST_WORDS:
             self.process.kill()
             raise Refusal(f"{self.program} does not answer as signtool does")
-        while not is_last(answer):
+        while not _is_last(answer):
             answer = self.lines(1)[0]
 
     def replay(self, chunks: Iterable[list[bytes]]) -> int:

@@ -10,7 +10,7 @@ from .places import TOP
 # the sign that the program has where it is handed no description (docs/PROFILE.md, "The bench sign")
 BENCH = (TOP / "signs/bench.sign").read_bytes()
 FIRST = re.compile(rb"^first ([0-9]{1,10})(?=\r?$)", re.MULTILINE)
-COMMUNITIES = re.compile(rb"^communities ([^ \n]+) ([^ \n]+?)\r?$", re.MULTILINE)
+_COMMUNITIES = re.compile(rb"^communities ([^ \n]+) ([^ \n]+?)\r?$", re.MULTILINE)
 
 
 def read(path: str | None) -> bytes | None:
@@ -38,7 +38,7 @@ def digest(text: bytes | None) -> str:
 
 def communities_of(text: bytes | None) -> tuple[bytes, bytes]:
     """Who reads, and who reads and writes."""
-    found = COMMUNITIES.search(BENCH if text is None else text)
+    found = _COMMUNITIES.search(BENCH if text is None else text)
     if found is None:
         raise Refusal("the description has no line `communities`")
     return found[1], found[2]

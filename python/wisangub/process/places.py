@@ -9,21 +9,21 @@ import sys
 
 from wisangub import __version__
 
-PACKAGE = pathlib.Path(__file__).resolve().parents[1]
-DATA = PACKAGE / "data"  # what a wheel has of the repository: setup.py says it
-TOP = DATA if DATA.is_dir() else PACKAGE.parents[1]
+_PACKAGE = pathlib.Path(__file__).resolve().parents[1]
+_DATA = _PACKAGE / "data"  # what a wheel has of the repository: setup.py says it
+TOP = _DATA if _DATA.is_dir() else _PACKAGE.parents[1]
 BUILT = TOP / "crates/signtool/out/signtool"
-RELEASED = TOP.parents[1] / "bin/wisangub-signtool"  # of share/wisangub
+_RELEASED = TOP.parents[1] / "bin/wisangub-signtool"  # of share/wisangub
 IS_CHECKOUT = (TOP / "crates").is_dir()
 PROFILE = TOP / "docs/PROFILE.md"
-HOMES = [str(PACKAGE.parent), str(PACKAGE.parents[1])]  # where this package is found, and the model of a checkout
+HOMES = [str(_PACKAGE.parent), str(_PACKAGE.parents[1])]  # where this package is found, and the model of a checkout
 
 
 def installed() -> pathlib.Path:
     """The program of a release, or for a wheel the one beside its commands, or the first in the path."""
     beside = pathlib.Path(sys.prefix) / "bin/wisangub-signtool"
-    found = next((str(place) for place in (RELEASED, beside) if place.is_file()), shutil.which("wisangub-signtool"))
-    return pathlib.Path(found or RELEASED)
+    found = next((str(place) for place in (_RELEASED, beside) if place.is_file()), shutil.which("wisangub-signtool"))
+    return pathlib.Path(found or _RELEASED)
 
 
 SIGNTOOL = BUILT if IS_CHECKOUT else installed()

@@ -5,14 +5,14 @@ from .mib import Mib
 from .names import KINDS, status_word
 
 
-def printed(octets: bytes) -> str:
+def _printed(octets: bytes) -> str:
     """A text in quotes where all octets are printable, else their digits; `-` for none."""
     if octets and all(32 <= octet < 127 for octet in octets):
         return '"' + octets.decode("ascii") + '"'
     return octets.hex() or "-"
 
 
-def value_of(mib: Mib, name: tuple[int, ...], value: tuple[int, object]) -> str:
+def _value_of(mib: Mib, name: tuple[int, ...], value: tuple[int, object]) -> str:
     """A value in words."""
     tag, held = value
     if tag == wire.NULL:
@@ -23,7 +23,7 @@ def value_of(mib: Mib, name: tuple[int, ...], value: tuple[int, object]) -> str:
     if tag == wire.NAME and isinstance(held, tuple):
         return ".".join(map(str, held))
     assert isinstance(held, bytes)
-    return ".".join(map(str, held)) if tag == wire.ADDRESS else printed(held)
+    return ".".join(map(str, held)) if tag == wire.ADDRESS else _printed(held)
 
 
 def fields_of(mib: Mib, octets: bytes) -> dict[str, object]:
@@ -41,6 +41,6 @@ def fields_of(mib: Mib, octets: bytes) -> dict[str, object]:
         fields["error-status"] = status_word(message.status)
         fields["error-index"] = message.index
     fields["bindings"] = [
-        {"name": mib.name(name), "value": value_of(mib, name, value)} for name, value in message.bindings
+        {"name": mib.name(name), "value": _value_of(mib, name, value)} for name, value in message.bindings
     ]
     return fields

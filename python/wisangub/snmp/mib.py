@@ -5,9 +5,11 @@ import re
 from wisangub.process.places import TOP
 
 FILE = TOP / "mibs/DMS-PROFILE-MIB"
-ENTERPRISES = (1, 3, 6, 1, 4, 1)
-PLACE = re.compile(r"^(\w+)\s+(?:OBJECT IDENTIFIER|OBJECT-TYPE(.*?))\s*::= \{ (\w+) (\d+) \}", re.MULTILINE | re.DOTALL)
-CHOICES = re.compile(r"SYNTAX\s+INTEGER \{(.*?)\}", re.DOTALL)
+_ENTERPRISES = (1, 3, 6, 1, 4, 1)
+_PLACE = re.compile(
+    r"^(\w+)\s+(?:OBJECT IDENTIFIER|OBJECT-TYPE(.*?))\s*::= \{ (\w+) (\d+) \}", re.MULTILINE | re.DOTALL
+)
+_CHOICES = re.compile(r"SYNTAX\s+INTEGER \{(.*?)\}", re.DOTALL)
 
 
 class Mib:
@@ -16,12 +18,12 @@ class Mib:
     def __init__(self, text: str) -> None:
         self.objects: dict[tuple[int, ...], str] = {}
         self.words: dict[str, dict[int, str]] = {}
-        places: dict[str, tuple[int, ...]] = {"enterprises": ENTERPRISES}
-        for name, syntax, above, number in PLACE.findall(text):
+        places: dict[str, tuple[int, ...]] = {"enterprises": _ENTERPRISES}
+        for name, syntax, above, number in _PLACE.findall(text):
             if above in places:
                 places[name] = (*places[above], int(number))
                 self.objects[places[name]] = name
-                found = CHOICES.search(syntax)
+                found = _CHOICES.search(syntax)
                 self.words[name] = (
                     {int(value): word for word, value in re.findall(r"(\w+)\((\d+)\)", found[1])} if found else {}
                 )

@@ -5,9 +5,9 @@ import enum
 
 from . import wire
 
-Name = tuple[int, ...]
-DMS: Name = (1, 3, 6, 1, 4, 1, 1206, 4, 2, 3)
-TABLE: Name = (*DMS, 5, 8, 1)  # an entry of dmsMessageTable
+_Name = tuple[int, ...]
+DMS: _Name = (1, 3, 6, 1, 4, 1, 1206, 4, 2, 3)
+TABLE: _Name = (*DMS, 5, 8, 1)  # an entry of dmsMessageTable
 COLUMNS = {
     1: "dmsMessageMemoryType",
     2: "dmsMessageNumber",
@@ -58,7 +58,7 @@ SCALARS = {
     (6, 24): "dmsActivateErrorMsgCode",
 }
 # without the number of an instance
-OBJECTS: dict[str, Name] = {word: (*DMS, *place) for place, word in SCALARS.items()} | {
+OBJECTS: dict[str, _Name] = {word: (*DMS, *place) for place, word in SCALARS.items()} | {
     word: (*TABLE, column) for column, word in COLUMNS.items()
 }
 KINDS = {wire.GET: "Get", wire.GET_NEXT: "GetNext", wire.RESPONSE: "Response", wire.SET: "Set"}
@@ -73,7 +73,7 @@ TYPES = {
     wire.TICKS: "TimeTicks",
     wire.OPAQUE: "Opaque",
 }
-STATUSES = ("noError", "tooBig", "noSuchName", "badValue", "readOnly", "genErr")
+_STATUSES = ("noError", "tooBig", "noSuchName", "badValue", "readOnly", "genErr")
 
 
 class Memory(enum.IntEnum):
@@ -88,16 +88,16 @@ class RowStatus(enum.IntEnum):
     NOT_USED, MODIFYING, VALIDATING, VALID, ERROR, MODIFY_REQ, VALIDATE_REQ, NOT_USED_REQ = range(1, 9)
 
 
-def scalar(word: str) -> Name:
+def scalar(word: str) -> _Name:
     """The instance of a scalar by its name: `scalar("dmsActivateMessage")`."""
     return (*OBJECTS[word], 0)
 
 
-def cell(word: str, memory: int, number: int) -> Name:
+def cell(word: str, memory: int, number: int) -> _Name:
     """A cell of the message table by its column's name: `cell("dmsMessageStatus", Memory.CHANGEABLE, 1)`."""
     return (*OBJECTS[word], memory, number)
 
 
 def status_word(status: int) -> str:
     """An error-status in RFC 1157's word."""
-    return STATUSES[status] if 0 <= status < len(STATUSES) else str(status)
+    return _STATUSES[status] if 0 <= status < len(_STATUSES) else str(status)

@@ -10,21 +10,21 @@ from dataclasses import dataclass, field
 from typing import Any
 
 MOST_DATAGRAM = 1472  # octets
-MOST_DIGITS = 4  # octets of a length after the first
-SHORT = 128  # lengths and numbers of a name below it take one octet
+_MOST_DIGITS = 4  # octets of a length after the first
+_SHORT = 128  # lengths and numbers of a name below it take one octet
 INTEGER, OCTETS, NULL, NAME, SEQUENCE = 0x02, 0x04, 0x05, 0x06, 0x30
 ADDRESS, COUNTER, GAUGE, TICKS, OPAQUE = 0x40, 0x41, 0x42, 0x43, 0x44
-COUNTED = (COUNTER, GAUGE, TICKS)
-VALUES = (INTEGER, OCTETS, NULL, NAME, ADDRESS, *COUNTED, OPAQUE)
-KINDS = (GET, GET_NEXT, RESPONSE, SET) = (0xA0, 0xA1, 0xA2, 0xA3)
-NO_ERROR, TOO_BIG, NO_SUCH_NAME, BAD_VALUE, READ_ONLY, GENERAL = range(6)
-SIZES = {NULL: 0, ADDRESS: 4}  # of contents that have one size
+_COUNTED = (COUNTER, GAUGE, TICKS)
+VALUES = (INTEGER, OCTETS, NULL, NAME, ADDRESS, *_COUNTED, OPAQUE)
+_KINDS = (GET, GET_NEXT, RESPONSE, SET) = (0xA0, 0xA1, 0xA2, 0xA3)
+NO_ERROR, TOO_BIG, NO_SUCH_NAME, BAD_VALUE, _READ_ONLY, GENERAL = range(6)
+_SIZES = {NULL: 0, ADDRESS: 4}  # of contents that have one size
 # a name's numbers below 2^32, each in its fewest octets, 1 to 127 of them
 NAMES = re.compile(
     rb"(?:[\x00-\x7f]|[\x81-\xff][\x80-\xff]{0,2}[\x00-\x7f]|[\x81-\x8f][\x80-\xff]{3}[\x00-\x7f]){1,127}"
 )
-NUMBERS = re.compile(rb"[\x80-\xff]*[\x00-\x7f]")
-Place = tuple[int, int]  # where a content begins and ends
+_NUMBERS = re.compile(rb"[\x80-\xff]*[\x00-\x7f]")
+_Place = tuple[int, int]  # where a content begins and ends
 Name = tuple[int, ...]
 Tagged = tuple[int, Any]  # a tag, and the number, the octets or the name that it tells of
 Binding = tuple[Name, Tagged]
@@ -53,7 +53,7 @@ class Message:
 # --- reading ----------------------------------------------------------------------------------------------------------
 
 
-def content(octets: bytes, at: int, end: int, tags: Collection[int], is_outermost: bool = False) -> Place:
+def content(octets: bytes, at: int, end: int, tags: Collection[int], is_outermost: bool = False) -> _Place:
     """The content of the element at `at` that has one of these tags, within one that ends at `end`."""
     if at >= end:
         raise Fault("Truncated", end)
@@ -62,21 +62,21 @@ def content(octets: bytes, at: int, end: int, tags: Collection[int], is_outermos
     if at + 1 >= end:
         raise Fault("Truncated", end)
     size, begin = octets[at + 1], at + 2
-    if size >= SHORT:
-        digits = size - SHORT
-        if not 1 <= digits <= MOST_DIGITS:
+    if size >= _SHORT:
+        digits = size - _SHORT
+        if not 1 <= digits <= _MOST_DIGITS:
             raise Fault("BadLength", at + 1)
         if begin + digits > end:
             raise Fault("Truncated", end)
         begin, size = begin + digits, int.from_bytes(octets[begin : begin + digits], "big")
     if begin + size > end:
         raise Fault("Truncated", end) if is_outermost else Fault("LengthPast", at + 1)
-    if SIZES.get(octets[at], size) != size:
+    if _SIZES.get(octets[at], size) != size:
         raise Fault("BadLength", at + 1)
     return begin, begin + size
 
 
-def integer_of(octets: bytes, begin: int, end: int, least: int = -(2**31)) -> int:
+def _integer_of(octets: bytes, begin: int, end: int, least: int = -(2**31)) -> int:
     """The number of a content, in its fewest octets, from `least` to 2^32 - 1."""
     if begin == end or end - begin > 1 and (octets[begin], octets[begin + 1] >> 7) in ((0, 0), (255, 1)):
         raise Fault("BadInteger", begin)
@@ -90,53 +90,53 @@ def _number_of(octets: bytes) -> int:
     """The number that octets spell, seven bits in each."""
     number = 0
     for octet in octets:
-        number = SHORT * number + octet % SHORT
+        number = _SHORT * number + octet % _SHORT
     return number
 
 
 @functools.lru_cache(maxsize=4096)
-def numbers_of(held: bytes) -> Name | None:
+def _numbers_of(held: bytes) -> Name | None:
     """The numbers of a name's content, the first two of which stand in one; None where it spells no name."""
     if not NAMES.fullmatch(held):
         return None
-    first, *rest = map(_number_of, NUMBERS.findall(held))
+    first, *rest = map(_number_of, _NUMBERS.findall(held))
     root = min(first // 40, 2)
     return (root, first - 40 * root, *rest)
 
 
-def name_of(octets: bytes, begin: int, end: int) -> Name:
+def _name_of(octets: bytes, begin: int, end: int) -> Name:
     """The name of a content."""
-    numbers = numbers_of(bytes(octets[begin:end]))
+    numbers = _numbers_of(bytes(octets[begin:end]))
     if numbers is None:
         raise Fault("BadName", begin)
     return numbers
 
 
-def value_at(octets: bytes, at: int, end: int) -> tuple[Tagged, int]:
+def _value_at(octets: bytes, at: int, end: int) -> tuple[Tagged, int]:
     """The value of a binding that begins there, and where it ends."""
     begin, after = content(octets, at, end, VALUES)
     tag = octets[at]
     if tag == INTEGER:
-        return (tag, integer_of(octets, begin, after)), after
-    if tag in COUNTED:
-        return (tag, integer_of(octets, begin, after, 0)), after
+        return (tag, _integer_of(octets, begin, after)), after
+    if tag in _COUNTED:
+        return (tag, _integer_of(octets, begin, after, 0)), after
     if tag == NAME:
-        return (tag, name_of(octets, begin, after)), after
+        return (tag, _name_of(octets, begin, after)), after
     return (tag, bytes(octets[begin:after])), after
 
 
-def bindings_of(octets: bytes, at: int, end: int) -> Iterator[Binding]:
+def _bindings_of(octets: bytes, at: int, end: int) -> Iterator[Binding]:
     """The bindings of a list's content."""
     while at < end:
         begin, at = content(octets, at, end, (SEQUENCE,))
         named, after = content(octets, begin, at, (NAME,))
-        numbers = name_of(octets, named, after)
-        held, after = value_at(octets, after, at)
-        ended(after, at)
+        numbers = _name_of(octets, named, after)
+        held, after = _value_at(octets, after, at)
+        _ended(after, at)
         yield numbers, held
 
 
-def ended(at: int, end: int) -> None:
+def _ended(at: int, end: int) -> None:
     """Nothing comes after the last member of an element."""
     if at < end:
         raise Fault("TrailingBytes", at)
@@ -149,19 +149,19 @@ def read(octets: bytes) -> Message:
         raise Fault("TooLong", MOST_DATAGRAM)
     at, message = content(octets, 0, size, (SEQUENCE,), is_outermost=True)
     version, at = content(octets, at, message, (INTEGER,))
-    if integer_of(octets, version, at) != 0:
+    if _integer_of(octets, version, at) != 0:
         raise Fault("BadVersion", version)
     community, after = content(octets, at, message, (OCTETS,))
-    at, pdu = content(octets, after, message, KINDS)
+    at, pdu = content(octets, after, message, _KINDS)
     numbers = []
     for _ in range(3):
         begin, at = content(octets, at, pdu, (INTEGER,))
-        numbers.append(integer_of(octets, begin, at))
+        numbers.append(_integer_of(octets, begin, at))
     at, listed = content(octets, at, pdu, (SEQUENCE,))
-    bindings = list(bindings_of(octets, at, listed))
-    ended(listed, pdu)
-    ended(pdu, message)
-    ended(message, size)
+    bindings = list(_bindings_of(octets, at, listed))
+    _ended(listed, pdu)
+    _ended(pdu, message)
+    _ended(message, size)
     return Message(octets[after], bytes(octets[community:after]), numbers[0], numbers[1], numbers[2], bindings)
 
 
@@ -180,10 +180,10 @@ def element(tag: int, *contents: bytes) -> bytes:
     """A tag, the size of what is in it, and that."""
     held = b"".join(contents)
     size = len(held)
-    if size < SHORT:
+    if size < _SHORT:
         return bytes((tag, size)) + held
     digits = size.to_bytes((size.bit_length() + 7) // 8, "big")
-    return bytes((tag, SHORT | len(digits))) + digits + held
+    return bytes((tag, _SHORT | len(digits))) + digits + held
 
 
 def integer(number: int, tag: int = INTEGER) -> bytes:
@@ -192,18 +192,18 @@ def integer(number: int, tag: int = INTEGER) -> bytes:
     return element(tag, number.to_bytes(magnitude.bit_length() // 8 + 1, "big", signed=True))
 
 
-def arc(number: int) -> bytes:
+def _arc(number: int) -> bytes:
     """A number of a name: seven bits an octet, all but the last of them marked."""
     octets = [number & 0x7F]
     while number := number >> 7:
-        octets.append(SHORT | number & 0x7F)
+        octets.append(_SHORT | number & 0x7F)
     return bytes(reversed(octets))
 
 
 @functools.lru_cache(maxsize=4096)
 def name_content(numbers: Name) -> bytes:
     """The content of an OBJECT IDENTIFIER, whose first two numbers stand in one."""
-    return b"".join(map(arc, (40 * numbers[0] + numbers[1], *numbers[2:])))
+    return b"".join(map(_arc, (40 * numbers[0] + numbers[1], *numbers[2:])))
 
 
 def name(numbers: Name) -> bytes:
@@ -214,7 +214,7 @@ def name(numbers: Name) -> bytes:
 def value(tagged: Tagged) -> bytes:
     """A value with its tag."""
     tag, held = tagged
-    if tag == INTEGER or tag in COUNTED:
+    if tag == INTEGER or tag in _COUNTED:
         return integer(held, tag)
     return name(held) if tag == NAME else element(tag, held)
 
@@ -239,7 +239,7 @@ def get(community: bytes, number: int, names: Iterable[Name]) -> bytes:
 # --- what is known before a message is read ---------------------------------------------------------------------------
 
 
-def shortest(octets: bytes, at: int, tag: int) -> Place | None:
+def _shortest(octets: bytes, at: int, tag: int) -> _Place | None:
     """The content of the element at `at`, where it has this tag and its length is in the shortest form."""
     try:
         begin, end = content(octets, at, len(octets), (tag,))
@@ -251,12 +251,12 @@ def shortest(octets: bytes, at: int, tag: int) -> Place | None:
 def is_get(octets: bytes) -> bool:
     """Whether it is a Get or a GetNext by its outer elements: their lengths and the version in the shortest form, and
     the PDU's tag. Whatever a datagram spells, one for which this is true changes nothing but the silence of a sign."""
-    message = shortest(octets, 0, SEQUENCE)
+    message = _shortest(octets, 0, SEQUENCE)
     if message is None or message[1] != len(octets) or octets[message[0] : message[0] + 3] != b"\x02\x01\x00":
         return False
-    community = shortest(octets, message[0] + 3, OCTETS)
+    community = _shortest(octets, message[0] + 3, OCTETS)
     if community is None:
         return False
     tag = octets[community[1]] if community[1] < len(octets) else -1
-    pdu = shortest(octets, community[1], tag) if tag in (GET, GET_NEXT) else None
+    pdu = _shortest(octets, community[1], tag) if tag in (GET, GET_NEXT) else None
     return pdu is not None and pdu[1] == len(octets)
