@@ -104,7 +104,9 @@ def commands(chance: random.Random) -> Iterator[str]:
 
 def many() -> Iterator[bytes]:
     """Requests of one name as often as a datagram has room for it."""
-    names = [DMS + (5, 8, 1, column, memory, 1) for column in range(14) for memory in (2, 3, 4, 5, 7)]
+    names: list[tuple[int, ...]] = [
+        DMS + (5, 8, 1, column, memory, 1) for column in range(14) for memory in (2, 3, 4, 5, 7)
+    ]
     names += [DMS + (group, number, 0) for group in (1, 2, 4, 5, 6, 9) for number in range(1, 19)]
     names += [DMS + (5, 8, 1, 9, 7, 255), DMS + (5, 8, 1, 12, 7), (1, 3, 6, 1), (2, 5)]
     for name in names:

@@ -67,11 +67,11 @@ def rows(count: int, text: str) -> str:
 
 
 _FULL = "[jl3]" * 102 + "AA"
-_LARGEST_SIGN = _padded(HEAD + rows(16, _FULL) + fonts(), "end\n")
+LARGEST_SIGN = _padded(HEAD + rows(16, _FULL) + fonts(), "end\n")
 _SMALL_FONT = "font 1 height 1 space 0 line 0 version 0000\n"
 
 
-def _refused_descriptions() -> Iterator[tuple[str, bytes, int]]:
+def refused_descriptions() -> Iterator[tuple[str, bytes, int]]:
     """Descriptions at fault, with the line of the fault."""
     yield "a fault on the first line", _padded("x\n", ""), 1
     for name, line in (("rows", "permanent - - 0 0 0\n"), ("fonts", _SMALL_FONT), ("comments", "# a comment\n")):
@@ -105,14 +105,14 @@ def descriptions() -> Iterator[Case]:
     for call in calls:
         short = " ".join(word for word in call if len(word) < 10)
         is_dropped = call[0] == "answer"
-        yield Case(f"{short}: the largest sign", call, _LARGEST_SIGN, int(is_dropped), "dropped" if is_dropped else "")
-        for name, text, line in _refused_descriptions():
+        yield Case(f"{short}: the largest sign", call, LARGEST_SIGN, int(is_dropped), "dropped" if is_dropped else "")
+        for name, text, line in refused_descriptions():
             first = f'{{"refused":"line {line}"}}' if "--json" in call else f"line {line}"
             yield Case(f"{short}: {name}", call, text, 1, first, f"line {line}: ")
         yield Case(
             f"{short}: one octet too many",
             call,
-            _LARGEST_SIGN + b"\n" if call[0] not in ("sign", "centre") else _LARGEST_SIGN[:-4] + b"\nend\n",
+            LARGEST_SIGN + b"\n" if call[0] not in ("sign", "centre") else LARGEST_SIGN[:-4] + b"\nend\n",
             1,
             '{"refused":"too long"}' if "--json" in call else "too long",
         )
@@ -224,7 +224,7 @@ def _conversations() -> Iterator[Case]:
     yield Case("centre: a long ledger", ("centre",), pairs, 0, "send ")
     for call in ("sign", "centre"):
         yield Case(
-            f"{call}: the largest sign, and lines", (call, "--sign"), _LARGEST_SIGN + b"tick\n" * _MANY_LINES, 0, "ok"
+            f"{call}: the largest sign, and lines", (call, "--sign"), LARGEST_SIGN + b"tick\n" * _MANY_LINES, 0, "ok"
         )
 
 

@@ -58,7 +58,7 @@ def answers() -> dict[str, bytes]:
     }
 
 
-def _talks() -> dict[str, list[bytes]]:
+def talks() -> dict[str, list[bytes]]:
     """Datagrams to a live sign, each of which finds what those before it left."""
     settings = (SHORT_POWER_LOSS_TIME, (wire.INTEGER, 5)), (_END_DURATION_MESSAGE, (wire.OCTETS, b"\x07\x00\x01\x00"))
     return {
@@ -73,7 +73,7 @@ def _talks() -> dict[str, list[bytes]]:
 
 def _calls() -> list[Call]:
     made = [Call(name, ["answer", octets.hex()]) for name, octets in answers().items()]
-    for name, datagrams in _talks().items():
+    for name, datagrams in talks().items():
         made.append(Call(name, ["sign"], "".join(f"datagram {octets.hex()}\n" for octets in datagrams).encode()))
     made.append(Call("publication", ["replay"], "\n".join(["bench", *hostile.PUBLICATION, ""]).encode()))
     made.append(Call("hostile", ["replay"], hostile.script(100, hostile.Random(Maker(1), 100))[0].encode()))

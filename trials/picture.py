@@ -78,17 +78,17 @@ def _predicted(kind: int, left: int, above: int, corner: int) -> int:
 def wanted(face: layout.Face, pages: list[layout.Page], alone: int | None, tenth: int) -> list[list[str]]:
     """The shade of each lamp at a moment."""
     dark = [[_SHADES[0]] * face.width for _ in range(face.height)]
-    page, since = _up(pages, tenth) if alone is None else (pages[alone - 1], None)
+    page, since = up(pages, tenth) if alone is None else (pages[alone - 1], None)
     if page is None:
         return dark
     rows = []
     for row in layout.cells(face, page):
-        shades = [page.back if cell is None or not _is_lit(cell[1], since) else cell[0] for cell in row]
+        shades = [page.back if cell is None or not is_lit(cell[1], since) else cell[0] for cell in row]
         rows.append([_SHADES[shade] for shade in shades])
     return rows
 
 
-def _up(pages: list[layout.Page], tenth: int) -> tuple[layout.Page | None, int]:
+def up(pages: list[layout.Page], tenth: int) -> tuple[layout.Page | None, int]:
     """The page that is up, and for how long it has been. A message of one page without an off time stays, and so do
     pages without any time, the last above the others."""
     total = sum(page.on + page.off for page in pages)
@@ -105,7 +105,7 @@ def _up(pages: list[layout.Page], tenth: int) -> tuple[layout.Page | None, int]:
     raise AssertionError
 
 
-def _is_lit(flash: layout.Flash | None, since: int | None) -> bool:
+def is_lit(flash: layout.Flash | None, since: int | None) -> bool:
     if flash is None or since is None:
         return True
     first, lit, dark = flash

@@ -6,7 +6,7 @@ from wisangub.refusal import Refusal
 THEN = 1_700_000_000  # a wall clock that was set
 LAST = Moment("one", THEN, 500)
 LONGEST = [b"power-lost", b"power-back 4294967295"]
-ROWS = [
+ROWS: list[tuple[str, Moment, str | None, list[bytes]]] = [
     ("the process died for no second", Moment("one", THEN, 500), None, []),
     ("for ten seconds", Moment("one", THEN + 10, 510), None, [b"ticks 10"]),
     ("ten seconds, and the wall clock was set meanwhile", Moment("one", THEN + 8_000_000, 510), None, [b"ticks 10"]),

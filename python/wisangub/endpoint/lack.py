@@ -3,7 +3,7 @@
 import re
 import subprocess
 
-_MOST_TEXT = 512
+MOST_TEXT = 512
 _WAIT = 2.0  # seconds for a call of the program
 FAULT = re.compile(r"^fault (\d+) at (\d+)$", re.MULTILINE)
 # a bracket that is doubled, a tag, or another octet; a bracket that nothing closes or opens is none of them
@@ -35,7 +35,7 @@ def plain(octets: bytes) -> bytes:
 def lack(program: str, description: bytes | None, text: bytes, code: int, at: int) -> str:
     """Why a text has this fault at this octet: what the program says, if it finds the same one; else nothing."""
     word, places = spelled(text)
-    if len(word) > _MOST_TEXT:
+    if len(word) > MOST_TEXT:
         return ""
     call = [program.encode(), b"check", *([b"--sign"] if description is not None else []), b"--", word]
     try:

@@ -5,9 +5,9 @@ import enum
 
 from . import wire
 
-_Name = tuple[int, ...]
-DMS: _Name = (1, 3, 6, 1, 4, 1, 1206, 4, 2, 3)
-TABLE: _Name = (*DMS, 5, 8, 1)  # an entry of dmsMessageTable
+Name = tuple[int, ...]
+DMS: Name = (1, 3, 6, 1, 4, 1, 1206, 4, 2, 3)
+TABLE: Name = (*DMS, 5, 8, 1)  # an entry of dmsMessageTable
 COLUMNS = {
     1: "dmsMessageMemoryType",
     2: "dmsMessageNumber",
@@ -58,7 +58,7 @@ SCALARS = {
     (6, 24): "dmsActivateErrorMsgCode",
 }
 # without the number of an instance
-OBJECTS: dict[str, _Name] = {word: (*DMS, *place) for place, word in SCALARS.items()} | {
+OBJECTS: dict[str, Name] = {word: (*DMS, *place) for place, word in SCALARS.items()} | {
     word: (*TABLE, column) for column, word in COLUMNS.items()
 }
 KINDS = {wire.GET: "Get", wire.GET_NEXT: "GetNext", wire.RESPONSE: "Response", wire.SET: "Set"}
@@ -88,12 +88,12 @@ class RowStatus(enum.IntEnum):
     NOT_USED, MODIFYING, VALIDATING, VALID, ERROR, MODIFY_REQ, VALIDATE_REQ, NOT_USED_REQ = range(1, 9)
 
 
-def scalar(word: str) -> _Name:
+def scalar(word: str) -> Name:
     """The instance of a scalar by its name: `scalar("dmsActivateMessage")`."""
     return (*OBJECTS[word], 0)
 
 
-def cell(word: str, memory: int, number: int) -> _Name:
+def cell(word: str, memory: int, number: int) -> Name:
     """A cell of the message table by its column's name: `cell("dmsMessageStatus", Memory.CHANGEABLE, 1)`."""
     return (*OBJECTS[word], memory, number)
 
