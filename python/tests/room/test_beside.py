@@ -2,6 +2,7 @@
 
 import os
 import pathlib
+import re
 import time
 
 import pytest
@@ -19,6 +20,7 @@ from wisangub.snmp import wire
 
 from .bench import PROGRAM, Bench, bench
 
+HIDDEN = re.compile(r'<input type="hidden" name="(confirmation|kind|sign|number)" value="([^"]*)">')
 PATIENCE = 60.0
 
 
@@ -29,13 +31,8 @@ def service_of(at: Bench, folder: pathlib.Path) -> Service:
 def blank(at: Bench, browser: Browser, number: int) -> None:
     """Asks for a blank by the pages, and waits until the sign has accepted it."""
     before = len(at.live.accepted)
-    fields = [
-        ("kind", "blank"),
-        ("sign", str(at.sign_id)),
-        ("number", str(number)),
-        ("confirmation", f"confirmed {number:9}"),
-    ]
-    browser.post("/send", "/account", fields)
+    form = f"/blank?sign={at.sign_id}&number={number}"
+    browser.post("/send", form, HIDDEN.findall(browser.get(form).partition('action="/send"')[2]))
     ends = time.monotonic() + PATIENCE
     while len(at.live.accepted) == before:
         assert time.monotonic() < ends, f"blank {number} is accepted"

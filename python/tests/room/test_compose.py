@@ -139,6 +139,31 @@ def test_a_request_without_its_token_does_nothing(tmp_path: pathlib.Path, where:
     run(tmp_path, where, act)
 
 
+@pytest.mark.parametrize(
+    "key", ("text", "sign", "number", "memory", "run", "priority", "minutes", "lasts", "confirmation")
+)
+def test_what_was_not_confirmed_is_not_done(tmp_path: pathlib.Path, key: str) -> None:
+    async def act(bench: Bench, visitor: Visitors) -> None:
+        one = await bench.logged_in(visitor, "operator")
+        held = dict(await confirmation(one, [("sign", str(bench.one)), *GOOD.items()]))
+        others = {
+            "text": "FOG",
+            "sign": str(bench.two),
+            "number": "3",
+            "memory": "4",
+            "lasts": "forever",
+            "confirmation": "x.y",
+        }
+        status, page, _ = await one.post("/send", {**held, key: others.get(key, "77")})
+        assert status == 400 and "not what was confirmed here" in page
+        another = await bench.logged_in(visitor, "operator")
+        assert (await another.post("/send", held))[0] == 400, "who has not seen it"
+        assert queries.commands(bench.store.database, queries.Wanted()) == []
+        assert (await one.post("/send", held))[0] == 303
+
+    run(tmp_path, str(tmp_path / "database"), act)
+
+
 def test_blanking_and_showing_a_row(tmp_path: pathlib.Path) -> None:
     async def act(bench: Bench, visitor: Visitors) -> None:
         bench.table(bench.one)

@@ -2,7 +2,6 @@
 
 import dataclasses
 import json
-import secrets
 from dataclasses import dataclass
 from functools import partial
 from typing import Any
@@ -20,7 +19,7 @@ from .faces import Face
 from .pictures import Picture
 from .plain import plain_of
 from .record_pages import number_of
-from .service import Service, service_of
+from .service import Service, service_of, visitor_of
 from .words import asked, text_of
 
 _MOST_SIGNS = 1000
@@ -194,7 +193,7 @@ async def confirmation(request: web.Request, draft: Draft, text: bytes) -> web.R
         lines=found,
         now=now,
         shown_text=text_of(text),
-        confirmation=secrets.token_urlsafe(18),
+        confirmation=service.seal.confirmation(visitor_of(request).login, draft.confirmed),
     )
 
 

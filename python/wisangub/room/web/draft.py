@@ -1,5 +1,6 @@
 """What an operator is about to ask for: the fields of a form, what is wrong with them, and the line of a centre."""
 
+import dataclasses
 import re
 from dataclasses import dataclass, field, replace
 from typing import Any, Mapping
@@ -34,6 +35,15 @@ class Draft:
     @property
     def octets(self) -> bytes:
         return self.text.encode("latin-1", "replace")
+
+    @property
+    def confirmed(self) -> str:
+        """What the page that confirms it shows and lets nobody change, in one line."""
+        if self.kind == "blank":
+            return repr((self.kind, self.signs, self.number))
+        if self.kind == "activate":
+            return repr((self.kind, self.signs, self.memory, self.number, self.checksum))
+        return repr(dataclasses.astuple(dataclasses.replace(self, faults={})))
 
     def line(self, owner: str, address: str) -> str:
         """The line of a centre."""

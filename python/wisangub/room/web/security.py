@@ -2,6 +2,7 @@
 
 import hashlib
 import hmac
+import secrets
 from urllib.parse import urlsplit
 
 from aiohttp import web
@@ -66,6 +67,16 @@ class Seal:
     def token(self, of: str) -> str:
         """The token of the forms of a cookie."""
         return self._sum("form", of)
+
+    def confirmation(self, login: str, shown: str, nonce: str = "") -> str:
+        """A word that is good for one confirmation: of what a page showed, for the log-in that it was shown to."""
+        nonce = nonce or secrets.token_urlsafe(18)
+        return f"{nonce}.{self._sum('confirmation', f'{nonce} {login} {shown}')}"
+
+    def is_confirmation(self, word: str, login: str, shown: str) -> bool:
+        """Whether the word was made for that."""
+        nonce = word.partition(".")[0]
+        return bool(nonce) and hmac.compare_digest(word.encode(), self.confirmation(login, shown, nonce).encode())
 
     async def is_own(self, request: web.Request, of: str) -> bool:
         """Whether a request comes from a page of ours that this cookie's holder was shown."""

@@ -20,7 +20,6 @@ from .service import Service, service_of, visitor_of
 from .words import asked
 
 _NOWHERE = "0.0.0.0"
-_MOST_CONFIRMATION = 64
 
 
 def _own_address(sign: Sign) -> str:
@@ -43,13 +42,17 @@ async def send(request: web.Request) -> web.StreamResponse:
     service, visitor = service_of(request), visitor_of(request)
     fields = await request.post()
     kind, confirmation = str(fields.get("kind", "")), str(fields.get("confirmation", ""))
-    if kind not in KINDS or not 16 <= len(confirmation) <= _MOST_CONFIRMATION:
+    if kind not in KINDS or not confirmation:
         raise web.HTTPBadRequest(text="This was not confirmed.")
     draft = drafts.read(fields, service.faces, kind)
     if draft.faults:
         raise web.HTTPUnprocessableEntity(text=" ".join(draft.faults.values()))
     if not await _is_drawn(service, draft):
         return await compose.answer(request, draft, 422)
+    if not service.seal.is_confirmation(confirmation, visitor.login, draft.confirmed):
+        raise web.HTTPBadRequest(
+            text="This is not what was confirmed here, so nothing was done. Please look at it again."
+        )
 
     def done(database: Database) -> int:
         signs = [(sign_id, service.signs[sign_id]) for sign_id in draft.signs]
