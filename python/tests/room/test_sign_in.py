@@ -17,6 +17,8 @@ from wisangub.room.web.sign_in import local
 
 from .visits import PASSWORD, Bench, Visitors, run
 
+ENDS = re.compile(r'action="/logins/([0-9a-f]{16})/end"')
+
 
 def test_who_is_not_logged_in_sees_the_form_alone(tmp_path: pathlib.Path, where: str) -> None:
     async def act(bench: Bench, visitor: Visitors) -> None:
@@ -232,6 +234,41 @@ def test_what_ends_a_log_in(tmp_path: pathlib.Path, where: str) -> None:
         three = await bench.logged_in(visitor, "operator")
         held.run("UPDATE logins SET begun = begun - ?", logins.LASTS)
         assert (await three.get("/"))[0] == 303, "a log-in lasts a shift"
+
+    run(tmp_path, where, act)
+
+
+def test_a_log_in_ends_where_nobody_is_there(tmp_path: pathlib.Path, where: str) -> None:
+    async def act(bench: Bench, visitor: Visitors) -> None:
+        held, one = bench.store.database, await bench.logged_in(visitor, "reader")
+        held.run("UPDATE logins SET begun = begun - 1700")
+        assert (await one.get("/"))[0] == 200
+        held.run("UPDATE logins SET begun = begun - 1700, seen = seen - 1700")
+        assert (await one.get("/history"))[0] == 200, "something was asked for meanwhile"
+        held.run("UPDATE logins SET seen = seen - 1700")
+        async with one.client.get("/events?view=wall") as answer:
+            assert answer.status == 200, "it stands still"
+        face = next(iter(bench.service.by_key))
+        assert (await one.get(f"/pictures/{face}/464f47.svg"))[0] == 200
+        held.run("UPDATE logins SET seen = seen - 200")
+        assert (await one.get("/"))[0] == 303, "what pages ask for by themselves counts for nothing"
+
+    run(tmp_path, where, act)
+
+
+def test_who_is_logged_in_twice_ends_the_other_one(tmp_path: pathlib.Path, where: str) -> None:
+    async def act(bench: Bench, visitor: Visitors) -> None:
+        one, two, other = [await bench.logged_in(visitor, name) for name in ("reader", "reader", "operator")]
+        page = (await one.get("/account"))[1]
+        assert page.count("this one") == 1 and len(keys := ENDS.findall(page)) == 1 and "127.0.0.1" in page
+        assert (await other.post(f"/logins/{keys[0]}/end", {}))[0] == 303 and (await two.get("/"))[0] == 200
+        assert (await one.post(f"/logins/{keys[0]}/end", {}))[::2] == (303, "/account")
+        assert (await two.get("/"))[0] == 303 and (await one.get("/"))[0] == 200 == (await other.get("/"))[0]
+        assert (
+            audit(bench, "reader")[-1] == "ended a log-in from 127.0.0.1"
+            and "ended" not in audit(bench, "operator")[-1]
+        )
+        assert not ENDS.findall((await one.get("/account"))[1])
 
     run(tmp_path, where, act)
 

@@ -12,6 +12,9 @@ from .users import Role
 from .values import SLACK, time_of, whole
 
 LASTS = 12 * 3600  # seconds of a log-in: a shift
+IDLE = 1800.0  # seconds after which a log-in ends by which nothing is asked for
+_LOOK = 60.0  # seconds within which it is not written down again that something was
+KEY = 16  # digits of what names a log-in on a page
 FREE = 3  # log-ins that may fail before the next one has to wait
 _FIRST_WAIT, _MOST_WAIT = 2.0, 300.0  # seconds, doubled by each further one that fails
 NOBODY = "-"  # in the audit, of a name that is no user's
@@ -110,17 +113,70 @@ def begin(database: Database, name: str, address: str) -> str:
     return made
 
 
-def find(database: Database, cookie: str) -> Visitor | None:
-    """Who a cookie is of, where its log-in has not ended. One that begins at a time to come has: the clock jumped."""
+_STANDS = (
+    "logins.ended IS NULL AND logins.begun > {clock} - ? AND logins.begun <= {clock} + ?"
+    " AND COALESCE(logins.seen, logins.begun) > {clock} - ? AND COALESCE(logins.seen, logins.begun) <= {clock} + ?"
+)  # one that begins, or was seen, at a time to come has ended: the clock jumped
+
+
+def _limits(idle: float) -> tuple[float, float, float, float]:
+    """The values of what says that a log-in stands."""
+    return LASTS, SLACK, idle, SLACK
+
+
+def find(database: Database, cookie: str, idle: float = IDLE, is_asked: bool = False) -> Visitor | None:
+    """Who a cookie is of, where its log-in has not ended, and something was asked for by it within so many seconds.
+    `is_asked`: somebody asks for something now, and it is no page that asks by itself."""
     rows = database.run(
-        "SELECT users.name, users.role FROM logins JOIN users ON users.name = logins.name"
-        " WHERE logins.id = ? AND logins.ended IS NULL AND logins.begun > {clock} - ?"
-        " AND logins.begun <= {clock} + ? AND users.disabled = 0",
+        "SELECT users.name, users.role, {clock} - COALESCE(logins.seen, logins.begun)"
+        f" FROM logins JOIN users ON users.name = logins.name WHERE logins.id = ? AND {_STANDS} AND users.disabled = 0",
         _hidden(cookie),
-        LASTS,
-        SLACK,
+        *_limits(idle),
     )
-    return Visitor(str(rows[0][0]), Role.of(str(rows[0][1])), cookie) if rows else None
+    if not rows:
+        return None
+    if is_asked and time_of(rows[0][2]) > min(_LOOK, idle / 10):
+        database.run("UPDATE logins SET seen = {clock} WHERE id = ? AND ended IS NULL", _hidden(cookie))
+    return Visitor(str(rows[0][0]), Role.of(str(rows[0][1])), cookie)
+
+
+@dataclass(frozen=True)
+class Login:
+    """A log-in that stands: `key` names it on a page, and is good for nothing else."""
+
+    key: str
+    address: str
+    begun: float
+    seen: float
+    is_own: bool
+
+
+def standing(database: Database, visitor: Visitor, idle: float = IDLE) -> list[Login]:
+    """The log-ins of who asks, the newest first."""
+    own = _hidden(visitor.login)
+    rows = database.run(
+        "SELECT id, address, begun, COALESCE(seen, begun) FROM logins"
+        f" WHERE name = ? AND {_STANDS} ORDER BY begun DESC",
+        visitor.name,
+        *_limits(idle),
+    )
+    return [
+        Login(str(key)[:KEY], str(address), time_of(begun), time_of(seen), key == own)
+        for key, address, begun, seen in rows
+    ]
+
+
+def end_one(database: Database, visitor: Visitor, key: str) -> None:
+    """Ends one of the visitor's log-ins; it stands in the audit. One that has ended is let be."""
+    with database.transaction():
+        rows = database.run(
+            f"UPDATE logins SET ended = {{clock}} WHERE name = ? AND substr(id, 1, {KEY}) = ? AND ended IS NULL"
+            " RETURNING address",
+            visitor.name,
+            key,
+        )
+        for row in rows:
+            note(database, visitor.name, f"ended a log-in from {row[0]}")
 
 
 def end(database: Database, visitor: Visitor) -> None:

@@ -43,6 +43,7 @@ ROUTES = (
     Route("POST", "/logout", sign_in.log_out),
     Route("GET", "/account", people.account),
     Route("POST", "/account", people.own_password),
+    Route("POST", r"/logins/{login:[0-9a-f]{16}}/end", people.end_login),
     Route("GET", "/", wall.wall),
     Route("GET", "/events", events),
     Route("GET", r"/pictures/{face:[0-9a-f]{16}}/{text:-|(?:[0-9a-f]{2})+}.svg", picture_pages.picture),
@@ -65,6 +66,9 @@ ROUTES = (
     Route("POST", "/users", people.change, _ADMINISTRATOR),
     Route("GET", "/audit", record_pages.audit, _ADMINISTRATOR),
 )
+
+
+_BY_THEMSELVES = (events, picture_pages.picture)  # that pages ask for though nobody is there
 
 
 def _refused(request: web.Request, status: int, words: str, keep_alive: bool | None = None) -> web.Response:
@@ -124,7 +128,9 @@ async def _guard(request: web.Request, handler: _Handler) -> web.StreamResponse:
         return await handler(request)
     service = service_of(request)
     cookie = service.seal.get(request, "login")
-    visitor = await service.connections.run(partial(logins.find, cookie=cookie)) if cookie else None
+    idle, is_asked = service.settings.idle, request.match_info.handler not in _BY_THEMSELVES
+    ask = partial(logins.find, cookie=cookie or "", idle=idle, is_asked=is_asked)
+    visitor = await service.connections.run(ask) if cookie else None
     if visitor is None:
         if request.method != "GET" or request.path == "/events":
             raise web.HTTPUnauthorized(text="You are not logged in, or your log-in has ended.")

@@ -160,7 +160,8 @@ async def _told(service: Service, stream: Stream) -> bytes | None:
         words = b": here\n\n"
     now = time.monotonic()
     if words is not None and now - stream.looked >= SILENCE:
-        if await service.connections.run(lambda database: logins.find(database, stream.login)) is None:
+        idle = service.settings.idle
+        if await service.connections.run(lambda database: logins.find(database, stream.login, idle)) is None:
             return None
         stream.looked = now
     return words

@@ -3,8 +3,9 @@
 from aiohttp import web
 
 from wisangub.refusal import Refusal
-from wisangub.room.store import logins, users
+from wisangub.room.store import logins, queries, users
 from wisangub.room.store.database import Database
+from wisangub.room.store.logins import Login
 from wisangub.room.store.users import Role
 
 from . import sign_in
@@ -49,12 +50,25 @@ async def change(request: web.Request) -> web.Response:
         return await _shown(request, f"Nothing was changed: {refused}.", 422)
 
 
-def _account_page(request: web.Request, said: str = "", status: int = 200) -> web.Response:
-    return service_of(request).page(request, "account.html", status=status, said=said)
+async def _account_page(request: web.Request, said: str = "", status: int = 200) -> web.Response:
+    service, visitor = service_of(request), visitor_of(request)
+
+    def found(database: Database) -> tuple[list[Login], float]:
+        return logins.standing(database, visitor, service.settings.idle), queries.now(database)
+
+    standing, now = await service.connections.run(found)
+    return service.page(request, "account.html", status=status, said=said, standing=standing, now=now)
 
 
 async def account(request: web.Request) -> web.Response:
-    return _account_page(request)
+    return await _account_page(request)
+
+
+async def end_login(request: web.Request) -> web.StreamResponse:
+    """Ends one of the log-ins of who asks."""
+    service, visitor, key = service_of(request), visitor_of(request), request.match_info["login"]
+    await service.connections.run(lambda database: logins.end_one(database, visitor, key))
+    raise web.HTTPSeeOther("/account")
 
 
 async def own_password(request: web.Request) -> web.StreamResponse:
@@ -64,16 +78,16 @@ async def own_password(request: web.Request) -> web.StreamResponse:
     old, new, again = (str(fields.get(key, "")) for key in ("old", "new", "again"))
     of = address_of(request, service.settings.is_behind_tls)
     if seconds := await sign_in.to_wait(service, visitor.name, of):
-        return _account_page(request, f"Nothing was changed: please try again in {seconds} s.", 429)
+        return await _account_page(request, f"Nothing was changed: please try again in {seconds} s.", 429)
     if not await sign_in.is_right(service, visitor.name, old):
         what = "a wrong present password was given"
         await service.connections.run(lambda database: logins.failed(database, visitor.name, of, what))
-        return _account_page(request, "Nothing was changed: the present password is another one.", 403)
+        return await _account_page(request, "Nothing was changed: the present password is another one.", 403)
     await service.connections.run(lambda database: logins.forgive(database, visitor.name, of))
     if new != again:
-        return _account_page(request, "Nothing was changed: the two new passwords differ.", 422)
+        return await _account_page(request, "Nothing was changed: the two new passwords differ.", 422)
     try:
         await service.connections.run(lambda database: users.change_password(database, visitor.name, new, visitor.name))
     except Refusal as refused:
-        return _account_page(request, f"Nothing was changed: {refused}.", 422)
+        return await _account_page(request, f"Nothing was changed: {refused}.", 422)
     raise web.HTTPSeeOther("/login")

@@ -6,6 +6,7 @@ from dataclasses import dataclass
 
 from wisangub.process.places import SIGNTOOL
 from wisangub.refusal import Refusal
+from wisangub.room.store.logins import IDLE
 
 from .limits import Patience
 
@@ -14,7 +15,8 @@ from .limits import Patience
 class Settings:
     """`is_behind_tls`: a proxy on this machine ends TLS, so cookies are Secure and the client's address is the one that
     the proxy tells. `zone`: the one that times are shown in; else the machine's. `look`: seconds between two looks into
-    the database for what has changed. `patience`: how long, and for how many, connections are waited for."""
+    the database for what has changed. `idle`: seconds after which a log-in
+    ends by which nothing is asked for. `patience`: how long, and for how many, connections are waited for."""
 
     database: str
     program: str = str(SIGNTOOL)
@@ -22,6 +24,7 @@ class Settings:
     zone: datetime.tzinfo | None = None
     look: float = 0.5
     threads: int = 4
+    idle: float = IDLE
     patience: Patience = Patience()
 
 
