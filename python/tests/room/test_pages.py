@@ -114,7 +114,7 @@ def test_every_page_for_every_role(tmp_path: pathlib.Path, where: str) -> None:
 
 def test_the_routes_are_those_that_are_tried() -> None:
     tried = {re.sub(r"\?.*", "", re.sub(r"\{\w+\}|\d+", "*", path)) for path in [*PAGES, *POSTS]}
-    others = {"/login", "/logout", "/events", "/pictures/*/*.svg", "/signs/*/table", "/logins/*/end"}
+    others = {"/login", "/logout", "/events", "/pictures/*/*.svg", "/signs/*/table", "/logins/*/end", "/account/factor"}
     found = {re.sub(r"\{\w+(:(?:[^{}]|\{[^{}]*\})*)?\}", "*", route.path) for route in ROUTES}
     assert found - others <= tried, found - others - tried
 

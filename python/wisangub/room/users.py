@@ -4,6 +4,7 @@
     password NAME       another password
     role NAME ROLE      another role
     disable NAME        may no more log in; enable NAME undoes it
+    one-factor NAME     no code is asked for any more at a log-in; with his password the user may have another one
     unlock NAME         failed log-ins are forgotten, so that nobody waits any more who logs in as NAME
     list                the users
 
@@ -18,7 +19,7 @@ from wisangub.refusal import Refusal, status_of
 
 from . import options
 from .output import print_line
-from .store import logins, users
+from .store import factors, logins, users
 from .store.database import Database
 
 
@@ -42,6 +43,7 @@ def _arguments() -> argparse.ArgumentParser:
         ("role", 2),
         ("disable", 1),
         ("enable", 1),
+        ("one-factor", 1),
         ("unlock", 1),
         ("list", 0),
     ):
@@ -58,9 +60,13 @@ def _done(asked: argparse.Namespace, database: Database) -> None:
     who = f"{getpass.getuser()} at the machine"
     if asked.call == "list":
         for user in users.users(database):
-            print_line(f"{user.name} {user.role.word}{' disabled' if user.is_disabled else ''}")
+            print_line(
+                f"{user.name} {user.role.word}{' disabled' * user.is_disabled}{' with a code' * user.has_factor}"
+            )
     elif asked.call == "add":
         users.add(database, asked.name, users.Role.of(asked.role), asked_password(), who)
+    elif asked.call == "one-factor":
+        factors.remove(database, asked.name, who)
     elif asked.call == "unlock":
         logins.unlock(database, asked.name, who)
     elif asked.call == "password":

@@ -38,12 +38,16 @@ class User:
     name: str
     role: Role
     is_disabled: bool = False
+    has_factor: bool = False
 
 
 def users(database: Database) -> list[User]:
     """All, by their names."""
-    rows = database.run("SELECT name, role, disabled FROM users ORDER BY name")
-    return [User(str(name), Role.of(str(role)), bool(disabled)) for name, role, disabled in rows]
+    rows = database.run(
+        "SELECT users.name, role, disabled, second_factors.name FROM users"
+        " LEFT JOIN second_factors ON second_factors.name = users.name ORDER BY users.name"
+    )
+    return [User(str(row[0]), Role.of(str(row[1])), bool(row[2]), row[3] is not None) for row in rows]
 
 
 def secret(database: Database, name: str) -> str | None:

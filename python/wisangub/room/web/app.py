@@ -43,6 +43,7 @@ ROUTES = (
     Route("POST", "/logout", sign_in.log_out),
     Route("GET", "/account", people.account),
     Route("POST", "/account", people.own_password),
+    Route("POST", "/account/factor", people.second_factor),
     Route("POST", r"/logins/{login:[0-9a-f]{16}}/end", people.end_login),
     Route("GET", "/", wall.wall),
     Route("GET", "/events", events),

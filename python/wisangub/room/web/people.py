@@ -3,7 +3,7 @@
 from aiohttp import web
 
 from wisangub.refusal import Refusal
-from wisangub.room.store import logins, queries, users
+from wisangub.room.store import factors, logins, queries, totp, users
 from wisangub.room.store.database import Database
 from wisangub.room.store.logins import Login
 from wisangub.room.store.users import Role
@@ -39,6 +39,9 @@ async def change(request: web.Request) -> web.Response:
         if do == "password":
             users.change_password(database, name, fields.get("password", ""), who)
             return f"{name} has another password."
+        if do == "one-factor":
+            factors.remove(database, name, who)
+            return f"{name} gives no code any more."
         if do in ("disable", "enable"):
             users.disable(database, name, do == "disable", who)
             return f"{name} may {'no longer' if do == 'disable' else 'now'} log in."
@@ -53,15 +56,55 @@ async def change(request: web.Request) -> web.Response:
 async def _account_page(request: web.Request, said: str = "", status: int = 200) -> web.Response:
     service, visitor = service_of(request), visitor_of(request)
 
-    def found(database: Database) -> tuple[list[Login], float]:
-        return logins.standing(database, visitor, service.settings.idle), queries.now(database)
+    def found(database: Database) -> tuple[list[Login], float | None, float]:
+        standing = logins.standing(database, visitor, service.settings.idle)
+        return standing, factors.since(database, visitor.name), queries.now(database)
 
-    standing, now = await service.connections.run(found)
-    return service.page(request, "account.html", status=status, said=said, standing=standing, now=now)
+    standing, since, now = await service.connections.run(found)
+    secret = totp.new_secret()
+    return service.page(
+        request,
+        "account.html",
+        status=status,
+        said=said,
+        standing=standing,
+        since=since,
+        now=now,
+        secret=secret,
+        address=totp.address_of(visitor.name, secret),
+        shown=service.seal.confirmation(visitor.login, secret),
+    )
 
 
 async def account(request: web.Request) -> web.Response:
     return await _account_page(request)
+
+
+async def second_factor(request: web.Request) -> web.StreamResponse:
+    """Begins a second factor by the first code of the secret that the page showed, or ends it by a code of now."""
+    service, visitor = service_of(request), visitor_of(request)
+    fields = await request.post()
+    do, secret, shown, code = (str(fields.get(key, "")) for key in ("do", "secret", "shown", "code"))
+    of = address_of(request, service.settings.is_behind_tls)
+    if seconds := await sign_in.to_wait(service, visitor.name, of):
+        return await _account_page(request, f"Nothing was changed: please try again in {seconds} s.", 429)
+
+    def done(database: Database) -> None:
+        if do == "begin" and service.seal.is_confirmation(shown, visitor.login, secret):
+            factors.enter(database, visitor.name, secret, code)
+        elif do != "end" or not factors.is_code(database, visitor.name, code):
+            raise Refusal("this is not the code of now")
+        else:
+            factors.remove(database, visitor.name, visitor.name)
+        logins.forgive(database, visitor.name, of)
+
+    try:
+        await service.connections.run(done)
+    except Refusal as refused:
+        what = "a wrong code was given"
+        await service.connections.run(lambda database: logins.failed(database, visitor.name, of, what))
+        return await _account_page(request, f"Nothing was changed: {refused}.", 403)
+    raise web.HTTPSeeOther("/account")
 
 
 async def end_login(request: web.Request) -> web.StreamResponse:

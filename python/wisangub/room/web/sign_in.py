@@ -7,12 +7,13 @@ from urllib.parse import quote
 
 from aiohttp import web
 
-from wisangub.room.store import logins, passwords, users
+from wisangub.room.store import factors, logins, passwords, users
 
 from .security import address_of
 from .service import Service, service_of, visitor_of
 
 _BEFORE = "before"  # the cookie of the form, since its token belongs to no log-in yet
+_WRONG = "This name, this password and this code (for who has one) do not go together."
 _ONE_AT_A_TIME = asyncio.Semaphore(2)  # a look at a password takes 32 MiB
 
 
@@ -72,7 +73,12 @@ async def log_in(request: web.Request) -> web.StreamResponse:
         return answer
     if not await is_right(service, name, password):
         await service.connections.run(lambda database: logins.failed(database, name, of))
-        return _shown(request, then, "This name and this password do not go together.", 403, name)
+        return _shown(request, then, _WRONG, 403, name)
+    code = str(fields.get("code", ""))
+    if not await service.connections.run(lambda database: factors.is_code(database, name, code)):
+        what = "a log-in failed by its code"
+        await service.connections.run(lambda database: logins.failed(database, name, of, what))
+        return _shown(request, then, _WRONG, 403, name)
     cookie = await service.connections.run(lambda database: logins.begin(database, name, of))
     answer = web.Response(status=303, headers={"Location": then})
     service.seal.set(answer, "login", cookie, logins.LASTS)
