@@ -13,14 +13,14 @@ from wisangub.refusal import Refusal  # noqa: E402
 
 from .connection import PATIENCE, Away, Database, Failed, NotYet, Row, Taken  # noqa: E402
 
-_SETTINGS = {
+SETTINGS = {
     "default_transaction_isolation": "read committed",
     "synchronous_commit": "on",  # what a COMMIT answered is on the disk
     "lock_timeout": f"{PATIENCE:g}s",
     "idle_in_transaction_session_timeout": "5s",  # a process that is stopped within one keeps nobody waiting for ever
 }
 _NEEDED = {  # as the server says it, once connected: a pooler may drop what was asked for
-    **{name: (value,) for name, value in _SETTINGS.items()},
+    **{name: (value,) for name, value in SETTINGS.items()},
     "synchronous_commit": ("on", "remote_apply"),
     "fsync": ("on",),  # without these two a committed line can be lost
     "full_page_writes": ("on",),
@@ -67,7 +67,7 @@ class Postgresql(Database):
         """The connection that stands, or a new one."""
         if self.connection is None:
             options = " ".join(
-                f"-c {name}={value}".replace(" ", "\\ ").replace("-c\\ ", "-c ") for name, value in _SETTINGS.items()
+                f"-c {name}={value}".replace(" ", "\\ ").replace("-c\\ ", "-c ") for name, value in SETTINGS.items()
             )
             made = psycopg.connect(self.url, autocommit=True, options=options, application_name="control", **_SILENCE)
             try:
