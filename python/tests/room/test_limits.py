@@ -5,7 +5,7 @@ import pathlib
 import socket
 import time
 import urllib.request
-from typing import Iterator
+from typing import Any, Iterator
 
 import pytest
 
@@ -27,9 +27,9 @@ LATE = 20.0  # seconds that a busy machine takes
 
 
 @contextlib.contextmanager
-def pages(folder: pathlib.Path, patience: Patience) -> Iterator[Pages]:
+def pages(folder: pathlib.Path, **settings: Any) -> Iterator[Pages]:
     """Pages that stand as long as the block."""
-    made = Bench(folder, str(folder / "database"), patience=patience)
+    made = Bench(folder, str(folder / "database"), **settings)
     standing = Pages(made.settings, list(made.service.signs.values()), "127.0.0.1", 0)
     standing.start()
     try:
@@ -60,7 +60,7 @@ def test_who_is_slow_is_let_go(
     tmp_path: pathlib.Path, monkeypatch: pytest.MonkeyPatch, capfd: pytest.CaptureFixture[str]
 ) -> None:
     monkeypatch.setattr(passwords, "COST", 2**4)
-    with pages(tmp_path, Patience(head=0.5, idle=0.5, body=0.5)) as standing:
+    with pages(tmp_path, patience=Patience(head=0.5, idle=0.5, body=0.5)) as standing:
         assert said(standing.port, HEAD) == b"", "a head that does not end"
         assert said(standing.port, b"") == b"", "and none"
         whole = HEAD + b"\r\n"
@@ -74,7 +74,7 @@ def test_who_is_slow_is_let_go(
 
 def test_one_that_waits_gives_way(tmp_path: pathlib.Path, monkeypatch: pytest.MonkeyPatch) -> None:
     monkeypatch.setattr(passwords, "COST", 2**4)
-    with pages(tmp_path, Patience(most=8, most_of_address=4)) as standing, contextlib.ExitStack() as stack:
+    with pages(tmp_path, patience=Patience(most=8, most_of_address=4)) as standing, contextlib.ExitStack() as stack:
         doors = [stack.enter_context(socket.create_connection(("127.0.0.1", standing.port), LATE)) for _ in range(6)]
         for door in doors[:2]:
             assert door.recv(1) == b"", "those that have waited longest"

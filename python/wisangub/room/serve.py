@@ -1,7 +1,8 @@
 """The control room: pages and a worker, a process each: wisangub-control --fleet FLEET.toml
 
     [--database room.sqlite | postgresql://USER@HOST/NAME] [--create] [--listen 127.0.0.1:8080] [--behind-tls]
-    [--plain-http] [--idle MINUTES] [--zone NAME] [--no-worker]
+    [--plain-http] [--idle MINUTES] [--zone NAME] [--access-log FILE]
+    [--no-worker]
 
 It ends at an interrupt or a SIGTERM. The first user is made by `wisangub-control users --database .. --create add NAME
 administrator`, and the database with it. Further workers may stand beside it: wisangub-control worker.
@@ -47,6 +48,7 @@ def arguments() -> argparse.ArgumentParser:
         help="after which a log-in ends by which nothing is asked for; else 30",
     )
     parser.add_argument("--zone", metavar="NAME", help="the zone that times are shown in; else the machine's")
+    parser.add_argument("--access-log", metavar="FILE", help="a line of JSON for each request is appended to it")
     parser.add_argument("--no-worker", action="store_true", help="pages alone; workers are other processes")
     parser.add_argument("--beside", type=int, help=argparse.SUPPRESS)  # a socket to the worker that began the pages
     return parser
@@ -73,7 +75,14 @@ def _pages(asked: argparse.Namespace, signs: list[Sign], waiting: Waiting) -> in
     from .service import Pages  # aiohttp is there from here on
 
     fleet.tell_open(signs)
-    settings = Settings(asked.database, asked.signtool, asked.behind_tls, zone_of(asked.zone), idle=60 * asked.idle)
+    settings = Settings(
+        asked.database,
+        asked.signtool,
+        asked.behind_tls,
+        zone_of(asked.zone),
+        idle=60 * asked.idle,
+        access_log=asked.access_log,
+    )
     pages = Pages(settings, signs, *host_and_port(asked.listen))
     worker = None if asked.beside is None else beside.Other.of(asked.beside)
 

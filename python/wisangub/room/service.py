@@ -10,6 +10,7 @@ from aiohttp import web
 
 from wisangub.refusal import Refusal, reason
 from wisangub.room.output import LOG
+from wisangub.room.web.access import AccessLog, logger_of
 from wisangub.room.web.app import application
 from wisangub.room.web.service import Service
 from wisangub.room.web.settings import Settings
@@ -18,6 +19,7 @@ from .fleet import Sign
 
 _PATIENCE = 20.0  # seconds until the pages stand, or have ended
 _LAST = 2.0  # seconds for what is under way as they end
+_ACCESS = logging.Logger("access")  # which aiohttp asks for, and nothing is handed to
 _QUIET = logging.Logger("requests", logging.CRITICAL + 1)  # what a request says that is none is nobody's to read
 
 
@@ -33,6 +35,10 @@ class Pages:
     def start(self) -> None:
         """Returns when the pages can be asked for; refused where they cannot."""
         self.service = Service(self.settings, self.signs)
+        self.access: dict[str, Any] = {"access_log": None}
+        if (path := self.settings.access_log) is not None:
+            log = AccessLog(path, self.settings.is_behind_tls)
+            self.access = {"access_log": _ACCESS, "access_log_class": logger_of(log)}
         self.loop = asyncio.new_event_loop()
         self.fault: Exception | None = None
         self.is_up = threading.Event()
@@ -48,7 +54,7 @@ class Pages:
         """The thread."""
         asyncio.set_event_loop(self.loop)
         self.loop.set_exception_handler(_said)
-        self.runner = web.AppRunner(application(self.service), access_log=None, logger=_QUIET)
+        self.runner = web.AppRunner(application(self.service), logger=_QUIET, **self.access)
         try:
             server = self.loop.run_until_complete(self.begun())
         except (OSError, OverflowError) as fault:

@@ -95,7 +95,7 @@ def _is_same_site(request: web.Request) -> bool:
     return request.headers.get("Sec-Fetch-Site", "same-origin") in ("same-origin", "none")
 
 
-def address_of(request: web.Request, is_behind_tls: bool) -> str:
+def address_of(request: web.BaseRequest, is_behind_tls: bool) -> str:
     """Where a request came from. The proxy's word is the last of X-Forwarded-For; what is before it the client's."""
     if is_behind_tls and (told := request.headers.get("X-Forwarded-For", "").split(",")[-1].strip()):
         return told

@@ -16,7 +16,8 @@ class Settings:
     """`is_behind_tls`: a proxy on this machine ends TLS, so cookies are Secure and the client's address is the one that
     the proxy tells. `zone`: the one that times are shown in; else the machine's. `look`: seconds between two looks into
     the database for what has changed. `idle`: seconds after which a log-in
-    ends by which nothing is asked for. `patience`: how long, and for how many, connections are waited for."""
+    ends by which nothing is asked for. `access_log`: the file
+    that gets a line for each request. `patience`: how long, and for how many, connections are waited for."""
 
     database: str
     program: str = str(SIGNTOOL)
@@ -25,6 +26,7 @@ class Settings:
     look: float = 0.5
     threads: int = 4
     idle: float = IDLE
+    access_log: str | None = None
     patience: Patience = Patience()
 
 
