@@ -62,10 +62,13 @@ ended() { kill "$pid"; wait "$pid"; }
 
 manager() { local name=$1; shift; inside env SNMP_PERSISTENT_DIR=/var/lib/signs "$name" -v1 -c public "$@"; }
 get() { manager snmpget -M +/usr/share/wisangub/mibs -m DMS-PROFILE-MIB -Oqv "127.0.0.1:$port" "$1" 2> /dev/null; }
+# publish TEXT: whether a centre says that it was accepted; what it said is kept in published, and shown where it was not
 publish() {
     echo "publish-text 3 1 \"$1\" \"me\" 0 0 100 65535 255 127.0.0.1" | as_user timeout 60 wisangub-centre \
-        --to "127.0.0.1:$port" --sign /usr/share/wisangub/signs/roadside.sign --journal centre.journal |
-        tee -a "$room/published" | grep -q '^last accepted$'
+        --to "127.0.0.1:$port" --sign /usr/share/wisangub/signs/roadside.sign --journal centre.journal \
+        > "$room/publication" 2>&1
+    cat "$room/publication" >> "$room/published"
+    grep -q '^last accepted$' "$room/publication" || { cat "$room/publication"; return 1; }
 }
 files() {
     (cd "$root" && find . -xdev \( -path ./proc -o -path ./var/lib/dpkg -o -path ./var/log \) -prune -o -print | sort)
@@ -116,7 +119,8 @@ is "the central system goes on" publish "ROAD WORK"
 is "what is shown then" same "$(get dmsMessageMultiString.5.1)" '"ROAD WORK"'
 is "a third publication" publish "FOG"
 numbers=$(sed -n 's/^ledger \([0-9]*\) .* accepted$/\1/p' "$room/published")
-is "the ledger has three activations" same "$(wc -l <<< "$numbers")" 3
+three() { same "$(wc -l <<< "$numbers")" 3 || { cat "$room/published"; return 1; }; }
+is "the ledger has three activations" three
 is "their numbers rise" same "$(sort -nu <<< "$numbers")" "$numbers"
 ended
 

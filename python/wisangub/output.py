@@ -23,9 +23,9 @@ LOG.addHandler(_Standard())
 
 
 def print_line(words: str) -> None:
-    """A line on standard output; where nobody reads it any more a command goes on."""
+    """A line on standard output, in one write; where nobody reads it any more a command goes on."""
     try:
-        print(words.encode("utf-8", "backslashreplace").decode(), flush=True)
+        print(words.encode("utf-8", "backslashreplace").decode() + "\n", end="", flush=True)
     except UnicodeEncodeError:
         print_line(words.encode("ascii", "backslashreplace").decode())
     except (OSError, ValueError):
