@@ -34,7 +34,7 @@ def help_of(words: list[str]) -> str:
     return ended.stdout + ended.stderr
 
 
-def _subcommands(text: str) -> list[str]:
+def subcommands(text: str) -> list[str]:
     """The subcommands that a help lists under `Commands:`."""
     listed = re.search(r"(?m)^Commands:\n((?:[ ]{2,}.*\n)+)", text)
     return [word for word in re.findall(r"(?m)^ {2}([a-z]+)", listed[1]) if word != "help"] if listed else []
@@ -47,31 +47,31 @@ def options(text: str) -> list[str]:
     return sorted(set(re.findall(r"(?<![\w-])--[a-z][a-z-]*", text)))
 
 
-def _file_options(text: str) -> set[str]:
+def file_options(text: str) -> set[str]:
     """The options that a file's name follows."""
     return {option for option, value in re.findall(r"(--[a-z][a-z-]*)[ =]<?([A-Z_]+)>?", text) if value in _FILES}
 
 
-def _completion(name: str, program: list[str], parts: list[str]) -> str:
+def completion(name: str, program: list[str], parts: list[str]) -> str:
     """The functions of bash for one command."""
     whole = help_of(program)
-    parts = parts or _subcommands(whole)
+    parts = parts or subcommands(whole)
     texts = {part: help_of([*program, part]) for part in parts}
     cases = [f'        {part}) words="{" ".join(options(text))}" ;;' for part, text in texts.items()]
     cases.append(f'        *) words="{" ".join([*parts, *options(whole)])}" ;;')
-    files = sorted(set().union(*(_file_options(text) for text in [whole, *texts.values()]))) or ["--no-files"]
+    files = sorted(set().union(*(file_options(text) for text in [whole, *texts.values()]))) or ["--no-files"]
     return _TEMPLATE.format(name=name, function=name.replace("-", "_"), files=" | ".join(files), cases="\n".join(cases))
 
 
 def main() -> int:
     words = argparse.ArgumentParser(description=__doc__, formatter_class=argparse.RawDescriptionHelpFormatter)
-    words.add_argument("folder", type=pathlib.Path, metavar="FOLDER")
-    words.add_argument("name", metavar="NAME")
-    words.add_argument("program", metavar="PROGRAM")
-    words.add_argument("parts", nargs="*", metavar="WORD")
+    words.add_argument("folder", type=pathlib.Path, metavar="FOLDER", help="where the file is written")
+    words.add_argument("name", metavar="NAME", help="of the command that is completed")
+    words.add_argument("program", metavar="PROGRAM", help="the command, for its --help")
+    words.add_argument("parts", nargs="*", metavar="WORD", help="its subcommands")
     asked = words.parse_args()
     asked.folder.mkdir(parents=True, exist_ok=True)
-    text = _completion(asked.name, [asked.program], asked.parts)
+    text = completion(asked.name, [asked.program], asked.parts)
     (asked.folder / asked.name).write_text(text, encoding="utf-8")
     return 0
 
