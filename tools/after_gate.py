@@ -59,7 +59,11 @@ def _outcomes(steps: list[Step], program: str) -> list[Outcome]:
 
 def main() -> int:
     words = argparse.ArgumentParser(description=__doc__, formatter_class=argparse.RawDescriptionHelpFormatter)
-    words.add_argument("--program", default=str(TOP / "crates/signtool/out/signtool"))
+    words.add_argument(
+        "--program",
+        default=str(TOP / "crates/signtool/out/signtool"),
+        help="the program signtool, as tools/build.py makes it",
+    )
     words.add_argument("--gate", action="append", default=[], help="the last line of `rt ci`, of the wrong bodies")
     words.add_argument("--list", action="store_true", help="the steps and their limits, and nothing is run")
     words.add_argument("steps", nargs="*", metavar="STEP", help="the steps of these names alone")

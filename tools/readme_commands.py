@@ -127,7 +127,12 @@ def _with_kit(text: str) -> bool:
 
 def main() -> int:
     words = argparse.ArgumentParser(description=__doc__, formatter_class=argparse.RawDescriptionHelpFormatter)
-    words.add_argument("--program", type=program, default=str(SIGNTOOL) if SIGNTOOL.is_file() else None)
+    words.add_argument(
+        "--program",
+        type=program,
+        default=str(SIGNTOOL) if SIGNTOOL.is_file() else None,
+        help="the program signtool, as tools/build.py makes it",
+    )
     words.add_argument("--signtool", type=program, help="the program behind the doors, for the block of the SNMP tools")
     words.add_argument("--short", action="store_true", help="without the block of the SNMP tools")
     words.add_argument("--rattle", action="store_true", help="the block of Rattle alone")

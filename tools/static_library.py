@@ -95,7 +95,7 @@ def main() -> int:
     words.add_argument(
         "--processors", type=int, default=len(os.sched_getaffinity(0)), help="how many are taken; else all"
     )
-    words.add_argument("crate", metavar="CRATE")
+    words.add_argument("crate", metavar="CRATE", help="the crate that the library is made of")
     asked, plan = words.parse_args(), whole_plan()
     if asked.crate not in plan.crates:
         words.error(f"crates.txt has no {asked.crate}")

@@ -195,7 +195,9 @@ def _difference(program: str, call: list[str], stdin: str, wanted: tuple[str, in
 
 def main() -> int:
     words = argparse.ArgumentParser(description=__doc__, formatter_class=argparse.RawDescriptionHelpFormatter)
-    words.add_argument("--program", type=program, default=str(SIGNTOOL))
+    words.add_argument(
+        "--program", type=program, default=str(SIGNTOOL), help="the program signtool, as tools/build.py makes it"
+    )
     words.add_argument("--count", type=int, help="the cases that are taken of each file")
     asked = words.parse_args()
     passed = failed = 0

@@ -80,9 +80,11 @@ def _by_hand(program: str) -> tuple[int, int]:
 
 def main() -> int:
     options = argparse.ArgumentParser(description="what the program says of a refused line, beside the model")
-    options.add_argument("--count", type=int, default=2000)
-    options.add_argument("--seed", type=int, default=1)
-    options.add_argument("--program", type=program, default=str(SIGNTOOL))
+    options.add_argument("--count", type=int, default=2000, help="how many inputs")
+    options.add_argument("--seed", type=int, default=1, help="of all that is random: the same again gives the same")
+    options.add_argument(
+        "--program", type=program, default=str(SIGNTOOL), help="the program signtool, as tools/build.py makes it"
+    )
     asked = options.parse_args()
     cases, (rows, failed) = Cases(asked.seed), _by_hand(asked.program)
     kinds: collections.Counter[str] = collections.Counter()

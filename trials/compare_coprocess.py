@@ -114,9 +114,11 @@ def _begun(program: str, end: str, sign: str | None) -> CoProcess:
 
 def main() -> int:
     words = argparse.ArgumentParser(description="random lines to signtool's co-processes and to the model's")
-    words.add_argument("--signtool", type=program, default=str(SIGNTOOL))
-    words.add_argument("--count", type=int, default=4000)
-    words.add_argument("--seed", type=int, default=1)
+    words.add_argument(
+        "--signtool", type=program, default=str(SIGNTOOL), help="the program signtool, as tools/build.py makes it"
+    )
+    words.add_argument("--count", type=int, default=4000, help="how many lines")
+    words.add_argument("--seed", type=int, default=1, help="of all that is random: the same again gives the same")
     words.add_argument("--sign", help="a description, as in signs/; else the bench sign")
     asked = words.parse_args()
     model = str(TOP / "model/signtool")

@@ -247,10 +247,12 @@ class Cases:
 def main() -> int:
     words = argparse.ArgumentParser(description=__doc__, formatter_class=argparse.RawDescriptionHelpFormatter)
     most = words.add_mutually_exclusive_group()
-    most.add_argument("--count", type=int, default=300)
-    most.add_argument("--seconds", type=float)
-    words.add_argument("--seed", type=int, default=1)
-    words.add_argument("--program", type=program, default=str(SIGNTOOL))
+    most.add_argument("--count", type=int, default=300, help="how many rounds")
+    most.add_argument("--seconds", type=float, help="rounds for so long")
+    words.add_argument("--seed", type=int, default=1, help="of all that is random: the same again gives the same")
+    words.add_argument(
+        "--program", type=program, default=str(SIGNTOOL), help="the program signtool, as tools/build.py makes it"
+    )
     asked = words.parse_args()
     cases, number, failed, begun = Cases(asked.seed), 0, 0, time.monotonic()
     while time.monotonic() < begun + asked.seconds if asked.seconds else number < asked.count:

@@ -170,10 +170,14 @@ def run(program: str, text: str) -> tuple[subprocess.CompletedProcess[bytes], fl
 def main() -> int:
     words = argparse.ArgumentParser(description=__doc__, formatter_class=argparse.RawDescriptionHelpFormatter)
     top = pathlib.Path(__file__).resolve().parent.parent
-    words.add_argument("--count", type=int, default=20000)
-    words.add_argument("--seed", type=int, default=1)
-    words.add_argument("--program", default=str(top / "crates/signtool/out/signtool"))
-    words.add_argument("--print", action="store_true")
+    words.add_argument("--count", type=int, default=20000, help="how many datagrams")
+    words.add_argument("--seed", type=int, default=1, help="of all that is random: the same again gives the same")
+    words.add_argument(
+        "--program",
+        default=str(top / "crates/signtool/out/signtool"),
+        help="the program signtool, as tools/build.py makes it",
+    )
+    words.add_argument("--print", action="store_true", help="prints a script of so many, and runs nothing")
     words.add_argument("--udp", action="store_true", help="to a sign's door")
     words.add_argument("--door", metavar="PATH", help="another sign's door, such as examples/out/signd")
     asked = words.parse_args()

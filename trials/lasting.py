@@ -121,9 +121,11 @@ def _all_tried(trial: Trial, only: str | None) -> None:
 
 def main() -> int:
     options = argparse.ArgumentParser(description="doors that are killed, disks that refuse, journals that are changed")
-    options.add_argument("program", nargs="?", default=str(SIGNTOOL))
+    options.add_argument(
+        "program", nargs="?", default=str(SIGNTOOL), help="signtool, or another that answers the same lines"
+    )
     options.add_argument("--short", action="store_true", help="at most two minutes")
-    options.add_argument("--seed", type=int, default=1)
+    options.add_argument("--seed", type=int, default=1, help="of all that is random: the same again gives the same")
     options.add_argument("--door", metavar="PATH", help="another sign's door, such as examples/out/signd")
     options.add_argument("--only", choices=sorted(_KINDS), help="one kind of trial alone")
     asked = options.parse_args()

@@ -191,7 +191,9 @@ def _document(program: str, sign: bytes, shown: str, alone: int | None) -> str:
 
 def main() -> int:
     words = argparse.ArgumentParser(description=__doc__, formatter_class=argparse.RawDescriptionHelpFormatter)
-    words.add_argument("--program", type=program, default=str(SIGNTOOL))
+    words.add_argument(
+        "--program", type=program, default=str(SIGNTOOL), help="the program signtool, as tools/build.py makes it"
+    )
     words.add_argument("--keep", help="a folder for the PNG files")
     words.add_argument("--read", action="store_true", help="without a browser")
     asked = words.parse_args()

@@ -48,9 +48,11 @@ def _draw(page: pathlib.Path, picture: pathlib.Path, width: int, height: int) ->
 
 def main() -> int:
     parser = argparse.ArgumentParser(prog="python3 -m trials.shot", description="a report as a picture")
-    parser.add_argument("picture", type=pathlib.Path, metavar="PICTURE.png")
+    parser.add_argument("picture", type=pathlib.Path, metavar="PICTURE.png", help="the file that is written")
     parser.add_argument("--html", type=pathlib.Path, metavar="REPORT.html", help="a page; else one is made")
-    parser.add_argument("--size", nargs=2, type=int, default=(1080, 1800), metavar=("WIDTH", "HEIGHT"))
+    parser.add_argument(
+        "--size", nargs=2, type=int, default=(1080, 1800), metavar=("WIDTH", "HEIGHT"), help="of the window, in pixels"
+    )
     asked = parser.parse_args()
     if shutil.which("chromium") is None:
         print("chromium is not there: apt-get install chromium", file=sys.stderr)

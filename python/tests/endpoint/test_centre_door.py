@@ -66,6 +66,27 @@ def test_an_operator_has_the_ledger(silent: socket.socket, capfd: pytest.Capture
     centre.end()
 
 
+def test_a_reply_from_elsewhere_is_not_taken_and_told_once(
+    silent: socket.socket, capfd: pytest.CaptureFixture[str]
+) -> None:
+    centre = Listened()
+    door = CentreDoor(centre, silent, None, None, 30.0, 1.0)
+    reply = wire.read(bytes.fromhex(door.hand(BLANK)[5:].decode()))
+    reply.kind = wire.RESPONSE
+    with socket.socket(socket.AF_INET, socket.SOCK_DGRAM) as other:
+        other.bind(("127.0.0.1", 0))
+        for octets in (b"", b"no message", *[wire.written(reply)] * 3):
+            other.sendto(octets, silent.getsockname())
+        assert not door.carry_on(0.5) and door.is_busy and door.heard == b""
+        said, port = capfd.readouterr().err, other.getsockname()[1]
+    assert said.count("a reply came from ") == 1 and f"from 127.0.0.1:{port}, and not from 127.0.0.1:" in said
+    with socket.socket(socket.AF_INET, socket.SOCK_DGRAM) as other:
+        other.setsockopt(socket.SOL_SOCKET, socket.SO_REUSEADDR, 1)
+        with pytest.raises(OSError):
+            other.bind(silent.getsockname())
+    centre.end()
+
+
 class Sign(threading.Thread):
     """The model's bench sign at a port of its own; what it is asked with numbers below 0 it answers, or not."""
 

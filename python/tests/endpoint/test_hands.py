@@ -84,6 +84,25 @@ def test_a_fresh_centre_begins_above_all_that_a_file_may_have_used() -> None:
         assert words in str(above(other, "centre")), other
 
 
+def test_a_first_number_that_an_old_journal_may_have_used_is_refused() -> None:
+    head = Head("centre", "bench", 40)
+    with without_syncs(), tempfile.TemporaryDirectory() as folder:
+        path = pathlib.Path(folder, "journal")
+        octets = records.records([replace(head, form=2).line(), *[b"tick"] * 50])
+        above = 40 + len(octets) // 15
+        for first, is_well in ((above - 1, False), (above, True)):
+            path.write_bytes(octets)
+            asked = argparse.Namespace(journal=str(path), fresh=True, need_journal=True, first=first)
+            try:
+                journal = journal_of(asked, replace(head, first=first))
+            except Refusal as refused:
+                assert not is_well and f"may have used each number below {above}" in str(refused)
+                assert path.read_bytes() == octets
+            else:
+                assert is_well and journal.head.first == above
+                journal.close()
+
+
 def test_a_centre_whose_journal_is_cut_again_and_again_uses_no_number_twice() -> None:
     chance = random.Random(4)
     with without_syncs(), tempfile.TemporaryDirectory() as folder:

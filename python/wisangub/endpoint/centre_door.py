@@ -16,7 +16,7 @@ from .files import NotKept
 from .journal import Journal
 from .log import Log
 from .questions import Questions
-from .sockets import Address, Waiting, named, received, sent
+from .sockets import Address, Strays, Waiting, named, received, sent
 from .texts import ended, published
 
 COMMANDS = ("publish", "blank", "activate")
@@ -49,6 +49,7 @@ class CentreDoor:
         self.every, self.wait, self.mib = tick, wait, Mib.read()
         self.to: Address = door.getpeername()
         self.waiting, self.questions = Waiting(), questions
+        self.strays = Strays(door)
         self.line, self.heard = "", b""  # the last command, and the last datagram that was handed over
         self.is_busy = self.has_job()
 
@@ -99,7 +100,8 @@ class CentreDoor:
         if now >= due:
             self.hand(b"tick")
             return due + self.every
-        self.waiting.until([self.door.fileno()], min(due, ends) - now)
+        self.waiting.until([self.door.fileno(), self.strays.socket.fileno()], min(due, ends) - now)
+        self.log_strays()
         heard = received(self.door)
         if heard is not None:
             if self.log:
@@ -107,6 +109,14 @@ class CentreDoor:
             self.hand(b"datagram " + (heard[0].hex().encode() or b"-"))
             self.heard = heard[0]
         return due
+
+    def log_strays(self) -> None:
+        """Says of replies from elsewhere that they came: the centre takes what its sign's address sends alone."""
+        for sender in self.strays.senders():
+            where = f"{named(sender)}, and not from {named(self.to)}: it is not taken"
+            LOG.info(f"a reply came from {where}; is the sign behind an address translation?")
+            if self.log:
+                self.log.event("from elsewhere", sender)
 
     def finish(self, before: list[str], wait: float) -> bool:
         """Carries on, and prints how the job ended with the ledger's lines that are new: whether it was accepted."""
@@ -178,3 +188,4 @@ class CentreDoor:
                 break
             if self.log:
                 self.log.datagram("late", self.to, heard[0])
+        self.log_strays()

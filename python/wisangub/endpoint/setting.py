@@ -90,12 +90,16 @@ def journal_of(asked: argparse.Namespace, head: Head) -> Journal:
         accepts = getattr(asked, "accept_damage", False)
         return Journal.opened(asked.journal, head, accepts, is_patient=not asked.need_journal)
     old = opened(asked.journal)
-    above = number_above(asked.journal, old, head.end, octets_aside(asked.journal))
-    if above is not None and head.first is not None:
-        head = dataclasses.replace(head, first=max(above, head.first))
-    journal = Journal.fresh(asked.journal, head)
-    os.close(old)
-    return journal
+    try:
+        above = number_above(asked.journal, old, head.end, octets_aside(asked.journal))
+        wanted = getattr(asked, "first", None)  # of a centre
+        if above is not None and wanted is not None and wanted < above:
+            raise Refusal(f"--first {wanted}: {asked.journal} may have used each number below {above}")
+        if above is not None and head.first is not None:
+            head = dataclasses.replace(head, first=max(above, head.first))
+        return Journal.fresh(asked.journal, head)
+    finally:
+        os.close(old)
 
 
 def begun(asked: argparse.Namespace, end: str, text: bytes | None, journal: Journal | None) -> CoProcess:

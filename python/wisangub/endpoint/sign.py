@@ -41,16 +41,16 @@ def _asked_for() -> argparse.Namespace:
     """The options, as far as they go together."""
     words = options(__doc__, "wisangub-sign")
     words.add_argument("--host", default="127.0.0.1", help="an IPv4 or IPv6 address, or a name")
-    words.add_argument("--port", type=int, default=1161)
+    words.add_argument("--port", type=int, default=1161, help="a UDP port; 0 is one that is free, which is printed")
     words.add_argument("--listen", metavar="HOST:PORT", help="both in one; an IPv6 address stands in brackets")
     words.add_argument("--accept-damage", action="store_true", help="goes on, and puts the rest aside")
     words.add_argument("--down", choices=("power", "process"), help="what the time without a process was")
     words.add_argument(
         "--most-recorded", type=int, default=MOST_RECORDED, metavar="N", help="of the writing community, in a second"
     )
-    words.add_argument("--no-ticks", action="store_true")
-    words.add_argument("--lose", type=int, default=0, metavar="N")
-    words.add_argument("--quiet", action="store_true")
+    words.add_argument("--no-ticks", action="store_true", help="no second passes for the sign")
+    words.add_argument("--lose", type=int, default=0, metavar="N", help="each N-th datagram to the sign is lost")
+    words.add_argument("--quiet", action="store_true", help="neither where it is nor what it accepts is printed")
     words.add_argument(
         "--page", type=int, nargs="?", const=PAGE, metavar="PORT", help=f"lamps in a browser, at 127.0.0.1:{PAGE}"
     )

@@ -7,9 +7,10 @@ import socket
 from typing import Any, Callable
 
 from wisangub.refusal import Refusal
-from wisangub.snmp.wire import MOST_DATAGRAM
+from wisangub.snmp.wire import MOST_DATAGRAM, RESPONSE, spelled
 
 MOST_FAULTS = 100  # of earlier datagrams, that are passed over at once
+_MOST_STRAYS = 16  # datagrams from elsewhere that are read at once, and senders that are told
 _MOST_WAIT = 86_400.0  # seconds that are waited for at once
 Address = tuple[Any, ...]
 
@@ -70,6 +71,38 @@ def connected(host: str, port: int) -> socket.socket:
     except OSError as fault:
         raise Refusal(f"{named(address)}: {fault.strerror}") from fault
     return made
+
+
+class Strays:
+    """What comes to a connected socket's port from elsewhere, which that socket does not take. Of each sender it is
+    known once that a reply came from there."""
+
+    def __init__(self, door: socket.socket) -> None:
+        self._known: set[Address] = set()
+        self.socket = socket.socket(door.family, socket.SOCK_DGRAM)
+        for one in (door, self.socket):  # for this moment alone: nobody else may take the port
+            one.setsockopt(socket.SOL_SOCKET, socket.SO_REUSEADDR, 1)
+        try:
+            self.socket.bind(door.getsockname())
+        except OSError as fault:
+            raise Refusal(f"{named(door.getsockname())}: {fault.strerror}") from fault
+        finally:
+            for one in (door, self.socket):
+                one.setsockopt(socket.SOL_SOCKET, socket.SO_REUSEADDR, 0)
+
+    def senders(self) -> list[Address]:
+        """Where replies came from since the last call, at most a few at once, each sender once."""
+        found: list[Address] = []
+        for _ in range(_MOST_STRAYS):
+            one = received(self.socket)
+            if one is None:
+                break
+            message = spelled(one[0])
+            is_reply = message is not None and message.kind == RESPONSE
+            if is_reply and one[1] not in self._known and len(self._known) < _MOST_STRAYS:
+                self._known.add(one[1])
+                found.append(one[1])
+        return found
 
 
 def received(door: socket.socket) -> tuple[bytes, Address] | None:
