@@ -14,6 +14,7 @@ import sys
 from vector_cases import codes, datagrams, requests, scripts, texts
 
 FOLDER = pathlib.Path(__file__).resolve().parent.parent / "vectors"
+_VERSION = 1  # of the form of the cases, which vectors/schema.json says
 _FILES = {
     "datagrams": datagrams.cases,
     "texts": texts.cases,
@@ -32,7 +33,7 @@ def main() -> int:
         made = list(cases())
         names = [case["name"] for case in made]
         assert len(set(names)) == len(names), [word for word in names if names.count(word) > 1][:3]
-        lines = "".join(json.dumps(case, ensure_ascii=True) + "\n" for case in made)
+        lines = "".join(json.dumps({"version": _VERSION, **case}, ensure_ascii=True) + "\n" for case in made)
         path = FOLDER / f"{name}.jsonl"
         if only_checks:
             failed += not path.exists() or path.read_text(encoding="ascii") != lines

@@ -1,10 +1,10 @@
-"""Runs the program over vectors/*.jsonl: `python3 -m trials.check_vectors [--program PATH] [--count N]` prints `N
-passed, N failed`.
+"""Runs the program over vectors/*.jsonl: `python3 -m trials.check_vectors [--program PATH] [--count N] [--junit FILE]`
+prints `N passed, N failed`.
 
 Datagrams go through `decode`, texts through `items`, `check` and `pages`, codes through `code` and `activation`,
 requests through `answer`, scripts through `replay`. What `decode`, `items` and `check` print with --json is made into
 lines again, which have to be those that are wanted without. Names of objects are those of mibs/DMS-PROFILE-MIB. With
---count only so many cases of each file are taken.
+--count only so many cases of each file are taken; with --junit a report is written too, a test case for each call.
 """
 
 import argparse
@@ -16,6 +16,7 @@ import sys
 from collections.abc import Iterator
 from typing import Any
 
+from wisangub import junit
 from wisangub.process.places import SIGNTOOL, program
 
 TOP = pathlib.Path(__file__).resolve().parent.parent
@@ -199,18 +200,22 @@ def main() -> int:
         "--program", type=program, default=str(SIGNTOOL), help="the program signtool, as tools/build.py makes it"
     )
     words.add_argument("--count", type=int, help="the cases that are taken of each file")
+    words.add_argument("--junit", type=pathlib.Path, metavar="FILE", help="a report as JUnit has it is written here")
     asked = words.parse_args()
-    passed = failed = 0
+    tried = []
     for path in sorted((TOP / "vectors").glob("*.jsonl")):
         for line in path.read_text(encoding="ascii").splitlines()[: asked.count]:
             case = json.loads(line)
             for call, stdin, output, status in _calls(path.stem, case):
                 for made in [call, *_with_json(call)]:
-                    fault = _difference(asked.program, made, stdin, (output, status))
-                    passed, failed = (passed, failed + 1) if fault else (passed + 1, failed)
+                    fault = _difference(asked.program, made, stdin, (output, status)) or ""
+                    tried.append(junit.Case(path.stem, f"{case['name']}: {' '.join(made[:1])}", fault))
                     if fault:
                         print(f"{path.stem}, {case['name']}: {fault}")
-    print(f"{passed} passed, {failed} failed")
+    failed = sum(bool(case.fault) for case in tried)
+    if asked.junit:
+        junit.write(asked.junit, "vectors", tried)
+    print(f"{len(tried) - failed} passed, {failed} failed")
     return 1 if failed else 0
 
 
