@@ -1,16 +1,19 @@
 """wisangub-conform vectors at a port that is silent, and at one that answers wrongly."""
 
+import pathlib
 import socket
 import subprocess
 import sys
+import tempfile
 import threading
+import xml.etree.ElementTree as ET
 
 CALL = [sys.executable, "-m", "wisangub.tester", "vectors"]
 
 
-def asked(port: int) -> subprocess.CompletedProcess[str]:
+def asked(port: int, *more: str) -> subprocess.CompletedProcess[str]:
     """How the tool ends at a port of this machine."""
-    words = [*CALL, "--to", f"127.0.0.1:{port}", "--wait", "0.2"]
+    words = [*CALL, "--to", f"127.0.0.1:{port}", "--wait", "0.2", *more]
     return subprocess.run(words, capture_output=True, text=True, timeout=120, check=False)
 
 
@@ -52,6 +55,28 @@ def test_goes_on_where_replies_are_wrong() -> None:
         ended = asked(door.getsockname()[1])
     assert ended.returncode == 1
     assert ended.stdout.splitlines()[-1].startswith("0 passed, ")
+
+
+def test_what_comes_from_elsewhere_is_not_taken_and_the_report_says_what_failed() -> None:
+    with socket.socket(socket.AF_INET, socket.SOCK_DGRAM) as door, socket.socket(
+        socket.AF_INET, socket.SOCK_DGRAM
+    ) as other, tempfile.TemporaryDirectory() as folder:
+        door.bind(("127.0.0.1", 0))
+        other.bind(("127.0.0.1", 0))
+
+        def answer() -> None:
+            for _ in range(3):
+                _, sender = door.recvfrom(2048)
+                other.sendto(b"\0", sender)
+
+        thread = threading.Thread(target=answer, daemon=True)
+        thread.start()
+        report = pathlib.Path(folder, "report.xml")
+        ended = asked(door.getsockname()[1], "--junit", str(report))
+        thread.join(20)
+        suite = ET.fromstring(report.read_bytes())
+    assert ended.returncode == 2 and ended.stderr.count("a reply came from 127.0.0.1:") == 3
+    assert (suite.get("tests"), suite.get("failures")) == ("3", "3")
 
 
 def test_refuses_what_is_no_address() -> None:

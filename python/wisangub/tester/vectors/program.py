@@ -1,6 +1,6 @@
 """Asks a sign over UDP what vectors/requests.jsonl has, and compares its replies.
 
-    wisangub-conform vectors [--to 127.0.0.1:1161] [--wait 0.5]
+    wisangub-conform vectors [--to 127.0.0.1:1161] [--wait 0.5] [--junit FILE]
 
 The sign has to be the bench sign of docs/PROFILE.md as it starts. Requests that change a sign are left out, so that
 each finds it as it was. A request that is to be dropped is one that nothing answers for so many seconds. After three
@@ -14,6 +14,7 @@ import socket
 import sys
 from typing import Any
 
+from wisangub import junit
 from wisangub.process.places import TOP, called
 
 _MOST_SILENT = 3
@@ -25,29 +26,34 @@ def _cases(path: pathlib.Path) -> list[dict[str, Any]]:
 
 
 def _asked(door: socket.socket, to: tuple[str, int], request: str) -> str | None:
-    """The reply to a request, in hexadecimal digits; None where none comes."""
+    """The reply to a request, in hexadecimal digits; None where none comes. What comes from elsewhere is not taken, and
+    is said."""
     door.sendto(bytes.fromhex(request), to)
     try:
-        return door.recv(65535).hex()
+        octets, sender = door.recvfrom(65535)
+        while sender != to:
+            where = f"{sender[0]}:{sender[1]}"
+            print(f"a reply came from {where}; is the sign behind an address translation?", file=sys.stderr)
+            octets, sender = door.recvfrom(65535)
+        return octets.hex()
     except (TimeoutError, ConnectionRefusedError):
         return None
 
 
-def _compare(door: socket.socket, to: tuple[str, int], wanted: list[dict[str, Any]]) -> tuple[int, int, bool]:
-    """How many replies are as wanted and how many are not; the last is whether the sign is silent."""
-    passed = failed = silent = 0
+def _compare(door: socket.socket, to: tuple[str, int], wanted: list[dict[str, Any]]) -> tuple[list[junit.Case], bool]:
+    """What came of each request; the last is whether the sign is silent, so that the rest was not asked."""
+    tried, silent = [], 0
     for case in wanted:
         reply = _asked(door, to, case["request"])
-        if reply == case["reply"]:
-            passed += 1
-        else:
-            failed += 1
-            print(f"{case['name']}: replied {reply}, wanted {case['reply']}")
+        fault = "" if reply == case["reply"] else f"replied {reply}, wanted {case['reply']}"
+        tried.append(junit.Case("requests", case["name"], fault))
+        if fault:
+            print(f"{case['name']}: {fault}")
         if case["reply"] is not None:
             silent = silent + 1 if reply is None else 0
         if silent == _MOST_SILENT:
-            return passed, failed, True
-    return passed, failed, False
+            return tried, True
+    return tried, False
 
 
 def main() -> int:
@@ -58,6 +64,7 @@ def main() -> int:
     )
     parser.add_argument("--to", default="127.0.0.1:1161", metavar="HOST:PORT", help="where the sign is")
     parser.add_argument("--wait", type=float, default=0.5, metavar="SECONDS", help="how long a reply may take")
+    parser.add_argument("--junit", type=pathlib.Path, metavar="FILE", help="a report as JUnit has it is written here")
     options = parser.parse_args()
     host, _, port = options.to.rpartition(":")
     if not host or not port.isdigit():
@@ -66,13 +73,14 @@ def main() -> int:
     wanted = [case for case in every if not case["changes"]]
     with socket.socket(socket.AF_INET, socket.SOCK_DGRAM) as door:
         door.settimeout(options.wait)
-        passed, failed, is_silent = _compare(door, (host, int(port)), wanted)
+        tried, is_silent = _compare(door, (socket.gethostbyname(host), int(port)), wanted)
+    if options.junit:
+        junit.write(options.junit, "vectors", tried)
     if is_silent:
-        print(
-            f"{options.to} left {_MOST_SILENT} requests one after the other without a reply: stopped", file=sys.stderr
-        )
+        print(f"{options.to} left {_MOST_SILENT} requests one after the other without a reply: stopped", file=sys.stderr)
         return 2
-    print(f"{passed} passed, {failed} failed, {len(every) - len(wanted)} that change a sign left out")
+    failed = sum(bool(case.fault) for case in tried)
+    print(f"{len(tried) - failed} passed, {failed} failed, {len(every) - len(wanted)} that change a sign left out")
     return 1 if failed else 0
 
 
