@@ -77,7 +77,9 @@ def main() -> int:
     if options.junit:
         junit.write(options.junit, "vectors", tried)
     if is_silent:
-        print(f"{options.to} left {_MOST_SILENT} requests one after the other without a reply: stopped", file=sys.stderr)
+        print(
+            f"{options.to} left {_MOST_SILENT} requests one after the other without a reply: stopped", file=sys.stderr
+        )
         return 2
     failed = sum(bool(case.fault) for case in tried)
     print(f"{len(tried) - failed} passed, {failed} failed, {len(every) - len(wanted)} that change a sign left out")
