@@ -29,7 +29,7 @@ from model import wire  # noqa: E402
 from model.objects import DMS  # noqa: E402
 from model.text import BENCH  # noqa: E402
 from trials import largest_inputs, memory_cases  # noqa: E402
-from wisangub.tester.hostile_datagrams import Maker  # noqa: E402
+from wisangub.tester.requests.hostile_datagrams import Maker  # noqa: E402
 
 COMMUNITIES = b"communities public admin"  # those of the vectors
 TRIGGER = re.compile(r"^desc: Trigger: Client Request: (\w+)$", re.M)

@@ -14,7 +14,7 @@ from dataclasses import dataclass
 from model import wire
 from model.objects import DMS
 from trials import hostile
-from wisangub.tester.hostile_datagrams import Maker
+from wisangub.tester.requests.hostile_datagrams import Maker
 
 TOP = pathlib.Path(__file__).resolve().parent.parent
 READER, WRITER = b"public", b"admin"

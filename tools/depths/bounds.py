@@ -87,7 +87,7 @@ BOUNDS = (
         "a call for each line with which a description begins",
         "crates/dms_sign_text/src/reasons.rt",
         r"const HEAD: \[DescriptionLine; (\d+)\] =",
-        guards=(("crates/dms_sign_text/src/reasons.rt", "head_cause(alloc, &HEAD, Lines::of(octets))"),),
+        guards=(("crates/dms_sign_text/src/reasons.rt", "head_cause(&HEAD, Lines::of(octets))"),),
     ),
     Bound(
         ("dms_text_forms::form::fault_from",),
