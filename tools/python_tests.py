@@ -31,7 +31,11 @@ _FOLDERS = (
     "model/tests",
     *(f"python/tests/{part}" for part in ("package", "snmp", "process", "endpoint")),
 )
-SLOW = ("python/tests/tester/test_signs.py", "tools/tries/tests/test_planted.py")  # a minute of a processor each
+SLOW = (  # a minute each
+    "python/tests/tester/test_signs.py",
+    "python/tests/endpoint/page/test_browser.py",
+    "tools/tries/tests/test_planted.py",
+)
 
 _CONFIGURED = "python/pyproject.toml"
 _LAYOUTS: dict[str, list[str]] = {  # .flake8 has the options of flake8

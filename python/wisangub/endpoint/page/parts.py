@@ -1,6 +1,7 @@
 """What a browser is told of the sign, in parts: each is told again only where it has changed."""
 
 import json
+import secrets
 import threading
 from collections.abc import Callable
 
@@ -28,12 +29,15 @@ class Parts:
     def __init__(self, board: Board, lamps: Lamps) -> None:
         self.board, self.lamps, self.lock = board, lamps, threading.Lock()
         self.made: dict[str, tuple[object, str]] = {}  # what each was made of
+        self.run = secrets.token_hex(8)  # a browser that finds another run there wants its token
+        self.told_run = json.dumps(self.run)
 
     def said(self) -> dict[str, str]:
         """All parts; one that has not changed is the same object as before."""
         with self.lock:
             view, count = self.board.view, self.board.exchanges.count
             return {
+                "run": self.told_run,
                 "lamps": self.part("lamps", (view.lamps, view.defaults, view.shown.text), lambda: self.picture(view)),
                 "shown": self.part("shown", view, lambda: self.shown(view)),
                 "table": self.part("table", (view.reading, view.read_at, view.is_older), lambda: table(view)),
@@ -42,8 +46,10 @@ class Parts:
 
     def part(self, name: str, of: object, make: Callable[[], object]) -> str:
         """One part, made anew where it is of something else."""
-        if name not in self.made or self.made[name][0] != of:
-            self.made[name] = (of, json.dumps(make()))
+        before, told = self.made.get(name, (None, ""))
+        if not told or before != of:
+            made = json.dumps(make())
+            self.made[name] = (of, told if told == made else made)
         return self.made[name][1]
 
     def drawn(self, view: View) -> bytes:
@@ -117,7 +123,7 @@ def table(view: View) -> dict[str, object]:
     return {
         "rows": [of_row(row) for row in view.reading.rows],
         "unused": ", ".join(unused),
-        "readAt": view.read_at,
+        "readAt": view.read_at if view.is_older else None,
         "older": view.is_older,
     }
 

@@ -125,7 +125,10 @@ class Handler(http.server.BaseHTTPRequestHandler):
         """The document, with the token of this run."""
         text = STATIC.joinpath("page.html").read_text(encoding="utf-8")
         title = self.server.title.replace("&", "&amp;").replace("<", "&lt;")
-        return text.replace("@TOKEN@", self.server.guard.token).replace("@TITLE@", title).encode()
+        words = {"@TOKEN@": self.server.guard.token, "@RUN@": self.server.parts.run, "@TITLE@": title}
+        for mark, word in words.items():
+            text = text.replace(mark, word)
+        return text.encode()
 
     def events(self) -> None:
         """What changes, as it changes. A browser that takes nothing holds its own thread, and is let go in the end;

@@ -3,6 +3,7 @@
 
 const at = (id) => document.getElementById(id);
 const token = document.querySelector("meta[name=token]").content;
+const known = document.querySelector("meta[name=run]").content;
 
 function made(name, words, style) {
   const one = document.createElement(name);
@@ -59,8 +60,8 @@ const show = {
       return line;
     }));
     at("unused").textContent = part.unused ? `Not used: ${part.unused}.` : "";
-    at("read").textContent = part.readAt === null ? "Not read yet." : part.older
-      ? `Read at ${clock(part.readAt)}; a Get now would end the sign's silence, or is not answered.` : "";
+    const since = part.readAt === null ? "Not read yet" : `Read at ${clock(part.readAt)}`;
+    at("read").textContent = part.older ? `${since}: a Get now would end the sign's silence, or is not answered.` : "";
   },
   datagrams(part) {
     at("datagrams").replaceChildren(...part.map(exchange));
@@ -70,9 +71,15 @@ const show = {
 function follow() {
   const source = new EventSource("/events");
   source.onmessage = (event) => {
+    const { run = known, ...parts } = JSON.parse(event.data);
+    if (run !== known) {
+      source.close();
+      location.reload();  // another run of the sign has another token
+      return;
+    }
     at("follows").textContent = "The page follows what happens.";
     at("follows").className = "";
-    for (const [name, part] of Object.entries(JSON.parse(event.data))) show[name](part);
+    for (const [name, part] of Object.entries(parts)) show[name](part);
   };
   source.onerror = () => {
     at("follows").textContent = "The page has lost the sign, and tries again.";

@@ -7,7 +7,7 @@ import time
 from wisangub.endpoint.page.server import MOST_AT_ONCE
 from wisangub.snmp.names import scalar
 
-from .page_bench import Bench, bench
+from .bench import Bench, bench
 
 GETS = 500
 ROUNDS = 5

@@ -1,4 +1,4 @@
-"""README's picture of a sign's page: env -C python python3 -m tests.endpoint.page_picture [--keep docs/pictures]
+"""README's picture of a sign's page: env -C python python3 -m tests.endpoint.page.picture [--keep docs/pictures]
 
 A sign on loopback, a manager that publishes and asks, and the page as headless Chromium draws it, as a PNG file.
 """
@@ -22,7 +22,7 @@ def taken(path: pathlib.Path) -> None:
     """Draws the page, with a message up and another one on its way."""
     from tests.room.browser import Browser
 
-    from .page_bench import bench
+    from .bench import bench
 
     with bench() as one, Browser(f"http://127.0.0.1:{one.page}", WIDTH, HEIGHT, (SCALE,)) as browser:
         browser.get("/")
@@ -37,13 +37,13 @@ def taken(path: pathlib.Path) -> None:
 
 def main() -> int:
     parser = argparse.ArgumentParser(
-        prog="env -C python python3 -m tests.endpoint.page_picture",
+        prog="env -C python python3 -m tests.endpoint.page.picture",
         description=__doc__,
         formatter_class=argparse.RawDescriptionHelpFormatter,
     )
     parser.add_argument("--keep", default=str(TOP / "docs/pictures"), metavar="FOLDER")
     asked = parser.parse_args()
-    start.needed("tests.endpoint.page_picture", "selenium")
+    start.needed("tests.endpoint.page.picture", "selenium")
     path = pathlib.Path(asked.keep, "sign-page.png")
     taken(path)
     sys.stdout.write(f"{path.name}: {path.stat().st_size} octets\n")

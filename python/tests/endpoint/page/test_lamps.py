@@ -13,7 +13,7 @@ from wisangub.process.places import SIGNTOOL, TOP
 from wisangub.snmp import wire
 from wisangub.snmp.names import Memory, cell, scalar
 
-from .page_bench import MODEL, PROGRAM
+from .bench import MODEL, PROGRAM
 
 GANTRY = TOP.joinpath("signs/gantry.sign").read_bytes()
 LINES = (b"page 1 on 30 off 0 back 0", b".9.", b"...", b"page 2 on 30 off 0 back 5", b"1..", b"..7")

@@ -9,7 +9,7 @@ from wisangub.endpoint.page.exchanges import MOST
 from wisangub.snmp import wire
 from wisangub.snmp.names import scalar
 
-from .page_bench import READER, Bench, Said, bench
+from .bench import READER, Bench, Said, bench
 
 WIDTH = scalar("vmsSignWidthPixels")
 
@@ -31,7 +31,7 @@ def test_events_come_after_a_set(one: Bench) -> None:
         held = b""
         while not events(held):
             held += browser.recv(1 << 16)
-        assert set(events(held)[0]) == {"lamps", "shown", "table", "datagrams"}
+        assert set(events(held)[0]) == {"run", "lamps", "shown", "table", "datagrams"}
         one.publish(b"FOG")
         while not any(part.get("shown", {}).get("text") == "FOG" for part in events(held)):
             held += browser.recv(1 << 16)
@@ -41,6 +41,15 @@ def test_events_come_after_a_set(one: Bench) -> None:
     facts = one.facts()
     assert facts["Mode"] == "central (8)" and facts["Left"] == "without end"
     assert facts["Message"].startswith("changeable 1, checksum ")
+
+
+def test_what_has_not_changed_is_not_told_again(one: Bench) -> None:
+    with one.listener() as browser:
+        held = b""
+        while len(events(held)) < 2:
+            one.get(WIDTH)
+            held += browser.recv(1 << 16)
+    assert set(events(held)[1]) == {"datagrams"}
 
 
 def test_who_and_the_table(one: Bench) -> None:

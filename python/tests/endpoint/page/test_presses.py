@@ -10,7 +10,7 @@ from wisangub.process.places import TOP
 from wisangub.snmp import wire
 from wisangub.snmp.names import Memory, RowStatus, cell, scalar
 
-from .page_bench import SIGN, Bench, bench
+from .bench import SIGN, Bench, bench
 
 SHORT = scalar("dmsShortPowerLossTime")
 MODE, LEFT = scalar("dmsMsgSourceMode"), scalar("dmsMessageTimeRemaining")

@@ -8,7 +8,7 @@ import pytest
 
 from wisangub.endpoint.page.presses import NAMES
 
-from .page_bench import Bench, bench
+from .bench import Bench, bench
 
 
 @pytest.fixture(scope="module")
@@ -97,4 +97,10 @@ def test_nothing_but_loopback_is_listened_on(one: Bench) -> None:
 
 def test_a_page_holds_the_documents_words_apart(one: Bench) -> None:
     text = one.asked("GET", "/", {})[1]
-    assert "@TOKEN@" not in text and "@TITLE@" not in text and "<script src=" in text and "http://" not in text
+    assert (
+        "@TOKEN@" not in text
+        and "@TITLE@" not in text
+        and "@RUN@" not in text
+        and "<script src=" in text
+        and "http://" not in text
+    )

@@ -14,7 +14,7 @@ needs.programs("chromium", "chromedriver")
 from tests.room.browser import Browser
 from wisangub.snmp.names import scalar
 
-from .page_bench import SIGN, Bench, bench
+from .bench import SIGN, Bench, bench
 
 FOLLOWS = "The page follows what happens."
 LOST = "The page has lost the sign, and tries again."
@@ -60,6 +60,7 @@ def test_the_lamps_follow_without_a_reload(one: Bench, browser: Browser) -> None
 
 def test_buttons(one: Bench, browser: Browser) -> None:
     one.publish(b"FOG")
+    browser.shows("#lamps", "roadside", "FOG")
     browser.click("[data-press=power-lost]")
     browser.says("power off", "#power")
     browser.says("powerLoss (13)", "#facts")
@@ -143,4 +144,7 @@ def test_the_page_finds_the_sign_again() -> None:
             made.says(FOLLOWS, "header")
             second.publish(b"FOG")
             made.says("FOG", "#text")
+            made.shows("#lamps", "roadside", "FOG")  # and all is in its place
             assert SIGN in made.text("h1")
+            made.click("[data-press=seconds]")
+            made.says("Done: let pass", "#done")

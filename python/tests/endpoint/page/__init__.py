@@ -1,0 +1,1 @@
+"""Tests of the page of a sign: `pytest python/tests/endpoint/page`."""
