@@ -40,8 +40,8 @@ def test_rows(made: MakesTree) -> None:
 
 
 def test_lengths(made: MakesTree) -> None:
-    tree = made(README_md="a\n" * 171, docs__MAP_md="a\n" * 200)
-    assert documents.long_pages(tree) == ["README.md: 171 lines, 170 at most"]
+    tree = made(README_md="a\n" * 181, docs__MAP_md="a\n" * 200)
+    assert documents.long_pages(tree) == ["README.md: 181 lines, 180 at most"]
 
 
 def test_links(made: MakesTree) -> None:
