@@ -60,9 +60,8 @@ ARENAS = {"roadside": 1 << 18, "gantry": 1 << 20}  # docs/C.md, "What it takes"
 def arena(trial: Trial, library: pathlib.Path) -> None:
     """The header test and a panel over a static arena, which is as large as the page says that a sign takes."""
     for sign, octets in ARENAS.items():
-        name, path = f"arena_{sign}", str(TOP / "signs" / f"{sign}.sign")
-        tests = [str(trial.folder / name / test) for test in ("header_test", "panel_test")]
-        way = Way(f"an arena for {sign}", name, words=("HEAP=arena.c", f"EXTRA=-DARENA_OCTETS={octets}", *tests))
+        path, words = str(TOP / "signs" / f"{sign}.sign"), ("HEAP=arena.c", f"EXTRA=-DARENA_OCTETS={octets}")
+        way = Way(f"an arena for {sign}", f"arena_{sign}", words=words, programs=("header_test", "panel_test"))
         if not trial.compiled(way, library):
             continue
         says_ok(trial, way, "header_test", path)

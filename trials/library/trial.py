@@ -30,14 +30,16 @@ class Way:
     folder: str
     by: tuple[str, ...] = ()
     words: tuple[str, ...] = ()  # of make
+    programs: tuple[str, ...] = ()  # that are compiled; else all
 
 
 PLAIN = Way("plain", "plain")
 SANITIZED = Way("sanitizers", "sanitized", words=(f"EXTRA={SANITIZE}",))
-REFUSING = Way("refused memory", "refusing", words=("HEAP=refusing_heap.c",))
+REFUSING = Way("refused memory", "refusing", words=("HEAP=refusing_heap.c",), programs=("talk",))
 UNDER_VALGRIND = Way("valgrind", "plain", VALGRIND)
-AARCH64 = Way("aarch64", "aarch64", QEMU, ("TARGET=aarch64",))
-ANY = Way("any x86-64", "any")
+OF_VECTORS = ("talk", "header_test")
+AARCH64 = Way("aarch64", "aarch64", QEMU, ("TARGET=aarch64",), OF_VECTORS)
+ANY = Way("any x86-64", "any", programs=OF_VECTORS)
 
 
 class Late(Exception):
@@ -94,6 +96,7 @@ class Trial:
         """Whether the examples can be compiled for a way."""
         folder = self.folder / way.folder
         words = ["make", "-s", f"LIBRARY={library}", f"OUT={folder}", *way.words]
+        words += [str(folder / program) for program in way.programs]
         status, said = self.ran(words, "", MOST_COMPILED, folder=TOP / "examples")
         return self.check(f"compile, {way.name}", status == 0, said)
 
