@@ -161,10 +161,22 @@ def other_version(trial: Trial) -> None:
         trial.check(f"a header of {'this' if is_linked else 'another'} version", is_so, said)
 
 
+def refused(trial: Trial) -> None:
+    """A compiler for 32 bits, or one that lays structs out otherwise, does not compile the header."""
+    header, packed = str(TOP / "include/wisangub.h"), "not the layout of the library"
+    for flags, why in (("-m32 -ffreestanding", "64-bit targets alone"), ("-fpack-struct", packed)):
+        status, said = trial.ran(["cc", "-std=c11", *flags.split(), "-fsyntax-only", "-x", "c", header])
+        if "unrecognized" in said:
+            trial.skip(f"the header with {flags}", "this compiler has no such target")
+        else:
+            trial.check(f"the header with {flags}", status != 0 and why in said, said)
+
+
 def run(trial: Trial, library: pathlib.Path) -> None:
     declared(trial)
     exported(trial)
     other_version(trial)
+    refused(trial)
     for part in (cpp, cmake, pkg_config):
         if trial.left() > 0:
             part(trial, library)
