@@ -62,8 +62,11 @@ def session(
     is_slow: bool = False,
     most_differences: int | None = None,
     watcher: Watcher | None = None,
+    both_ways: bool = False,
 ) -> Session:
     """A test of a sign, by itself the model's, beside an oracle, by itself the model."""
     sign = sign or Sign(text.described(description))
     oracle, judge = oracle or ModelOracle(description), judge or ModelJudge(description)
-    return bench.session(description, sign, oracle, judge, seed, faulty, requests, is_slow, most_differences, watcher)
+    return bench.session(
+        description, sign, oracle, judge, seed, faulty, requests, is_slow, most_differences, watcher, both_ways
+    )

@@ -17,7 +17,18 @@ from trials.wrong_signs.table import MUTANTS
 
 MODULES = tuple(
     f"tests.tester.test_{part}"
-    for part in ("signs", "judge", "udp", "parts", "reports", "ways", "seconds", "watch", "ask_vectors")
+    for part in (
+        "signs",
+        "judge",
+        "udp",
+        "parts",
+        "reports",
+        "ways",
+        "seconds",
+        "verdicts",
+        "watch",
+        "ask_vectors",
+    )
 )
 
 

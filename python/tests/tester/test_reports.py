@@ -1,6 +1,8 @@
 """What is told of a sign, on a terminal, as a page, as JSON and as JUnit."""
 
 import json
+import pathlib
+import tempfile
 import xml.etree.ElementTree as ET
 
 from model import text
@@ -9,14 +11,18 @@ from model.sign import Sign
 from trials.wrong_signs import bench
 from trials.wrong_signs.load import sign_of
 from trials.wrong_signs.table import MUTANTS
+from wisangub.refusal import Refusal
 from wisangub.snmp import wire
 from wisangub.snmp.names import scalar
 from wisangub.tester.chapters import ALL
 from wisangub.tester.context import Context
-from wisangub.tester.findings.compare import Kind
+from wisangub.tester.findings.compare import Kind, fields
 from wisangub.tester.findings.differences import Difference
-from wisangub.tester.findings.results import Results
+from wisangub.tester.findings.results import Results, Verdict
+from wisangub.tester.findings.rules import RULES
 from wisangub.tester.report import files, page, terminal, words
+from wisangub.tester.report.baseline import Baseline
+from wisangub.tester.report.causes import cause, causes
 from wisangub.tester.report.picture import pictures
 from wisangub.tester.requests.objects import Name, Value
 
@@ -91,7 +97,10 @@ def test_what_was_changed_since_the_description_is_told_and_set_back() -> None:
     sign.state.ask(3, 1, 6)
     session = bench.session(text.BENCH, sign, requests=0)
     results = bench.run(session, ["communities"])
-    assert results.set_back == [("defaultPageOnTime.0", "30", "99"), ("dmsMessageStatus.3.1", "1", "2")]
+    assert results.set_back == [
+        ("defaultPageOnTime.0", "30", "99"),
+        ("dmsMessageStatus.3.1", "1 (notUsed)", "2 (modifying)"),
+    ]
     assert results.is_clean() and sign.state.defaults[7] == 30 and sign.state.rows[3][0].status == 1
     told = "\n".join(terminal.ending(results, ABOUT, []))
     assert "defaultPageOnTime.0 is 30 in the description, was 99 on the sign" in told
@@ -102,3 +111,69 @@ def test_another_matrix_is_told_first() -> None:
     results, _ = found("height_and_width_exchanged")
     assert [name for name, _, _ in results.configuration] == ["vmsSignHeightPixels.0", "vmsSignWidthPixels.0"]
     assert "Described otherwise" in page.as_html(results, ABOUT, [])
+
+
+def test_one_line_says_what_a_rule_s_differences_are() -> None:
+    results, _ = found("the_reader_writes", "communities")
+    held = results.differences()[0]
+    assert cause(held).startswith("takes ") and "; expected: noSuchName" in cause(held), cause(held)
+    assert causes([held, held])[0] == f"communities: {cause(held)}, since: {held.rule.sentence} (2 differences)"
+    shown = "\n".join(terminal.ending(results, ABOUT, []))
+    assert "what differs:" in shown and cause(held) in page.as_html(results, ABOUT, []).replace("&#x27;", "'")
+
+
+def test_numbers_have_their_words_and_control_octets_are_shown_as_such() -> None:
+    code = scalar("dmsMultiSyntaxError")
+    message = wire.Message(wire.RESPONSE, b"a\7\xe4", 7, 0, 0, [(code, (wire.INTEGER, 11))])
+    assert fields(wire.written(message)) == [
+        "Response of a\\x07\\xe4, request-id 7, noError, index 0",
+        "dmsMultiSyntaxError.0 = 11 (tagConflict)",
+    ]
+
+
+def test_a_rule_is_the_standard_s_where_its_source_is_named() -> None:
+    held = first("the_reader_writes", "communities")
+    assert words.origin(held) == "the profile's"
+    held.rule = RULES["needless octets"]
+    assert words.origin(held) == "(own): this profile's choice"
+    named = [rule for rule in RULES.values() if "RFC 1157" in rule.sentence and not rule.own]
+    held.rule = named[0]
+    assert words.origin(held).startswith("the standard's: RFC 1157")
+
+
+def test_junit_has_a_case_a_difference_and_skips_what_was_not_asked_for() -> None:
+    results, _ = found("the_reader_writes", "communities")
+    suite = ET.fromstring(files.as_junit(results, ABOUT))
+    failed = [case for case in suite.iter("testcase") if case.find("failure") is not None]
+    assert len(failed) == len(results.differences()) and failed[0].get("classname") == "conform.communities"
+    skipped = [case.get("name") for case in suite.iter("testcase") if case.find("skipped") is not None]
+    assert "silence" in skipped and suite.get("skipped") == str(len(skipped)) and suite.get("hostname") == ABOUT.to
+
+
+def test_a_description_of_another_sign_ends_the_test_unless_it_goes_on_anyway() -> None:
+    for is_anyway in (False, True):
+        wider = text.BENCH.replace(b"size 23 14", b"size 24 14")
+        session = bench.session(text.BENCH, Sign(text.described(wider)), requests=0)
+        session.is_anyway = is_anyway
+        results = bench.run(session, ["communities"])
+        assert results.verdict() is Verdict.DIFFERS and bool(results.stopped) is not is_anyway
+        assert bool(results.chapters) is is_anyway and session.reset.is_begun is is_anyway
+
+
+def test_an_earlier_report_says_what_is_new_and_what_is_gone() -> None:
+    with tempfile.TemporaryDirectory() as folder:
+        path = pathlib.Path(folder) / "report.json"
+        results, _ = found("the_reader_writes", "communities")
+        path.write_text(files.as_json(results, ABOUT, []), encoding="utf-8")
+        before = Baseline.read(path)
+        assert before.lines(results) == ["as on today (differs)"]
+        gone = before.lines(Results())
+        assert gone == ["as on today (differs), but for:", f"  gone: {cause(results.differences()[0])}"]
+        for words_of in ("", "[]", "{}"):
+            path.write_text(words_of, encoding="utf-8")
+            try:
+                Baseline.read(path)
+            except Refusal as refused:
+                assert "is no report" in str(refused)
+            else:
+                raise AssertionError(words_of)

@@ -128,7 +128,10 @@ def test_what_does_not_come_again_is_counted_and_is_no_difference() -> None:
     assert slipping.left == 0 and session.results.is_clean() and len(result.once) == 1
     about = words.About("127.0.0.1:1", "bench.sign", "model", None, 1, 0, False, "today")
     told = "\n".join(terminal.ending(session.results, about, []))
-    assert "nothing differs; 1 seen once, and not again" in told and "defaultPageOnTime.0" in told
+    assert (
+        "differs: no difference that comes again; 1 wrong replies now and then" in told
+        and "defaultPageOnTime.0" in told
+    )
 
 
 def test_lost_replies_leave_few_sequences_untold() -> None:

@@ -2,27 +2,63 @@
 
 import argparse
 import datetime
+import math
 import pathlib
+import signal
 import sys
+from types import FrameType
 
 from wisangub.process.places import SIGNTOOL, add_version, called
-from wisangub.refusal import Refusal
+from wisangub.refusal import Refusal, reason
 
 from .chapters import ALL, NAMES
 from .context import Context
-from .findings.results import Results
-from .report import files, page, terminal, words
+from .findings.results import LOSSY, Quiet, Watcher
+from .report import terminal, words
+from .report.baseline import Baseline
+from .report.outputs import Outputs
 from .report.picture import pictures
 from .runs.repeat import repeat
 from .session import Session, chapters_of
 from .sign.clock import RealClock
-from .sign.described import Bad, described
+from .sign.described import Bad, cause, described
 from .sign.judge import Judge, SignJudge
 from .sign.link import UdpLink
 from .sign.oracle import Oracle, made
 from .sign.pair import Pair
 from .sign.port import Port
 from .sign.ticks import Ticks
+
+
+def above_nothing(word: str) -> float:
+    """A number above 0: the type of an option."""
+    number = float(word)
+    if not 0 < number < math.inf:
+        raise ValueError
+    return number
+
+
+def share(word: str) -> float:
+    """A number from 0 to 100: the type of an option."""
+    number = float(word)
+    if not 0 <= number <= 100:
+        raise ValueError
+    return number
+
+
+def whole(word: str) -> int:
+    """A whole number that is not below 0: the type of an option."""
+    number = int(word)
+    if number < 0:
+        raise ValueError
+    return number
+
+
+def count(word: str) -> int:
+    """A whole number above 0: the type of an option."""
+    if whole(word) == 0:
+        raise ValueError
+    return int(word)
 
 
 def _arguments() -> argparse.ArgumentParser:
@@ -38,7 +74,7 @@ def _arguments() -> argparse.ArgumentParser:
         "--communities", nargs=2, metavar=("READER", "WRITER"), help="others than those of the description"
     )
     parser.add_argument("--seed", type=int, default=1, help="of the random requests")
-    parser.add_argument("--requests", type=int, default=500, help="how many random requests")
+    parser.add_argument("--requests", type=whole, default=500, help="how many random requests")
     parser.add_argument(
         "--only",
         action="append",
@@ -59,7 +95,27 @@ def _arguments() -> argparse.ArgumentParser:
         metavar="PATH",
         help="the program that is the oracle; `model` is that of model",
     )
-    parser.add_argument("--wait", type=float, default=1.0, metavar="SECONDS", help="how long a reply may take")
+    parser.add_argument("--wait", type=above_nothing, default=1.0, metavar="SECONDS", help="how long a reply may take")
+    parser.add_argument(
+        "--lossy",
+        type=share,
+        default=LOSSY,
+        metavar="PERCENT",
+        help="replies that may be lost, late or doubled; where more are, the sign is not judged",
+    )
+    parser.add_argument(
+        "--silent",
+        type=count,
+        metavar="N",
+        help="the test ends after so many requests in a row without a reply; else after 30 seconds without one",
+    )
+    parser.add_argument("--budget", type=above_nothing, metavar="MINUTES", help="the test ends after so many")
+    parser.add_argument(
+        "--anyway", action="store_true", help="goes on where the sign has another size or other rows than described"
+    )
+    parser.add_argument(
+        "--baseline", type=pathlib.Path, metavar="FILE", help="says what is new and what is gone since this JSON report"
+    )
     parser.add_argument("--repeat", metavar="SEQUENCE", help="a sequence that a report printed, alone")
     return parser
 
@@ -85,15 +141,6 @@ def _address(to: str) -> tuple[str, int]:
     return host.strip("[]"), int(port)
 
 
-def _write_files(asked: argparse.Namespace, results: Results, about: words.About, not_tested: list[str]) -> None:
-    if asked.html:
-        asked.html.write_text(page.as_html(results, about, not_tested), encoding="utf-8")
-    if asked.junit:
-        asked.junit.write_text(files.as_junit(results, about), encoding="utf-8")
-    if asked.json:
-        asked.json.write_text(files.as_json(results, about, not_tested), encoding="utf-8")
-
-
 def _about_of(asked: argparse.Namespace) -> words.About:
     oracle = "model" if asked.signtool == "model" else asked.signtool
     program = "" if asked.signtool == str(SIGNTOOL) else asked.signtool
@@ -104,44 +151,74 @@ def _about_of(asked: argparse.Namespace) -> words.About:
     )
 
 
-def _test(asked: argparse.Namespace, description: bytes, oracle: Oracle, judge: Judge) -> int:
+def _session(asked: argparse.Namespace, description: bytes, oracle: Oracle, judge: Judge, watcher: Watcher) -> Session:
+    """The test of the sign at its address."""
     sign, clock = described(description), RealClock()
     communities = (sign.reader, sign.writer)
-    link = UdpLink(*_address(asked.to), clock)
-    pair = Pair(Port(link, clock, asked.wait), oracle, clock, Ticks(clock), communities)
+    port = Port(UdpLink(*_address(asked.to), clock), clock, asked.wait, patience=asked.silent)
+    if asked.budget is not None:
+        port.way.deadline = clock.now() + 60 * asked.budget
+    pair = Pair(port, oracle, clock, Ticks(clock), communities)
     context = Context(sign, communities, judge, asked.seed, asked.requests, asked.slow)
-    watcher = terminal.watcher()
     session = Session(pair, context, watcher)
+    session.results.lossy, session.is_anyway = asked.lossy, asked.anyway
+    return session
+
+
+def _tested(asked: argparse.Namespace, session: Session, watcher: terminal.Plain) -> int:
+    """The whole test and its reports. Raises Refusal where one cannot be written."""
+    about, context = _about_of(asked), session.context
+    baseline = Baseline.read(asked.baseline) if asked.baseline else None
+    outputs = Outputs(asked, about, lambda results: words.not_tested(context, results, ALL))
     try:
-        if asked.repeat is not None:
-            return repeat(session, asked.repeat)
-        results = session.run(chapters_of(asked.only))
+        print(words.head(about), flush=True)
+        watcher.after = lambda: outputs.write(session.results)
+        try:
+            results = session.run(chapters_of(asked.only, asked.slow))
+        finally:
+            watcher.close()
+        for difference in results.differences():
+            difference.pictures = pictures(difference, context)
+        print("\n".join(terminal.ending(results, about, words.not_tested(context, results, ALL))), flush=True)
+        if baseline is not None:
+            print("\n".join(baseline.lines(results)), flush=True)
+        outputs.write(results)
     finally:
-        watcher.close()
-        link.close()
-    for difference in results.differences():
-        difference.pictures = pictures(difference, context)
-    about, not_tested = _about_of(asked), words.not_tested(context, results, ALL)
-    print("\n".join(terminal.ending(results, about, not_tested)), flush=True)
-    _write_files(asked, results, about, not_tested)
-    return 0 if results.is_clean() else 2 if results.is_silent else 1
+        outputs.close()
+    return results.verdict().status
+
+
+def _interrupted(_number: int, _frame: FrameType | None) -> None:
+    """The first signal ends the test; the sign is put back and the report written, whatever comes after it."""
+    for number in (signal.SIGINT, signal.SIGTERM):
+        signal.signal(number, signal.SIG_IGN)
+    raise KeyboardInterrupt
 
 
 def main() -> int:
     asked = _arguments().parse_args()
+    oracle: Oracle | None = None
+    judge: Judge | None = None
+    for number in (signal.SIGINT, signal.SIGTERM):
+        signal.signal(number, _interrupted)
     try:
         description = _described_with(asked.sign, asked.communities)
-        _address(asked.to)
         oracle = made(asked.signtool, description)
         judge = SignJudge(asked.signtool, description)
-    except (OSError, ValueError, Bad, Refusal) as fault:
-        print(f"{asked.sign}: {fault}" if isinstance(fault, Bad) else fault, file=sys.stderr)
-        return 2
-    try:
-        return _test(asked, description, oracle, judge)
+        if asked.repeat is not None:
+            return repeat(_session(asked, description, oracle, judge, Quiet()), asked.repeat)
+        watcher = terminal.watcher()
+        return _tested(asked, _session(asked, description, oracle, judge, watcher), watcher)
+    except Bad as fault:
+        print(f"{asked.sign}: {fault}{cause(asked.sign, fault)}", file=sys.stderr)
+    except OSError as fault:
+        print(reason(fault), file=sys.stderr)
+    except (ValueError, Refusal) as fault:
+        print(fault, file=sys.stderr)
     except KeyboardInterrupt:
-        print("interrupted", file=sys.stderr)
-        return 2
+        print("interrupted before the first datagram", file=sys.stderr)
     finally:
-        oracle.end()
-        judge.end()
+        for part in (oracle, judge):
+            if part is not None:
+                part.end()
+    return 2

@@ -14,11 +14,13 @@ from .requests.steps import Step, datagrams
 from .runs.runner import Run, Runner
 from .runs.shrinking import shrunk
 from .sign.pair import Inconclusive, Pair
+from .sign.way import Stopped
 from .state.known_state import Unreachable
 from .state.preflight import Preflight
 from .state.reset import Reset
 
 MOST_SHRUNK, MOST_TOLD = 4, 12  # differences of a chapter that are made small, and that are told
+PASSES = 4  # times that what could not be judged is begun again at the end of its chapter
 
 
 @dataclass
@@ -28,6 +30,7 @@ class Session:
     watcher: Watcher
     most_differences: int | None = None  # the test ends at so many
     most_seconds: float = 40.0
+    is_anyway: bool = False  # whether it goes on where the sign has another size or other rows than described
     results: Results = field(default_factory=Results)
 
     def __post_init__(self) -> None:
@@ -39,15 +42,35 @@ class Session:
         return self.most_differences is not None and len(self.results.differences()) >= self.most_differences
 
     def run(self, chapters: Sequence[Chapter]) -> Results:
-        is_heard = self.preflight.begin()
+        """These chapters. A sign that falls silent, time that is over and an interrupt end them; then the sign is put
+        back as far as it can be."""
+        self.results.asked, self.results.is_slow = chapters, self.context.is_slow
+        self.results.way = self.pair.port.way
+        try:
+            self._run(chapters)
+        except Stopped as why:
+            self.results.stopped = str(why)
+        except KeyboardInterrupt:
+            self.results.stopped = "it was interrupted"
+        if self.reset.is_begun:
+            self._put_back()
+        return self.results
+
+    def _run(self, chapters: Sequence[Chapter]) -> None:
+        is_heard = self.preflight.begin(self.is_anyway)
         for chapter in chapters if is_heard else []:
             if self.is_enough():
                 break
             if not chapter.is_slow or self.context.is_slow:
                 self.chapter(chapter)
-        if is_heard:
-            self.reset.reach()
-        return self.results
+
+    def _put_back(self) -> None:
+        """The sign in the known state, where it answers."""
+        self.pair.port.way.begin_anew()
+        try:
+            self.results.is_set_back = not self.reset.reach()
+        except (Stopped, Inconclusive, KeyboardInterrupt):
+            self.results.is_set_back = False
 
     # --- chapters --------------------------------------------------------------------------------------------
 
@@ -55,18 +78,35 @@ class Session:
         result = ChapterResult(chapter)
         self.results.chapters.append(result)
         blocks = list(chapter.blocks(self.context))
+        result.wanted = len(blocks)
         begun, requests = self.pair.clock.now(), self.pair.requests
         self.watcher.begun(chapter, len(blocks))
         history: list[Step] | None = None
-        for at, block in enumerate(blocks):
-            history = self.block(result, block, history)
-            result.blocks += 1
-            result.requests = self.pair.requests - requests
-            self.watcher.went_on(result, at)
-            if self.is_enough():
+        try:
+            for at, block in enumerate(blocks):
+                history = self.block(result, block, history)
+                result.blocks += 1
+                result.requests = self.pair.requests - requests
+                self.watcher.went_on(result, at)
+                if self.is_enough():
+                    break
+            self._judge_left(result)
+        finally:
+            result.seconds = self.pair.clock.now() - begun
+            self.watcher.ended(result)
+
+    def _judge_left(self, result: ChapterResult) -> None:
+        """What could not be judged is begun again, unless that hangs on ticks that are not known."""
+        for _ in range(PASSES):
+            if not result.left or self.is_enough() or self.reset.is_unlearnt():
                 break
-        result.seconds = self.pair.clock.now() - begun
-        self.watcher.ended(result)
+            left, result.left = result.left, []
+            for at, block in enumerate(left):
+                try:
+                    self.block(result, block, None)
+                except Stopped:
+                    result.left += left[at:]
+                    raise
 
     def block(self, result: ChapterResult, block: Block, history: list[Step] | None) -> list[Step] | None:
         """What was done since the known state after this block; None where it is to be reached anew."""
@@ -86,7 +126,7 @@ class Session:
             is_first = history is not None and not block.is_fresh
             if is_first:
                 return self.again(result, block, history)
-            self.cannot_tell(result)
+            result.left.append(block)
             return None
         result.told += datagrams(block.steps if run is None else run.steps)
         if run is None:
@@ -98,9 +138,6 @@ class Session:
         """A block that could not be told in its place, from the known state, with what was done before it."""
         before = [] if history is None or block.is_fresh else history
         return self.block(result, replace(block, steps=[*before, *block.steps], is_fresh=True), None)
-
-    def cannot_tell(self, result: ChapterResult) -> None:
-        result.untold += 1
 
     def rule_of(self, block: Block, run: Run, is_small: bool = False) -> Rule:
         exchange = run.exchange
@@ -156,7 +193,7 @@ class Session:
         is_shrunk = sum(held.is_shrunk for held in result.differences) < MOST_SHRUNK
         run, is_repeated = self.made_small(run, steps, is_shrunk)
         if not is_repeated and self.is_loss(run):
-            result.untold += 1
+            result.left.append(replace(block, steps=run.steps, is_fresh=True))
             return
         rule = self.rule_of(block, run, is_repeated and is_shrunk)
         found = Difference.of(rule, result.chapter.name, run.exchange, run.steps, run.sent)
@@ -176,5 +213,6 @@ class Session:
             result.once[-1].alike += 1
 
 
-def chapters_of(names: Sequence[str]) -> list[Chapter]:
-    return [chapter for chapter in ALL if not names or chapter.name in names]
+def chapters_of(names: Sequence[str], is_slow: bool) -> list[Chapter]:
+    """The chapters of these names, or all; slow ones only where they are named or slow cases asked for."""
+    return [chapter for chapter in ALL if chapter.name in names or not names and (is_slow or not chapter.is_slow)]

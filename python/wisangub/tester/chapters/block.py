@@ -1,6 +1,6 @@
 """What a chapter is made of, and the steps that many chapters begin with."""
 
-from dataclasses import dataclass, field
+from dataclasses import dataclass
 from typing import Callable, Iterator, Sequence
 
 from wisangub.snmp.names import RowStatus
@@ -25,11 +25,13 @@ class Block:
 
 @dataclass
 class Chapter:
+    """The cases about one part of the profile."""
+
     name: str
     title: str
     blocks: Callable[[Context], Iterator[Block]]
     is_slow: bool = False
-    notes: list[str] = field(default_factory=list)
+    is_never_empty: bool = False  # it has cases for any sign
 
 
 def modify(row: Row) -> Ask:

@@ -107,4 +107,4 @@ def _blocks(context: Context) -> Iterator[Block]:
         yield Block(f"random requests, sequence {number}", "", steps, True)
 
 
-CHAPTER = Chapter("random", "Random requests", _blocks)
+CHAPTER = Chapter("random", "Random requests", _blocks, is_never_empty=True)

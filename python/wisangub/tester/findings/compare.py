@@ -1,9 +1,11 @@
 """How two replies to one request differ."""
 
+import functools
 from dataclasses import dataclass
 from enum import Enum
 
 from wisangub.snmp import wire
+from wisangub.snmp.mib import Mib
 from wisangub.snmp.names import KINDS, TYPES, status_word
 from wisangub.tester.requests.messages import spelled
 from wisangub.tester.requests.objects import Name, spoken
@@ -68,11 +70,19 @@ def _differing_names(want: wire.Message, have: wire.Message) -> tuple[Name, ...]
     )
 
 
-def value_words(tagged: tuple[int, int | bytes | Name]) -> str:
-    """A value for readers."""
+@functools.lru_cache(maxsize=1)
+def _words() -> Mib:
+    """The words of values, where the MIB is here."""
+    return Mib.read()
+
+
+def value_words(tagged: tuple[int, int | bytes | Name], name: Name = ()) -> str:
+    """A value for readers, with the word that it has as one of this object: `5 (error)`."""
     tag, held = tagged
     if isinstance(held, int):
-        return str(held) if tag == wire.INTEGER else f"{TYPES[tag]} {held}"
+        word = _words().word(name, held) if tag == wire.INTEGER and name else ""
+        said = f"{held} ({word})" if word else str(held)
+        return said if tag == wire.INTEGER else f"{TYPES[tag]} {held}"
     if isinstance(held, tuple):
         return f"{TYPES[tag]} {spoken(held)}"
     if tag == wire.ADDRESS:
@@ -84,6 +94,11 @@ def value_words(tagged: tuple[int, int | bytes | Name]) -> str:
     return f"{TYPES[tag]} {held.hex() or 'of no octets'}"
 
 
+def shown(octets: bytes) -> str:
+    """Octets as text, with those that are no printable ASCII as \\x and two digits."""
+    return "".join(chr(octet) if 32 <= octet < 127 else f"\\x{octet:02x}" for octet in octets)
+
+
 def fields(octets: bytes | None) -> list[str]:
     """A datagram's fields for readers, a line each."""
     if octets is None:
@@ -92,8 +107,8 @@ def fields(octets: bytes | None) -> list[str]:
         message = wire.read(octets)
     except wire.Fault as fault:
         return [f"no message: {fault.kind} at octet {fault.offset}"]
-    community = message.community.decode("ascii", "backslashreplace")
+    community = shown(message.community)
     head = f"{KINDS[message.kind]} of {community}, request-id {message.number}"
     if message.kind == wire.RESPONSE or message.status or message.index:
         head += f", {status_word(message.status)}, index {message.index}"
-    return [head] + [f"{spoken(name)} = {value_words(value)}" for name, value in message.bindings]
+    return [head] + [f"{spoken(name)} = {value_words(value, name)}" for name, value in message.bindings]

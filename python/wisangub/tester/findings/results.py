@@ -1,23 +1,49 @@
-"""What a test found, and who is told while it goes on."""
+"""What a test found, its verdict, and who is told while it goes on."""
 
+import enum
 from dataclasses import dataclass, field
-from typing import Protocol
+from typing import Protocol, Sequence
 
-from wisangub.tester.chapters import Chapter
+from wisangub.tester.chapters import Block, Chapter
+from wisangub.tester.sign.way import LONGEST_SILENCE, Way
 
 from .differences import Difference
+
+LOSSY = 2.0  # percent of the requests that may be without a reply in time or have two, where nothing is said
+
+
+class Verdict(enum.Enum):
+    """What a test says of a sign."""
+
+    CONFORMS = "conforms"
+    DIFFERS = "differs"
+    NOT_JUDGED = "not judged"
+    UNREACHED = "the sign does not answer"
+
+    @property
+    def status(self) -> int:
+        """The exit status of the command."""
+        return {Verdict.CONFORMS: 0, Verdict.DIFFERS: 1, Verdict.NOT_JUDGED: 3, Verdict.UNREACHED: 2}[self]
 
 
 @dataclass
 class ChapterResult:
+    """What came of a chapter: of `wanted` cases so many were begun."""
+
     chapter: Chapter
+    wanted: int = 0
     blocks: int = 0
     requests: int = 0
     told: int = 0  # requests of blocks of which it is told whether they differ
     seconds: float = 0.0
     differences: list[Difference] = field(default_factory=list)
     once: list[Difference] = field(default_factory=list)  # seen once, and not again from the known state
-    untold: int = 0  # blocks of which it could not be told whether they differ
+    left: list[Block] = field(default_factory=list)  # of which it could not be told whether they differ
+
+    @property
+    def untold(self) -> int:
+        """How many blocks could not be judged."""
+        return len(self.left)
 
 
 class Watcher(Protocol):
@@ -38,8 +64,17 @@ class Watcher(Protocol):
 
 @dataclass
 class Results:
+    """What came of a test. Without `way` its datagrams were not counted."""
+
+    way: Way | None = None
+    asked: Sequence[Chapter] = ()  # the chapters that were asked for
+    is_slow: bool = False
+    lossy: float = LOSSY  # percent
+    stopped: str = ""  # why the test ended before its last case
+    is_set_back: bool = True
     chapters: list[ChapterResult] = field(default_factory=list)
     before: list[Difference] = field(default_factory=list)
+    once_before: list[Difference] = field(default_factory=list)  # as `once` of a chapter, before any of them
     configuration: list[tuple[str, str, str]] = field(default_factory=list)  # object, as described, as read
     set_back: list[tuple[str, str, str]] = field(default_factory=list)  # what the known state changes, likewise
     is_silent: bool = False
@@ -49,11 +84,50 @@ class Results:
         return self.before + [difference for result in self.chapters for difference in result.differences]
 
     def once(self) -> list[Difference]:
-        """What was seen once, and did not come again: no differences."""
-        return [held for result in self.chapters for held in result.once]
+        """What was seen once, and did not come again: wrong now and then."""
+        return self.once_before + [held for result in self.chapters for held in result.once]
 
     def is_clean(self) -> bool:
+        """Whether no difference came again, be all of it judged or not."""
         return not self.is_silent and not self.configuration and not self.differences()
+
+    def is_odd(self) -> bool:
+        """Whether a reply was wrong now and then, or the sign began anew by itself."""
+        return bool(self.once()) or self.way is not None and bool(self.way.odd or self.way.reboots)
+
+    def unjudged(self) -> list[str]:
+        """Why it cannot be said that the sign conforms, a sentence each."""
+        found = [f"the test was stopped: {self.stopped}"] if self.stopped else []
+        found += [line for chapter in self.asked if (line := self._unjudged_of(chapter))]
+        if not self.is_learnt:
+            found.append("no validation settled while it was watched, so the moment of its seconds is not known")
+        if self.way is not None and self.way.percent() > self.lossy:
+            found.append(
+                f"{self.way.percent():.1f} % of the replies were lost, late or doubled (--lossy {self.lossy:g})"
+            )
+        if self.way is not None and self.way.longest > LONGEST_SILENCE:
+            found.append(f"the sign was silent for {self.way.longest:.1f} s")
+        return found
+
+    def _unjudged_of(self, chapter: Chapter) -> str:
+        """What was not judged of a chapter that was asked for."""
+        if chapter.is_slow and not self.is_slow:
+            return f"{chapter.title}: its cases are slow, and run with --slow alone"
+        held = next((result for result in self.chapters if result.chapter is chapter), None)
+        if held is None:
+            return f"{chapter.title}: not come to"
+        missing = held.wanted - held.blocks + held.untold
+        if not held.wanted and chapter.is_never_empty:
+            return f"{chapter.title}: no case was asked for"
+        return f"{chapter.title}: {missing} of {held.wanted} cases were not judged" if missing else ""
+
+    def verdict(self) -> Verdict:
+        """What is said of the sign."""
+        if self.is_odd() or self.configuration or self.differences():
+            return Verdict.DIFFERS
+        if self.is_silent:
+            return Verdict.UNREACHED
+        return Verdict.NOT_JUDGED if self.unjudged() else Verdict.CONFORMS
 
 
 class Quiet:

@@ -5,10 +5,13 @@ import xml.etree.ElementTree as ET
 from typing import Any
 
 from wisangub.tester.findings.differences import Difference
-from wisangub.tester.findings.results import Results
+from wisangub.tester.findings.results import Results, Verdict
+from wisangub.tester.findings.rules import CHAPTERS
+from wisangub.tester.sign.way import Oddity
 
+from .causes import cause, causes
 from .terminal import difference_lines
-from .words import About, how_sure, origin, sequence, verdict
+from .words import About, head, how_sure, origin, sequence, verdict, way_words
 
 
 def as_json(results: Results, about: About, not_tested: list[str]) -> str:
@@ -18,6 +21,7 @@ def as_json(results: Results, about: About, not_tested: list[str]) -> str:
             "name": held.chapter.name,
             "title": held.chapter.title,
             "cases": held.blocks,
+            "wanted": held.wanted,
             "requests": held.requests,
             "seconds": round(held.seconds, 3),
             "not_told": held.untold,
@@ -27,21 +31,38 @@ def as_json(results: Results, about: About, not_tested: list[str]) -> str:
         for held in results.chapters
     ]
     whole = {
-        "verdict": verdict(results),
+        "about": head(about),
+        "verdict": results.verdict().value,
+        "words": verdict(results),
+        "status": results.verdict().status,
         "clean": results.is_clean(),
         "to": about.to,
         "sign": about.sign,
         "oracle": about.oracle,
         "when": about.when,
         "seed": about.seed,
+        "causes": causes(results.differences()),
         "configuration": _objects(results.configuration),
         "set_back": _objects(results.set_back),
         "chapters": chapters,
         "differences": [_one(difference, about) for difference in results.differences()],
         "seen_once": [_one(difference, about) for difference in results.once()],
+        "now_and_then": _odd(results),
+        "way": way_words(results),
+        "not_judged": results.unjudged(),
         "not_tested": not_tested,
     }
     return json.dumps(whole, indent=1) + "\n"
+
+
+def _odd(results: Results) -> dict[str, int]:
+    """How often each class of replies was seen that no way makes of a right one."""
+    way = results.way
+    found = {"a wrong reply that did not come again": sum(1 + held.alike for held in results.once())}
+    if way is not None:
+        found |= {oddity.value: way.odd[oddity] for oddity in Oddity}
+        found["the sign began anew by itself"] = way.reboots
+    return found
 
 
 def _objects(held: list[tuple[str, str, str]]) -> list[dict[str, str]]:
@@ -61,6 +82,7 @@ def _one(difference: Difference, about: About) -> dict[str, Any]:
         "found_in": difference.found_in,
         "class": difference.mismatch.kind.value,
         "title": difference.title,
+        "cause": cause(difference),
         "rule": rule,
         "origin": origin(difference),
         "datagrams": difference.datagrams,
@@ -78,29 +100,46 @@ def _one(difference: Difference, about: About) -> dict[str, Any]:
 
 
 def as_junit(results: Results, about: About) -> str:
-    """A test case a chapter, and a failure a difference."""
-    by_chapter: dict[str, list[Difference]] = {}
-    for difference in results.differences():
-        by_chapter.setdefault(difference.rule.chapter, []).append(difference)
-    names = list(dict.fromkeys(["before", *[held.chapter.name for held in results.chapters], *by_chapter]))
-    seconds = {held.chapter.name: held.seconds for held in results.chapters}
-    failures = sum(name in by_chapter for name in names) + results.is_silent
-    suite = ET.Element(
-        "testsuite",
-        name="conform",
-        tests=str(len(names)),
-        failures=str(failures),
-        errors="0",
-        time=f"{sum(seconds.values()):.3f}",
-    )
-    for name in names:
-        case = ET.SubElement(suite, "testcase", classname="conform", name=name, time=f"{seconds.get(name, 0):.3f}")
-        for number, difference in enumerate(by_chapter.get(name, []), 1):
-            failure = ET.SubElement(case, "failure", type=difference.mismatch.kind.value, message=difference.title)
-            failure.text = _printable("\n".join(difference_lines(number, difference, about)))
-        if name == "before" and results.is_silent:
-            ET.SubElement(case, "failure", type="no answer", message="the sign does not answer")
+    """A test case a difference, one for each chapter that shows none, and the verdict as the last."""
+    found = results.verdict()
+    suite = ET.Element("testsuite", name="conform", hostname=about.to, timestamp=about.when.replace(" ", "T"))
+    for name in dict.fromkeys(["before", *CHAPTERS]):
+        _chapter_cases(suite, name, results, about)
+    last = ET.SubElement(suite, "testcase", classname="conform.verdict", name="verdict", time="0.000")
+    if found in (Verdict.NOT_JUDGED, Verdict.UNREACHED):
+        ET.SubElement(last, "error", type=found.value, message=_printable(verdict(results)))
+    elif results.is_odd():
+        ET.SubElement(last, "failure", type="now and then", message=_printable(verdict(results)))
+    for kind, tag in (("tests", "testcase"), ("failures", "failure"), ("errors", "error"), ("skipped", "skipped")):
+        suite.set(kind, str(len(list(suite.iter(tag)))))
+    suite.set("time", f"{sum(held.seconds for held in results.chapters):.3f}")
+    ET.SubElement(suite, "system-out").text = _printable(head(about))
     return ET.tostring(suite, encoding="unicode", xml_declaration=True) + "\n"
+
+
+def _chapter_cases(suite: ET.Element, name: str, results: Results, about: About) -> None:
+    """The test cases of a chapter: its differences, or that it shows none or was not asked for. Its seconds stand at
+    the first."""
+    held = next((chapter for chapter in results.chapters if chapter.chapter.name == name), None)
+    seconds = f"{held.seconds if held is not None else 0:.3f}"
+    differences = [difference for difference in results.differences() if difference.rule.chapter == name]
+    for number, difference in enumerate(differences, 1):
+        case = ET.SubElement(
+            suite,
+            "testcase",
+            classname=f"conform.{name}",
+            name=_printable(f"{number} {cause(difference)}"),
+            time=seconds,
+        )
+        failure = ET.SubElement(
+            case, "failure", type=difference.mismatch.kind.value, message=_printable(cause(difference))
+        )
+        failure.text = _printable("\n".join(difference_lines(number, difference, about)))
+        seconds = "0.000"
+    if not differences:
+        case = ET.SubElement(suite, "testcase", classname=f"conform.{name}", name=name, time=seconds)
+        if held is None and name != "before":
+            ET.SubElement(case, "skipped", message="not asked for, or not come to")
 
 
 def _printable(text: str) -> str:

@@ -4,10 +4,11 @@ import html
 import pathlib
 
 from wisangub.tester.findings.differences import Difference
-from wisangub.tester.findings.results import ChapterResult, Results
+from wisangub.tester.findings.results import ChapterResult, Results, Verdict
 
+from .causes import cause, causes
 from .picture import pages_of, svg
-from .words import About, how_sure, origin, sequence, verdict
+from .words import About, head, how_sure, origin, sequence, verdict, way_words
 
 _STYLE = pathlib.Path(__file__).with_name("style.css").read_text(encoding="utf-8")
 
@@ -25,8 +26,9 @@ def _chapter_row(result: ChapterResult) -> str:
     numbers = "".join(
         f'<td class="number">{value}</td>' for value in (result.blocks, result.requests, f"{result.seconds:.1f} s")
     )
-    untold = f" ({len(result.once)} seen once)" if result.once else ""
-    untold += f" ({result.untold} not told)" if result.untold else ""
+    untold = f" ({len(result.once)} now and then)" if result.once else ""
+    missing = result.wanted - result.blocks + result.untold
+    untold += f" ({missing} not judged)" if missing else ""
     return f"<tr><td>{_quoted(result.chapter.title)}</td>{numbers}<td>{told}{untold}</td></tr>"
 
 
@@ -56,7 +58,8 @@ def _article(number: int, difference: Difference, about: About) -> str:
     sure, rule = how_sure(difference), difference.rule
     sides = _reply("Our sign", ours, theirs, difference.ours) + _reply("This sign", theirs, ours, difference.theirs)
     parts = [
-        f"<h3>{number}. {_quoted(difference.title)}</h3>",
+        f"<h3>{number}. {_quoted(cause(difference))}</h3>",
+        f"<p>{_quoted(difference.title)}</p>",
         f'<p class="small">chapter {_quoted(rule.chapter)} &middot; rule {_quoted(origin(difference))}</p>',
         f"<p><b>{_quoted(rule.heading)}</b></p><blockquote>{_quoted(rule.sentence)}</blockquote>",
         f'<p class="small">{_quoted(sure)}</p>' if sure else "",
@@ -75,25 +78,33 @@ def _objects(title: str, held: list[tuple[str, str, str]]) -> str:
     return f"<h2>{title}</h2><table>{heads}{rows}</table>" if held else ""
 
 
+def _list(title: str, lines: list[str]) -> str:
+    """A heading and what stands under it; nothing where there is nothing."""
+    held = "".join(f"<li>{_quoted(line)}</li>" for line in lines)
+    return f"<h2>{title}</h2><ul>{held}</ul>" if lines else ""
+
+
 def as_html(results: Results, about: About, not_tested: list[str]) -> str:
     """The whole page; it needs nothing else."""
-    kind = "good" if results.is_clean() else "bad"
+    kind = "good" if results.verdict() is Verdict.CONFORMS else "bad"
     rows = "".join(map(_chapter_row, results.chapters))
     found = results.differences()
     articles = "".join(_article(number, held, about) for number, held in enumerate(found, 1)) or "<p>None.</p>"
     seen = "".join(_article(number, held, about) for number, held in enumerate(results.once(), len(found) + 1))
-    once = f"<h2>Seen once, and not again</h2>{seen}" if seen else ""
+    once = f"<h2>Now and then</h2>{seen}" if seen else ""
+    once += _list("The way to the sign", way_words(results)) + _list("Not judged", results.unjudged())
+    summary = _list("What differs", causes(found))
     before = _objects("Described otherwise", results.configuration) + _objects(
         "Changed, and set back", results.set_back
     )
     left_out = "".join(f"<li>{_quoted(line)}</li>" for line in not_tested)
-    facts = f"sign at {about.to}, described by {about.sign}; oracle {about.oracle}; seed {about.seed}; {about.when}"
+    facts = f"{head(about)}; oracle {about.oracle}; seed {about.seed}; {about.when}"
     heads = "<tr><th>chapter</th><th>cases</th><th>requests</th><th>time</th><th></th></tr>"
     parts = [
         f'<!doctype html><html lang="en"><meta charset="utf-8"><title>conform: {_quoted(about.to)}</title>',
         f'<style>{_STYLE}</style><main><h1>A sign beside the profile</h1><p class="facts">{_quoted(facts)}</p>',
         f'<p><span class="verdict {kind}">{_quoted(verdict(results))}</span></p>{before}',
-        f"<h2>Chapters</h2><table>{heads}{rows}</table><h2>Differences</h2>{articles}{once}",
+        f"<h2>Chapters</h2><table>{heads}{rows}</table>{summary}<h2>Differences</h2>{articles}{once}",
         f"<h2>Not tested</h2><ul>{left_out}</ul></main></html>\n",
     ]
     return "".join(parts)

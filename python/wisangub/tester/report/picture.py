@@ -2,6 +2,7 @@
 
 from wisangub.snmp import wire
 from wisangub.tester.context import Context
+from wisangub.tester.findings.compare import shown
 from wisangub.tester.findings.differences import Difference
 from wisangub.tester.requests.objects import Column, column_of
 from wisangub.tester.requests.steps import Ask
@@ -27,7 +28,7 @@ def pictures(difference: Difference, context: Context) -> list[tuple[str, list[s
     text = _text_of(difference)
     if text is None or difference.rule.chapter not in _JUDGING:
         return []
-    spelled = text.decode("latin-1")
+    spelled = shown(text)
     pages = context.judge.pages(text)
     if pages:
         return [(f"{spelled} fits on our sign", pages)]

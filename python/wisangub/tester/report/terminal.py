@@ -1,13 +1,14 @@
 """The report on a terminal: with rich where it can be imported, in plain lines else."""
 
 import sys
-from typing import Any, TextIO
+from typing import Any, Callable, TextIO
 
 from wisangub.tester.chapters import Chapter
 from wisangub.tester.findings.differences import Difference
 from wisangub.tester.findings.results import ChapterResult, Results
 
-from .words import About, how_sure, origin, sequence, verdict
+from .causes import cause, causes
+from .words import About, how_sure, origin, sequence, verdict, way_words
 
 try:
     from rich.console import Console
@@ -34,7 +35,8 @@ def difference_lines(number: int, difference: Difference, about: About) -> list[
     """All that is said of a difference."""
     ours, theirs = difference.sides()
     lines = [
-        f"{number}. {difference.rule.chapter}: {difference.title}",
+        f"{number}. {difference.rule.chapter}: {cause(difference)}",
+        f"    {difference.title}",
         f"    rule: {difference.rule.heading} ({origin(difference)})",
         f'      "{difference.rule.sentence}"',
     ]
@@ -55,8 +57,9 @@ def difference_lines(number: int, difference: Difference, about: About) -> list[
 
 def _chapter_line(result: ChapterResult) -> str:
     told = f"{len(result.differences)} differ" if result.differences else "nothing differs"
-    untold = f", {len(result.once)} seen once" if result.once else ""
-    untold += f", {result.untold} not told" if result.untold else ""
+    untold = f", {len(result.once)} now and then" if result.once else ""
+    missing = result.wanted - result.blocks + result.untold
+    untold += f", {missing} of {result.wanted} cases not judged" if missing else ""
     counts = f"{result.blocks:5} cases {result.requests:7} requests {result.seconds:7.1f} s"
     return f"{result.chapter.title:28} {counts}  {told}{untold}"
 
@@ -66,6 +69,7 @@ class Plain:
 
     def __init__(self, out: TextIO = sys.stdout) -> None:
         self.out = out
+        self.after: Callable[[], None] = lambda: None  # what is to be done at the end of each chapter
 
     def _print(self, line: str) -> None:
         print(line, file=self.out, flush=True)
@@ -77,6 +81,7 @@ class Plain:
         ...
 
     def ended(self, result: ChapterResult) -> None:
+        self.after()
         self._print(_chapter_line(result))
 
     def found(self, difference: Difference) -> None:
@@ -134,5 +139,9 @@ def ending(results: Results, about: About, not_tested: list[str]) -> list[str]:
         lines.append(f"changed since: {said}")
     for number, difference in enumerate([*results.differences(), *results.once()], 1):
         lines += ["", *difference_lines(number, difference, about)]
-    lines += ["", "not tested:", *[f"  {line}" for line in not_tested], "", verdict(results)]
+    lines += ["", "what differs:", *[f"  {line}" for line in found]] if (found := causes(results.differences())) else []
+    lines += ["", "not tested:", *[f"  {line}" for line in not_tested]]
+    for title, held in (("the way to the sign:", way_words(results)), ("not judged:", results.unjudged())):
+        lines += ["", title, *[f"  {line}" for line in held]] if held else []
+    lines += ["", verdict(results)]
     return lines

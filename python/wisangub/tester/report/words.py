@@ -1,5 +1,6 @@
 """What all reports say in the same words."""
 
+import re
 import shlex
 from dataclasses import dataclass
 
@@ -8,13 +9,17 @@ from wisangub.tester.chapters import Chapter
 from wisangub.tester.context import Context
 from wisangub.tester.findings.compare import fields
 from wisangub.tester.findings.differences import Difference
-from wisangub.tester.findings.results import Results
+from wisangub.tester.findings.results import Results, Verdict
 
 NOT_SEEN = [
     "losses and returns of power, and the codes that they activate: no request makes them",
     "lamps, pages, flashes and all else that is drawn: SNMP does not read it",
     "the copy of the defaults that a message is drawn with",
 ]
+
+_SOURCE = re.compile(r"RFC \d+(?:, [\d.]*\d)?|NTCIP 1203(?: v\d+)?|X\.690|ISO/IEC \d+")
+_OF_SPACING = ("room", "layout", "layout place", "no fault")  # rules that hang on the description's fonts
+NOT_SLOW = "without --slow: whole minutes and silence were not asked for"
 
 
 @dataclass
@@ -42,7 +47,12 @@ class About:
 
 
 def origin(difference: Difference) -> str:
-    return "(own): this profile's choice" if difference.rule.own else "the standard's"
+    """Whose rule it is: the standard's only where docs/PROFILE.md names its source."""
+    rule = difference.rule
+    if rule.own:
+        return "(own): this profile's choice"
+    named = _SOURCE.search(f"{rule.heading} {rule.sentence}")
+    return f"the standard's: {named[0]}" if named else "the profile's"
 
 
 def not_tested(context: Context, results: Results, chapters: list[Chapter]) -> list[str]:
@@ -50,33 +60,53 @@ def not_tested(context: Context, results: Results, chapters: list[Chapter]) -> l
     found = list(NOT_SEEN)
     if not context.is_slow:
         found.append("whole minutes of durations, and silence: they take minutes and run with --slow")
-    missing = [
-        chapter.title
-        for chapter in chapters
-        if not chapter.is_slow and chapter.name not in {held.chapter.name for held in results.chapters}
-    ]
+    missing = [chapter.title for chapter in chapters if not chapter.is_slow and chapter not in results.asked]
     if missing:
-        found.append("not asked for or not come to: " + ", ".join(missing))
+        found.append("not asked for: " + ", ".join(missing))
     if not context.rows:
         found.append("rows, validation and all that needs a row that can be written: the sign has none")
     if not context.characters:
         found.append("texts with characters: the default font has none that fits")
-    if not results.is_learnt:
-        found.append(
-            "seconds: no validation settled while it was watched, so the moment of the sign's ticks is not known"
-        )
-    untold = sum(held.untold for held in results.chapters)
-    if untold:
-        found.append(f"{untold} sequences of which it could not be told what the sign did: replies were lost or late")
     return found
 
 
+def head(about: About) -> str:
+    """The first line of every report."""
+    slow = "with --slow: whole minutes and silence too" if about.is_slow else NOT_SLOW
+    return f"the sign at {about.to} beside {about.sign}, {slow}"
+
+
 def verdict(results: Results) -> str:
-    if results.is_silent:
-        return "the sign does not answer"
-    count, once = len(results.differences()), len(results.once())
-    told = "nothing differs" if not count else f"{count} difference{'s' if count > 1 else ''}"
-    return told + (f"; {once} seen once, and not again" if once else "")
+    """The verdict, with what it rests on."""
+    found = results.verdict()
+    if found is Verdict.UNREACHED:
+        return str(found.value)
+    if found is Verdict.NOT_JUDGED:
+        return f"{found.value}: nothing differs in what was judged, and {'; '.join(results.unjudged())}"
+    if found is Verdict.CONFORMS:
+        cases = sum(held.blocks for held in results.chapters)
+        return f"{found.value}: nothing differs in {cases} cases"
+    count = len(results.differences())
+    told = f"{count} difference{'s' if count > 1 else ''}" if count else "no difference that comes again"
+    return f"{found.value}: {told}" + (f"; {odd_words(results)}" if results.is_odd() else "")
+
+
+def odd_words(results: Results) -> str:
+    """What was wrong now and then, in a few words."""
+    once, way = sum(1 + held.alike for held in results.once()), results.way
+    found = [f"{once} wrong replies now and then"] if once else []
+    if way is not None:
+        found += [f"{count} times {oddity.value}" for oddity, count in way.odd.items()]
+        found += [f"{way.reboots} times begun anew by itself"] if way.reboots else []
+    return ", ".join(found)
+
+
+def way_words(results: Results) -> list[str]:
+    """What was lost, late, doubled or garbled on the way, and how the sign was left."""
+    found = results.way.words() if results.way is not None else []
+    if not results.is_set_back:
+        found.append("the sign could not be brought back to the state that the test begins with")
+    return found
 
 
 def sequence(difference: Difference) -> list[tuple[str, list[str]]]:
@@ -101,7 +131,9 @@ def how_sure(difference: Difference) -> str:
     if difference.note:
         notes.append(difference.note)
     if not difference.is_repeated:
-        notes.append("seen once, and not again when the sequence was repeated: it counts as no difference")
+        notes.append("now and then: it was not seen again when the sequence was repeated")
+    if difference.rule.key in _OF_SPACING:
+        notes.append("fonts cannot be read: if their widths, heights or spacings are described wrongly, this is why")
     if not difference.is_shrunk:
         notes.append("not made smaller: enough differences of this chapter were")
     if difference.alike:

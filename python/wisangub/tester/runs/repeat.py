@@ -1,11 +1,18 @@
 """A sequence that a report printed, run once more from the known state."""
 
+import sys
+
 from wisangub.snmp import wire
 from wisangub.tester.findings.compare import fields
+from wisangub.tester.findings.results import Verdict
 from wisangub.tester.requests.messages import spelled
 from wisangub.tester.requests.steps import Ask, Step, Wait, fixed
 from wisangub.tester.session import Session
 from wisangub.tester.sign.pair import Inconclusive
+from wisangub.tester.sign.way import Stopped
+from wisangub.tester.state.known_state import Unreachable
+
+from .runner import Run
 
 
 def steps_of(sequence: str, communities: tuple[bytes, bytes]) -> list[Step]:
@@ -13,6 +20,8 @@ def steps_of(sequence: str, communities: tuple[bytes, bytes]) -> list[Step]:
 
     A request in its shortest form takes a number of its own.
     """
+    if not sequence:
+        raise ValueError
     steps: list[Step] = []
     groups: dict[bytes, int] = {}
     for word in sequence.split(","):
@@ -35,25 +44,34 @@ def steps_of(sequence: str, communities: tuple[bytes, bytes]) -> list[Step]:
 
 
 def repeat(session: Session, sequence: str) -> int:
-    """Prints both replies to the request that differs; 0 where none does."""
+    """Prints both replies to the request that differs, and says by its status what the verdict is: 0 where none does,
+    1 where one does, 3 where it cannot be judged, and 2 where the sequence is none or nothing answers."""
     try:
         steps = steps_of(sequence, session.pair.communities)
     except ValueError:
-        print("a sequence is octets in hexadecimal digits, or tick, with commas between them")
+        print("a sequence is octets in hexadecimal digits, or tick, with commas between them", file=sys.stderr)
         return 2
-    session.preflight.reach_first()
     try:
+        if session.reset.ask_height() is None:
+            print(Verdict.UNREACHED.value)
+            return Verdict.UNREACHED.status
+        session.preflight.reach_first()
         run = session.runner.anew(steps)
-    except Inconclusive as fault:
-        print(f"it cannot be told: {fault}")
-        return 2
-    if run is None:
-        print("nothing differs")
-        return 0
+    except (Inconclusive, Stopped, Unreachable) as fault:
+        print(f"{Verdict.NOT_JUDGED.value}: {fault}")
+        return Verdict.NOT_JUDGED.status
+    if run is not None:
+        _show(run)
+        return Verdict.DIFFERS.status
+    print("nothing differs")
+    return Verdict.CONFORMS.status
+
+
+def _show(run: Run) -> None:
+    """What was sent last, and both replies."""
     exchange = run.exchange
     assert exchange.mismatch is not None
     print(f"{exchange.mismatch.kind.value}, at datagram {sum(octets is not None for octets in run.sent)}")
     for title, octets in (("sent", exchange.octets), ("our sign", exchange.ours), ("this sign", exchange.theirs)):
         print(f"{title}: {octets.hex() if octets else '-'}")
         print("\n".join(f"  {line}" for line in fields(octets)))
-    return 1

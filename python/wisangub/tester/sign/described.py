@@ -3,6 +3,7 @@
 Whether a description is in order the program decides; what is read here is taken as it stands.
 """
 
+import pathlib
 from dataclasses import dataclass, field
 
 
@@ -68,6 +69,38 @@ class Description:
     permanent: list[Message]
     changeable: int
     volatile: int
+
+
+_FORMS = {
+    b"size": "size WIDTH HEIGHT",
+    b"communities": "communities READER WRITER",
+    b"rows": "rows CHANGEABLE VOLATILE",
+    b"order": "order high, or order swapped",
+    b"has": "has BEACONS PIXELS, each 0 or 1",
+    b"defaults": "defaults and the nine values of defaultBackgroundColor to defaultPageOffTime",
+    b"first": "first N",
+    b"permanent": "permanent TEXT OWNER BEACON PIXEL PRIORITY, texts and owners as octets",
+    b"font": "font N height H space C line L version V",
+    b"glyph": "glyph CHARACTER WIDTH OCTETS, in a font",
+    b"end": "end",
+}
+
+
+def cause(path: pathlib.Path, fault: Bad) -> str:
+    """What stands in the line at fault, and what a line of its keyword is; nothing where no line is named."""
+    word, _, number = str(fault).partition(" ")
+    if word != "line" or not number.isdigit():
+        return ""
+    lines = path.read_bytes().split(b"\n")
+    line = lines[int(number) - 1] if int(number) <= len(lines) else b""
+    if not line:
+        return ": the description ends, or has an empty line, where another line is due"
+    if line == b"end":
+        return ": each line is as it should be, and the sign is none: a font, row, text, default or size is at fault"
+    form = _FORMS.get(line.split(b" ")[0])
+    shown = line[:60].decode("ascii", "backslashreplace")
+    said = f"such a line is: {form}" if form else f"no line begins so, but with {', '.join(map(bytes.decode, _FORMS))}"
+    return f": {shown!r}; {said}, and in the order of docs/PROFILE.md"
 
 
 def _octets(word: bytes) -> bytes:

@@ -5,6 +5,8 @@ import select
 import socket
 from typing import Protocol
 
+from wisangub.refusal import Refusal
+
 from .clock import Clock
 
 _MOST_RECEIVED = 65_535
@@ -24,10 +26,13 @@ class Link(Protocol):
 
 
 class UdpLink:
-    """A UDP socket that hears one address alone."""
+    """A UDP socket that hears one address alone. Raises Refusal where there is no such host."""
 
     def __init__(self, host: str, port: int, clock: Clock) -> None:
-        family, kind, protocol, _, address = socket.getaddrinfo(host, port, type=socket.SOCK_DGRAM)[0]
+        try:
+            family, kind, protocol, _, address = socket.getaddrinfo(host, port, type=socket.SOCK_DGRAM)[0]
+        except socket.gaierror as fault:
+            raise Refusal(f"{host}: {fault.strerror}") from None
         self.socket = socket.socket(family, kind, protocol)
         self.socket.connect(address)
         self.clock = clock

@@ -44,8 +44,12 @@ class CoProcessOracle:
     def restart(self) -> None:
         self.end()
         self._process = CoProcess(self._program, ["sign"], self._description)
-        self._process.write(self._description + b"state\n")
-        first = self._process.lines(1)[0]
+        try:
+            self._process.write(self._description + b"state\n")
+            first = self._process.lines(1)[0]
+        except Refusal as fault:
+            self.end()
+            raise Refusal(f"{self._program} does not answer as signtool does: {fault}") from None
         if not first.startswith(b"shown "):
             self.end()
             raise Bad(first.decode("latin-1"))

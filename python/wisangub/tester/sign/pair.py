@@ -174,7 +174,7 @@ class Pair:
             self.port.note(message.number, octets)
             number = message.number
         if isinstance(step, Raw) and step.is_quiet:
-            answer = self.port.ask_once(octets, number).reply
+            answer = self.port.ask_once(octets, number, is_answered=False).reply
             return Exchange(step, octets, None, answer, mismatch(None, answer))
         sentinel_number = self.port.new_number()
         sentinel = get(scalar("vmsSignHeightPixels")).octets(sentinel_number, self.communities)

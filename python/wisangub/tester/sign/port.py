@@ -8,6 +8,7 @@ from wisangub.tester.requests.steps import FIRST_NUMBER, LAST_NUMBER
 
 from .clock import Clock
 from .link import Link
+from .way import Oddity, Way
 
 _TRIES = 3
 _MOST_KEPT = 8  # datagrams of one request number that are remembered
@@ -38,6 +39,10 @@ class Port:
     asked_again: int = 0
     usual: float = 0.0  # seconds that replies take of late
     given_up: set[int] = field(default_factory=set)  # numbers of looks whose replies were not waited for
+    patience: int | None = None  # requests in a row without a reply after which the test ends
+
+    def __post_init__(self) -> None:
+        self.way = Way(self.clock, self.wait, self.patience)
 
     def new_number(self) -> int:
         self.number = self.number + 1 if self.number < LAST_NUMBER else FIRST_NUMBER
@@ -74,19 +79,51 @@ class Port:
                 return reply
             message = spelled(reply)
             if message is None or not self.is_of_another(message, number, octets):
+                self._note_odd(reply, message, number)
                 return reply
-            self.passed_over += message.number not in self.given_up
+            self._pass_over(reply, message, number)
 
-    def ask_once(self, octets: bytes, number: int, expected: bytes | None = None, wait: float | None = None) -> Heard:
-        """A request that is sent once. The octets of the reply that is expected need not be looked into."""
+    def _note_odd(self, reply: bytes, message: wire.Message | None, number: int) -> None:
+        if message is None:
+            self.way.note(Oddity.GARBAGE, reply)
+        elif message.number != number:
+            self.way.note(Oddity.NUMBER, reply)
+
+    def _pass_over(self, reply: bytes, message: wire.Message, number: int) -> None:
+        """A reply to an earlier request, or one that has only that request's number."""
+        asked = (
+            self.way.earlier(message.number) if message.number != number and message.number not in self.odd else None
+        )
+        if asked is not None and not _may_answer(message, asked):
+            self.way.note(Oddity.ANOTHER, reply)
+            return
+        if message.number not in self.given_up:
+            self.passed_over += 1
+            self.way.passed_over(message.number)
+
+    def ask_once(
+        self,
+        octets: bytes,
+        number: int,
+        expected: bytes | None = None,
+        wait: float | None = None,
+        is_answered: bool = True,
+    ) -> Heard:
+        """A request that is sent once. The octets of the reply that is expected need not be looked into. What is to
+        have no answer is not `is_answered`, and what is not waited for as ever is not counted as lost."""
         if number != self.number:
             self.note(number, octets)
+        if is_answered:
+            self.way.send(number, octets)
         begun = self.clock.now()
         self.send(octets)
         reply = self.await_reply(number, octets, expected, begun + (self.wait if wait is None else wait))
         ended = self.clock.now()
         if reply is not None:
             self.usual += (ended - begun - self.usual) / 8
+            self.way.answered(number, is_answered and wait is None)
+        elif is_answered:
+            self.way.silent(begun, wait is None)
         return Heard(reply, 1, begun, ended)
 
     def look(self, octets: bytes, number: int) -> Heard:
@@ -115,16 +152,20 @@ class Port:
         self.send(octets)
         answer: bytes | None = None
         for _ in range(_TRIES):
+            self.way.send(sentinel_number, sentinel)
+            begun = self.clock.now()
             self.send(sentinel)
             until = self.clock.now() + self.wait
             while (reply := self.link.receive(until)) is not None:
                 message = spelled(reply)
                 if message is not None and message.number == sentinel_number:
+                    self.way.answered(sentinel_number)
                     return answer, True
                 if message is None or not self.is_of_another(message, number, octets):
                     answer = reply
                 else:
-                    self.passed_over += 1
+                    self._pass_over(reply, message, number)
+            self.way.silent(begun)
         return answer, False
 
 

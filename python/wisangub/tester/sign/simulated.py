@@ -20,7 +20,8 @@ class SomeSign(Protocol):
 class SimulatedLink:
     """The sign ticks at `phase` and each `period` after it; a datagram takes `latency` each way.
 
-    With `faulty` above 0 that share of the replies is lost, late or doubled, a third of it each.
+    With `faulty` above 0 that share of the replies is lost, late or doubled, a third of it each; with `both_ways` the
+    same share of the requests too, which reach the sign up to 1.6 s late.
     """
 
     def __init__(
@@ -31,15 +32,25 @@ class SimulatedLink:
         faulty: float = 0.0,
         latency: float = 0.0002,
         period: float = 1.0,
+        both_ways: bool = False,
     ) -> None:
         self.sign, self.clock, self.chance, self.faulty, self.latency = sign, clock, chance, faulty, latency
-        self.period = period
+        self.period, self.both_ways = period, both_ways
         self.next_tick = clock.now() + chance.random() * period
-        self.waiting: list[tuple[float, int, bytes]] = []
+        self.waiting: list[tuple[float, int, bytes]] = []  # replies on their way
+        self.going: list[tuple[float, int, bytes]] = []  # requests that are late
         self.sent = self.number = 0
         clock.listeners.append(self.come_to)
 
     def come_to(self, moment: float) -> None:
+        """The ticks of the sign and the late requests up to this moment, in their order."""
+        while self.going and self.going[0][0] <= moment:
+            due, _, octets = heapq.heappop(self.going)
+            self._tick_to(due)
+            self._arrive(octets, due)
+        self._tick_to(moment)
+
+    def _tick_to(self, moment: float) -> None:
         while self.next_tick <= moment:
             self.sign.tick()
             self.next_tick += self.period
@@ -47,12 +58,26 @@ class SimulatedLink:
     def send(self, octets: bytes) -> None:
         self.sent += 1
         self.clock.sleep_until(self.clock.now() + self.latency)
+        if not self.both_ways or self._goes(octets):
+            self._arrive(octets, self.clock.now())
+
+    def _goes(self, octets: bytes) -> bool:
+        """Whether a request arrives now; it may be lost, late, or come once more later."""
+        draw = self.chance.random()
+        if draw >= self.faulty or draw < self.faulty / 3:
+            return draw >= self.faulty
+        self.number += 1
+        due = self.clock.now() + self.chance.choice([0.0, 0.0003, 0.05, 0.4, 1.1, 1.6])
+        heapq.heappush(self.going, (due, self.number, octets))
+        return draw >= self.faulty * 2 / 3
+
+    def _arrive(self, octets: bytes, moment: float) -> None:
         reply, _ = self.sign.receive(octets)
         if reply is not None:
-            self.deliver(reply)
+            self.deliver(reply, moment)
 
-    def deliver(self, reply: bytes) -> None:
-        due = self.clock.now() + self.latency
+    def deliver(self, reply: bytes, moment: float) -> None:
+        due = moment + self.latency
         draw = self.chance.random()
         if draw < self.faulty / 3:
             return

@@ -27,12 +27,13 @@ def session(
     is_slow: bool = False,
     most_differences: int | None = None,
     watcher: Watcher | None = None,
+    both_ways: bool = False,
 ) -> Session:
     """A test of a sign under a clock that nobody waits for; `faulty` is the share of replies that are lost, late or
-    doubled."""
+    doubled, and with `both_ways` of requests too."""
     made = described(description)
     clock = SimulatedClock()
-    link = SimulatedLink(sign, clock, random.Random(seed), faulty)
+    link = SimulatedLink(sign, clock, random.Random(seed), faulty, both_ways=both_ways)
     communities = (made.reader, made.writer)
     pair = Pair(Port(link, clock), oracle, clock, Ticks(clock), communities)
     context = Context(made, communities, judge, seed, requests, is_slow)
@@ -41,4 +42,4 @@ def session(
 
 def run(made: Session, only: Sequence[str] = ()) -> Results:
     """The chapters of these names, or all."""
-    return made.run(chapters_of(only))
+    return made.run(chapters_of(only, made.context.is_slow))

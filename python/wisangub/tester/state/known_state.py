@@ -29,7 +29,7 @@ class Unreachable(Exception):
     """The known state cannot be reached: these objects stay."""
 
     def __init__(self, unreached: "list[Unreached]") -> None:
-        super().__init__(len(unreached))
+        super().__init__(f"{len(unreached)} objects cannot be brought to the known state")
         self.unreached = unreached
 
 

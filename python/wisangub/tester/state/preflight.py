@@ -14,11 +14,19 @@ from wisangub.tester.requests.messages import spelled
 from wisangub.tester.requests.objects import DEFAULTS, Column, Name, Value, integer, octets, row_of, spoken
 from wisangub.tester.requests.steps import Ask, Wait, get, looks
 from wisangub.tester.sign.pair import Exchange, Pair
+from wisangub.tester.sign.way import Stopped
 
 from .known_state import Unreached
 from .reset import Reset
 
 _CAUSE = scalar("dmsActivateMsgError")
+# what differs where a description is of another sign
+_OTHER_SIGN = (
+    "vmsSignHeightPixels.0",
+    "vmsSignWidthPixels.0",
+    "dmsMaxChangeableMsg.0",
+    "dmsMaxVolatileMsg.0",
+)
 _READS = (Kind.STATUS, Kind.BINDINGS, Kind.VALUE)
 
 
@@ -30,26 +38,33 @@ class Preflight:
     results: Results
     watcher: Watcher
 
-    def begin(self) -> bool:
-        """Whether anything answers; then both are in the known state, but for what was told."""
+    def begin(self, is_anyway: bool = True) -> bool:
+        """Whether anything answers; then both are in the known state, but for what was told. Raises Stopped where the
+        sign has another size or other rows than the description, unless it is to be tested anyway."""
         if not _is_heard(self.reset):
             self.results.is_silent = True
             return False
         self.configure()
+        others = [name for name, _, _ in self.results.configuration if name in _OTHER_SIGN]
+        if others and not is_anyway:
+            raise Stopped(f"{', '.join(others)} differ, so the description is of another sign; --anyway goes on")
         self.reach_first()
         self.compare_all()
         return True
 
     def configure(self) -> None:
         for name, wanted, have in _differing(self.reset, _described(self.context)):
-            read = "nothing" if have is None else value_words(have)
-            self.results.configuration.append((spoken(name), value_words(wanted), read))
+            if self.reset.read([name])[name] == wanted:
+                self._wrong_once(get(name), Mismatch(Kind.VALUE, (name,)))
+                continue
+            read = "nothing" if have is None else value_words(have, name)
+            self.results.configuration.append((spoken(name), value_words(wanted, name), read))
             self.add(self.configuration_difference(name))
             self.pair.masked.add(name)
 
         for name, wanted, have in _differing(self.reset, _first_state(self.context)):
-            read = "nothing" if have is None else value_words(have)
-            self.results.set_back.append((spoken(name), value_words(wanted), read))
+            read = "nothing" if have is None else value_words(have, name)
+            self.results.set_back.append((spoken(name), value_words(wanted, name), read))
 
     def configuration_difference(self, name: Name) -> Difference:
         exchange = self.on_both(get(name))
@@ -77,16 +92,37 @@ class Preflight:
         told: set[str] = set()
         for look in looks(names):
             self.pair.pass_ticks()
-            if self.on_both(look).mismatch is None:
+            whole = self.on_both(look).mismatch
+            if whole is None or whole.kind not in _READS:
                 continue
-            for name, _ in look.bindings:
-                exchange = self.on_both(get(name))
-                if exchange.mismatch is None or exchange.mismatch.kind not in _READS:
-                    continue
+            found = [exchange for name, _ in look.bindings if (exchange := self._comes_again(get(name))) is not None]
+            if not found:
+                self._wrong_once(look, whole)
+            for exchange in found:
+                assert exchange.mismatch is not None
                 rule = classify.rule_of(exchange.octets, exchange.ours, exchange.theirs, exchange.mismatch)
                 if rule.key not in told:
                     told.add(rule.key)
                     self.add(Difference.of(rule, "known state", exchange, [exchange.step], [exchange.octets]))
+
+    def _comes_again(self, ask: Ask) -> Exchange | None:
+        """A read that differs twice, which is no slip."""
+        exchange = self.on_both(ask)
+        if exchange.mismatch is None or exchange.mismatch.kind not in _READS:
+            return None
+        again = self.on_both(ask)
+        if again.mismatch == exchange.mismatch:
+            return again
+        self._wrong_once(ask, exchange.mismatch)
+        return None
+
+    def _wrong_once(self, ask: Ask, mismatch: Mismatch) -> None:
+        """A read had a wrong value, and the right one when it was read again."""
+        exchange = self.on_both(ask)
+        exchange.mismatch = mismatch
+        held = Difference.of(RULES["get"], "before", exchange, [ask], [exchange.octets])
+        held.is_repeated, held.note = False, "the replies shown are those when it was read again"
+        self.results.once_before.append(held)
 
     def tell_unreached(self, unreached: list[Unreached]) -> None:
         """The first of the objects is told, with the others by name; all are left out from here on."""

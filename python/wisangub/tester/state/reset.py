@@ -6,7 +6,7 @@ from wisangub.snmp import wire
 from wisangub.snmp.names import RowStatus, scalar
 from wisangub.tester.context import Context, activate
 from wisangub.tester.requests.messages import spelled
-from wisangub.tester.requests.objects import Column, Name, Row, Value
+from wisangub.tester.requests.objects import Column, Name, Row, SourceMode, Value, integer
 from wisangub.tester.requests.steps import Ask, get, looks, put
 from wisangub.tester.sign.pair import Pair
 
@@ -24,6 +24,7 @@ class Reset:
     pair: Pair
     context: Context
     last: dict[Name, tuple[Ask, bytes | None]] = field(default_factory=dict)
+    is_begun: bool = False  # whether the sign was in the known state before
     is_together: bool = False  # whether ours is handed what brings the sign under test there
 
     def __post_init__(self) -> None:
@@ -76,6 +77,7 @@ class Reset:
         for _ in range(_ROUNDS):
             wanted = self.wanted()
             have = self.read(list(wanted))
+            self._notice_reboot(have)
             wrong = [name for name, value in wanted.items() if have.get(name) != value]
             if not wrong and is_watched:
                 return []
@@ -86,6 +88,13 @@ class Reset:
             self.unreached(name, value, have.get(name)) for name, value in wanted.items() if have.get(name) != value
         ]
         return sorted(unreached, key=lambda held: not held.is_refused())
+
+    def _notice_reboot(self, have: _Read) -> None:
+        """The sign shows what it shows when power comes back, and ours does not: it began anew by itself."""
+        mode = scalar("dmsMsgSourceMode")
+        is_anew = self.is_begun and have.get(mode) == integer(SourceMode.POWER_RECOVERY)
+        if is_anew and ours_reads(self.pair, [mode]) not in (None, {mode: have[mode]}):
+            self.pair.port.way.reboots += 1
 
     def unreached(self, name: Name, value: Value, read: Value | None) -> Unreached:
         request, reply = self.last.get(name, (get(name), None))
@@ -146,7 +155,7 @@ class Reset:
             for request in (activate(self.context.refused_code), activate(self.context.known_code)):
                 self.pair.hand(request.octets(self.pair.port.new_number(), self.pair.communities))
             self.pair.pass_ticks()
-        self.pair.is_dirty = bool(unreached)
+        self.pair.is_dirty, self.is_begun = bool(unreached), True
         if not unreached:
             self.pair.touched.clear()
         return unreached

@@ -1,0 +1,136 @@
+"""The verdict on signs that misbehave, and how a test ends."""
+
+import math
+from typing import Any, Sequence
+
+from model import text
+from trials.wrong_signs import misbehaving
+from trials.wrong_signs.misbehaving import Misbehaving
+from wisangub.tester.chapters import ALL
+from wisangub.tester.findings.results import ChapterResult, Quiet, Results, Verdict
+from wisangub.tester.report import words
+from wisangub.tester.session import chapters_of
+from wisangub.tester.sign.way import Oddity
+
+SHORT, LONG = ("communities", "set"), ("communities", "rows")
+STRANGER = text.BENCH.replace(b"communities public admin", b"communities others strangers")
+WIDER = text.BENCH.replace(b"size 23 14", b"size 24 14")
+
+
+Way = dict[str, Any]  # how a sign misbehaves
+
+
+def tried(only: Sequence[str] = SHORT, lossy: float = 2.0, wait: float = 1.0, **how: Any) -> Results:
+    """What is found of a sign that misbehaves so."""
+    patience = how.pop("patience", None)
+    session = misbehaving.session(lambda clock: Misbehaving(clock, **how), wait, patience)
+    session.results.lossy = lossy
+    return session.run(chapters_of(only, False))
+
+
+def test_a_right_sign_conforms() -> None:
+    results = tried()
+    assert results.verdict() is Verdict.CONFORMS and results.verdict().status == 0, results.unjudged()
+    assert words.verdict(results).startswith("conforms: nothing differs in ")
+
+
+def test_who_does_not_answer_is_not_reached() -> None:
+    ways: list[Way] = [{"silent": (0.0, math.inf)}, {"description": STRANGER}]
+    for how in ways:
+        results = tried(**how)
+        assert results.verdict() is Verdict.UNREACHED and results.verdict().status == 2
+
+
+def test_replies_that_no_way_makes_differ() -> None:
+    table = [
+        (misbehaving.garbage, Oddity.GARBAGE, 1.0),
+        (misbehaving.garbage, Oddity.GARBAGE, 0.02),
+        (misbehaving.cut, Oddity.GARBAGE, 0.02),
+        (misbehaving.padded, Oddity.GARBAGE, 0.02),
+        (misbehaving.over_long, Oddity.GARBAGE, 0.02),
+        (misbehaving.renumbered(0), Oddity.NUMBER, 1.0),
+        (misbehaving.renumbered(None), Oddity.NUMBER, 0.05),
+    ]
+    for spoils, oddity, share in table:
+        results = tried(("communities",), spoils=spoils, share=share)
+        assert results.verdict() is Verdict.DIFFERS and results.verdict().status == 1, (spoils, share)
+        assert results.way is not None and results.way.odd[oddity], (spoils, share)
+        assert oddity.value in words.verdict(results)
+
+
+def test_wrong_values_now_and_then_differ() -> None:
+    results = tried(("communities", "get", "set"), spoils=misbehaving.other_value, share=0.01)
+    assert results.verdict() is Verdict.DIFFERS and "now and then" in words.verdict(results), words.verdict(results)
+
+
+def test_a_reboot_that_nobody_asked_for_differs() -> None:
+    ways: list[Way] = [{"reboots": 700, "most_reboots": 1}, {"reboots": 400}]
+    for how in ways:
+        results = tried(**how)
+        assert results.verdict() is Verdict.DIFFERS, words.verdict(results)
+        assert results.way is not None and results.way.reboots, words.verdict(results)
+
+
+def test_another_size_differs() -> None:
+    results = tried(("communities",), description=WIDER)
+    assert results.verdict() is Verdict.DIFFERS and results.configuration
+
+
+def test_a_sign_that_falls_silent_is_not_judged() -> None:
+    ways: list[Way] = [{}, {"patience": 8}]
+    for how in ways:
+        results = tried(LONG, silent=(5.0, math.inf), **how)
+        assert results.verdict() is Verdict.NOT_JUDGED and results.verdict().status == 3
+        assert (
+            results.stopped
+            and not results.is_set_back
+            and any("Row" in line or "row" in line for line in results.unjudged())
+        )
+    results = tried(LONG, silent=(5.0, 65.0))
+    assert results.verdict() is Verdict.NOT_JUDGED and results.is_set_back, results.unjudged()
+    results = tried(LONG, silent=(5.0, 25.0))
+    assert results.verdict() is Verdict.NOT_JUDGED and not results.stopped and "silent for 2" in words.verdict(results)
+
+
+def test_replies_that_take_longer_than_is_waited_for_end_the_test() -> None:
+    results = tried(slow=1.2)
+    assert results.verdict() is Verdict.NOT_JUDGED and "--wait is 1" in results.stopped
+    assert tried(("communities",), wait=2.0, slow=1.2).verdict() is Verdict.NOT_JUDGED  # seconds cannot be learnt
+
+
+def test_two_replies_to_each_are_too_many() -> None:
+    results = tried(times=2)
+    assert results.verdict() is Verdict.NOT_JUDGED and "--lossy 2" in words.verdict(results), words.verdict(results)
+    results = tried(times=2, lossy=100.0)
+    assert results.verdict() is Verdict.CONFORMS, results.unjudged()
+
+
+def test_what_was_not_asked_for_is_not_judged() -> None:
+    assert tried(("silence",)).verdict() is Verdict.NOT_JUDGED
+    session = misbehaving.session(Misbehaving)
+    session.context.requests = 0
+    assert session.run(chapters_of(("random",), False)).verdict() is Verdict.NOT_JUDGED
+    assert [chapter.name for chapter in chapters_of((), True)] == [chapter.name for chapter in ALL]
+    assert "silence" not in [chapter.name for chapter in chapters_of((), False)]
+
+
+def test_a_budget_ends_the_test_and_the_sign_is_put_back() -> None:
+    session = misbehaving.session(Misbehaving)
+    session.pair.port.way.deadline = 12.0
+    results = session.run(chapters_of(("rows", "validation"), False))
+    assert results.verdict() is Verdict.NOT_JUDGED and "--budget" in results.stopped and results.is_set_back
+
+
+class Interrupting(Quiet):
+    """An interrupt after the fourth case."""
+
+    def went_on(self, result: ChapterResult, at: int) -> None:
+        if at == 3:
+            raise KeyboardInterrupt
+
+
+def test_an_interrupt_puts_the_sign_back() -> None:
+    session = misbehaving.session(Misbehaving, watcher=Interrupting())
+    results = session.run(chapters_of(SHORT, False))
+    assert results.verdict() is Verdict.NOT_JUDGED and "interrupted" in results.stopped and results.is_set_back
+    assert results.chapters[0].blocks == 4 < results.chapters[0].wanted

@@ -1,0 +1,150 @@
+"""What becomes of datagrams on the way to a sign and back, and when it is no use to go on."""
+
+import math
+from collections import Counter, deque
+from dataclasses import dataclass, field
+from enum import Enum
+
+from .clock import Clock
+
+LONGEST_SILENCE = 5.0  # seconds: a longer one is more than a way that loses some
+_PATIENCE = 30.0  # seconds without a reply after which a test ends
+_MOST_KEPT = 2048  # requests whose replies may still come
+_MOST_SHOWN = 100  # octets of a reply that no way makes
+_DELAYS = 24  # replies that are looked at to see whether they come in time
+
+
+class Stopped(Exception):
+    """The test ends before its last case, for the reason that this says."""
+
+
+class Oddity(Enum):
+    """Replies that no way makes of a right one."""
+
+    GARBAGE = "a reply that is no message"
+    NUMBER = "a request-id that was never asked"
+    ANOTHER = "a reply with the request-id of another request"
+
+
+@dataclass
+class Sent:
+    """A request that a reply may come to: when it was sent first, its octets, and whether it was answered."""
+
+    moment: float
+    octets: bytes
+    is_answered: bool = False
+
+
+@dataclass
+class Way:
+    """Counts of what was lost, late and doubled.
+
+    `patience` is how many requests in a row may have no reply, where that is said; else it ends after 30 seconds
+    without one. `deadline` is the moment at which the test is to end.
+    """
+
+    clock: Clock
+    wait: float
+    patience: int | None = None
+    deadline: float = math.inf
+    asked: int = 0
+    unanswered: int = 0  # requests that had no reply in time
+    late: int = 0
+    doubled: int = 0
+    longest: float = 0.0  # seconds that the sign was silent at the longest
+    reboots: int = 0  # that nobody asked for
+    odd: Counter[Oddity] = field(default_factory=Counter)
+    examples: dict[Oddity, bytes] = field(default_factory=dict)
+    _recent: dict[int, Sent] = field(default_factory=dict)
+    _silent_since: float | None = None
+    _in_a_row: int = 0
+    _delays: deque[float] = field(default_factory=lambda: deque(maxlen=_DELAYS))
+
+    def percent(self) -> float:
+        """The share of requests whose reply did not come, came late or came twice."""
+        return min(100.0, 100 * (self.unanswered + self.doubled) / self.asked) if self.asked else 0.0
+
+    def send(self, number: int, octets: bytes) -> None:
+        """A request is sent whose reply is waited for. Raises Stopped where it is no use to go on."""
+        self._give_up()
+        if number not in self._recent or self._recent[number].octets != octets:
+            self._recent[number] = Sent(self.clock.now(), octets)
+            if len(self._recent) > _MOST_KEPT:
+                self._recent.pop(next(iter(self._recent)))
+
+    def answered(self, number: int, is_counted: bool = True) -> None:
+        """A request has its reply."""
+        now = self.clock.now()
+        if self._silent_since is not None:
+            self.longest = max(self.longest, now - self._silent_since)
+        self._silent_since, self._in_a_row = None, 0
+        self.asked += is_counted
+        sent = self._recent.get(number)
+        if sent is not None:
+            sent.is_answered = True
+            self._delays.append(now - sent.moment)
+
+    def silent(self, begun: float, is_counted: bool = True) -> None:
+        """A request that was sent at this moment has no reply in time."""
+        if self._silent_since is None:
+            self._silent_since = begun
+        self.longest = max(self.longest, self.clock.now() - self._silent_since)
+        self.asked += is_counted
+        self.unanswered += is_counted
+        self._in_a_row += is_counted
+
+    def passed_over(self, number: int) -> None:
+        """A reply to an earlier request."""
+        sent = self._recent.get(number)
+        if sent is None or sent.is_answered:
+            self.doubled += 1
+            return
+        self.late += 1
+        sent.is_answered = True
+        self._delays.append(self.clock.now() - sent.moment)
+        self._silent_since, self._in_a_row = None, 0
+
+    def note(self, oddity: Oddity, octets: bytes) -> None:
+        """A reply that no way makes of a right one."""
+        self.odd[oddity] += 1
+        self.examples.setdefault(oddity, octets)
+
+    def earlier(self, number: int) -> bytes | None:
+        """What was asked under an earlier number, where that is known still."""
+        sent = self._recent.get(number)
+        return None if sent is None else sent.octets
+
+    def _give_up(self) -> None:
+        now = self.clock.now()
+        if now >= self.deadline:
+            raise Stopped("the time that --budget gives is over")
+        if self.patience is not None and self._in_a_row >= self.patience:
+            raise Stopped(f"{self._in_a_row} requests in a row had no reply")
+        silence = 0.0 if self._silent_since is None else now - self._silent_since
+        if self.patience is None and silence >= _PATIENCE:
+            raise Stopped(f"the sign was silent for {silence:.0f} seconds")
+        usual = sorted(self._delays)[len(self._delays) // 2] if len(self._delays) == _DELAYS else 0.0
+        if usual > self.wait:
+            raise Stopped(f"replies take {usual:.1f} s, and --wait is {self.wait:g}")
+
+    def begin_anew(self) -> None:
+        """What was silent is no reason to stop any more: once more is tried, with no deadline."""
+        self.deadline, self._silent_since, self._in_a_row = math.inf, None, 0
+        self._delays.clear()
+
+    def words(self) -> list[str]:
+        """What was seen, a line each; nothing where all replies came once and in time."""
+        found = []
+        if self.unanswered or self.doubled or self.late:
+            found.append(
+                f"{self.percent():.1f} % of {self.asked} requests: {self.unanswered} without a reply in time "
+                f"({self.late} of these replies came later), {self.doubled} replies doubled; "
+                f"the longest silence was {self.longest:.1f} s"
+            )
+        for oddity, count in self.odd.items():
+            example = self.examples[oddity]
+            more = ".." if len(example) > _MOST_SHOWN else ""
+            found.append(f"{count} times {oddity.value}, first {example[:_MOST_SHOWN].hex() or 'no octets'}{more}")
+        if self.reboots:
+            found.append(f"{self.reboots} times the sign began anew, and nobody asked for it")
+        return found
