@@ -13,6 +13,7 @@ import sys
 from wisangub.tester.centre.program import Stopped, serve, stop
 from wisangub.tester.centre.watch import Watch
 from wisangub.tester.sign.clock import RealClock
+from wisangub.tester.sign.described import described
 from wisangub.tester.sign.simulated import SomeSign
 
 from .load import sign_of
@@ -40,13 +41,14 @@ def main() -> int:
     parser.add_argument("--port", type=int, default=1161)
     parser.add_argument("--sign", required=True, type=pathlib.Path)
     asked = parser.parse_args()
-    sign = Wrong(sign_of([mutant for mutant in MUTANTS if mutant.name in asked.names], asked.sign.read_bytes()))
+    description = asked.sign.read_bytes()
+    sign = Wrong(sign_of([mutant for mutant in MUTANTS if mutant.name in asked.names], description))
     signal.signal(signal.SIGTERM, stop)
     with socket.socket(socket.AF_INET, socket.SOCK_DGRAM) as door:
         door.bind(("127.0.0.1", asked.port))
         print(f"a wrong sign at 127.0.0.1:{door.getsockname()[1]}", flush=True)
         try:
-            serve(door, sign, RealClock(), Watch(), None)
+            serve(door, sign, RealClock(), Watch(described(description).reader), None)
         except (Stopped, KeyboardInterrupt):
             pass
     return 0

@@ -6,15 +6,20 @@ import socket
 import subprocess
 import sys
 import tempfile
+from dataclasses import replace
 
 from model import text
+from model.centre import Centre
 from trials.wrong_signs.bench import ModelJudge, ModelOracle
 from wisangub.process.places import TOP
+from wisangub.snmp import wire
 from wisangub.snmp.names import Memory, RowStatus, scalar
 from wisangub.tester.centre.watch import Habit, Watch
 from wisangub.tester.context import ADDRESS, Context, activate
+from wisangub.tester.findings.results import Verdict
+from wisangub.tester.requests.messages import spelled
 from wisangub.tester.requests.objects import Column, Row, instance, integer
-from wisangub.tester.requests.steps import Ask, get, put
+from wisangub.tester.requests.steps import Ask, get, get_next, put
 from wisangub.tester.sign.described import described
 
 ROW = Row(Memory.CHANGEABLE, 1)
@@ -33,16 +38,49 @@ PUBLICATION: list[Ask | None] = [
 ]
 
 
+PAST = (1, 3, 6, 1, 4, 1, 1206, 4, 2, 3, 99)
+ANSWER = wire.Message(wire.RESPONSE, b"admin", 1, 0, 0, [(scalar("vmsSignHeightPixels"), integer(1))])
+
+
+def taken(owner: bytes) -> list[Ask | None]:
+    """A row with a message of this owner."""
+    return [put(ROW.status(RowStatus.MODIFY_REQ)), put(ROW.text(b"A"), ROW.owner(owner))]
+
+
+def in_error() -> list[Ask | None]:
+    """A row whose text does not fit."""
+    text = put(ROW.text(b"[zz]"), ROW.owner(b""))
+    return [put(ROW.status(RowStatus.MODIFY_REQ)), text, put(ROW.status(RowStatus.VALIDATE_REQ)), None]
+
+
 def watched(steps: list[Ask | None], numbers: list[int] | None = None, apart: float = 1.0) -> Watch:
     """What is seen of these requests, so many seconds apart; None is a tick."""
-    sign, watch = ModelOracle(text.BENCH), Watch()
+    watch = Watch(b"public")
+    told(ModelOracle(text.BENCH), watch, steps, numbers, apart)
+    return watch
+
+
+def told(
+    sign: ModelOracle, watch: Watch, steps: list[Ask | None], numbers: list[int] | None = None, apart: float = 1.0
+) -> None:
+    """What a sign that watches is sent."""
     for at, step in enumerate(steps):
         if step is None:
             sign.tick()
+            watch.ticked()
             continue
         octets = step.octets(numbers[at] if numbers else at + 1, CONTEXT.communities)
+        for row in watch.rows_asked(octets):
+            watch.owned(row, sign_owner(sign, row))
         watch.heard(at * apart, octets, sign.datagram(octets))
-    return watch
+
+
+def sign_owner(sign: ModelOracle, row: Row) -> bytes:
+    """The owner that the sign has of a row."""
+    reply = sign.datagram(get(row.cell(Column.OWNER)).octets(0, CONTEXT.communities))
+    message = spelled(reply or b"")
+    held = message.bindings[0][1][1] if message is not None else b""
+    return held if isinstance(held, bytes) else b""
 
 
 def habits(watch: Watch) -> list[Habit]:
@@ -60,8 +98,12 @@ def test_each_habit_is_seen() -> None:
         ([height, get(scalar("vmsSignWidthPixels"))], [5, 5], Habit.NUMBER),
         ([*PUBLICATION[:6], activate(CODE)], None, Habit.UNREAD),
         ([WRITE], None, Habit.UNASKED),
-        ([none, height], None, Habit.AFTER),
-        ([none, none], None, Habit.AFTER),
+        ([none, height, none], None, Habit.AFTER),
+        ([put(ROW.status(RowStatus.MODIFY_REQ), is_writer=False)], None, Habit.READER),
+        ([*PUBLICATION[:4], get(ROW.cell(Column.CRC)), None], None, Habit.EARLY),
+        ([*in_error(), get(ROW.cell(Column.STATUS)), activate(CODE)], None, Habit.ERROR),
+        ([replace(height, community=b"nobody")], None, Habit.DROPPED),
+        ([height] * 5, [1] * 5, Habit.STORM),
         ([put(ROW.status(RowStatus.MODIFY_REQ)), bad, put(ROW.status(RowStatus.VALIDATE_REQ))], None, Habit.IGNORED),
         ([activate(CONTEXT.blank_code(256)), height], None, Habit.IGNORED),
         (
@@ -72,12 +114,90 @@ def test_each_habit_is_seen() -> None:
     ]
     for steps, numbers, habit in table:
         assert habits(watched(steps, numbers)) == [habit], (habit, steps)
-    assert habits(watched([height, height], apart=0.5)) == [Habit.FAST]
+    assert habits(watched([height] * 3, apart=0.5)) == [Habit.FAST]
+    assert habits(watched([height, height, None, height, height, None], apart=0.5)) == []
+    assert habits(watched([none, height])) == []  # a probe for an object that a sign need not have
+    assert habits(watched([get_next(PAST), height, get_next(PAST)])) == []  # walks to their end
     assert habits(watched([activate(CONTEXT.blank_code(256)), get(scalar("dmsActivateMsgError"))])) == []
     right: list[Ask | None] = [put((scalar("defaultPageOnTime"), integer(value))) for value in (256, 255)]
     assert habits(watched([*right, activate(CONTEXT.blank_code(1))])) == []
     again = watched([height, height], [5, 5], apart=0.5)
     assert habits(again) == [] and again.again == 1
+
+
+def test_a_row_of_another_owner_is_taken() -> None:
+    empties: list[Ask | None] = [put(ROW.status(RowStatus.NOT_USED_REQ))]
+    table: list[tuple[list[Ask | None], set[bytes], list[Habit]]] = [
+        (taken(b"you"), set(), [Habit.TAKEN]),
+        (taken(b"me"), set(), []),
+        (empties, set(), []),  # perhaps it is "me", which has written nothing yet
+        (empties, {b"me"}, []),
+        (empties, {b"you"}, [Habit.TAKEN]),
+    ]
+    for steps, owners, seen in table:
+        sign = ModelOracle(text.BENCH)
+        for step in taken(b"me"):
+            if step is not None:
+                sign.datagram(step.octets(1, CONTEXT.communities))
+        watch = Watch(b"public", owners=owners)
+        told(sign, watch, steps)
+        assert habits(watch) == seen, steps
+
+
+def test_a_storm_of_writes_is_seen_whatever_their_numbers() -> None:
+    write: list[Ask | None] = [put((scalar("defaultPageOnTime"), integer(3)))] * 5
+    assert habits(watched(write, apart=0.1)) == [Habit.STORM]
+    assert habits(watched(write, apart=2.0)) == []
+
+
+def test_what_is_dropped_is_counted_by_kind() -> None:
+    watch = Watch(b"public")
+    for octets in (bytes(1473), b"\x30\0", get(PAST).octets(1, (b"a", b"b")), wire.written(ANSWER)):
+        watch.heard(0.0, octets, None)
+    assert dict(watch.dropped) == {"its length": 1, "its BER": 1, "its community": 1, "its kind": 1}
+    assert watch.verdict() is Verdict.DIFFERS
+
+
+def test_nothing_heard_is_not_judged() -> None:
+    watch = Watch(b"public")
+    assert watch.verdict() is Verdict.NOT_JUDGED and watch.lines()[-1] == "not judged: nothing was heard"
+    assert watched(PUBLICATION).verdict() is Verdict.CONFORMS
+
+
+def test_our_own_centre_conforms() -> None:
+    """A publication, a refused one, a blank and an activation of the central system of the model, at any phase."""
+    jobs: list[tuple[str, tuple[object, ...]]] = [
+        ("publish", (3, 1, b"A", b"me", 0, 0, 100, 65535, 255, b"\1\2\3\4")),
+        ("publish", (3, 1, b"[zz]", b"me", 0, 0, 100, 65535, 255, b"\1\2\3\4")),
+        ("blank", (1, 65535, 255, b"\1\2\3\4")),
+        ("blank", (1, 65535, 3, b"\1\2\3\4")),
+    ]
+    for phase in (0.05, 0.3, 0.6, 0.95):
+        sign, watch, centre = ModelOracle(text.BENCH), Watch(b"public"), Centre(b"admin", False, 1)
+        for job in jobs:
+            run_job(sign, watch, centre, job, phase)
+        assert watch.requests > 15 and habits(watch) == [], (phase, watch.lines())
+
+
+def run_job(sign: ModelOracle, watch: Watch, centre: Centre, job: tuple[str, tuple[object, ...]], phase: float) -> None:
+    """A job to its end: the sign's seconds and those of the central system follow each other by `phase`."""
+    going = centre.command(job)
+    for _ in range(40):
+        while going is not None:
+            for row in watch.rows_asked(going):
+                watch.owned(row, sign_owner(sign, row))
+            reply = sign.datagram(going)
+            watch.heard(0.0, going, reply)
+            going = centre.receive(reply) if reply is not None else None
+        if centre.job is None:
+            return
+        if phase < 0.5:
+            sign.tick()
+            watch.ticked()
+        going = centre.tick()
+        if phase >= 0.5:
+            sign.tick()
+            watch.ticked()
 
 
 def test_it_answers_on_a_port_and_tells_at_its_end() -> None:

@@ -1,9 +1,11 @@
 """A central system under test: wisangub-conform centre --port P --sign DESCRIPTION
 
 Our sign on a UDP port, which answers and ticks as ever and watches who speaks to it: request numbers used again for
-other requests, an activation before the checksum was read, writes without a request to modify, polling faster than a
-second, refusals that are ignored, and what is sent after a noSuchName. It ends at an interrupt, a SIGTERM or after
---seconds, and tells what it saw. The exit status is 0 where it saw none of these.
+other requests, an activation of a row in error or before its checksum was read, a checksum read too early, writes
+without a request to modify, rows of others taken, SETs in the reading community, polling faster than a second, storms,
+datagrams that a sign drops, refusals that are ignored, and what is asked again after a noSuchName. It ends at an
+interrupt, a SIGTERM or after --seconds, and tells what it saw. The exit status is 0 where it saw none of these, 1 where
+it did, 3 where it heard nothing, and 2 where it could not begin.
 """
 
 import argparse
@@ -18,11 +20,15 @@ from typing import Protocol
 
 from wisangub.process.places import SIGNTOOL, called
 from wisangub.refusal import Refusal
+from wisangub.snmp import wire
+from wisangub.tester.requests.messages import spelled
+from wisangub.tester.requests.objects import Column, Row
+from wisangub.tester.requests.steps import get
 from wisangub.tester.sign.clock import Clock, RealClock
-from wisangub.tester.sign.described import Bad
+from wisangub.tester.sign.described import Bad, cause, described
 from wisangub.tester.sign.oracle import made
 
-from .watch import Watch
+from .watch import Habit, Watch
 
 _MOST_RECEIVED = 65_535
 
@@ -49,16 +55,28 @@ def serve(door: socket.socket, sign: Answering, clock: Clock, watch: Watch, seco
         left = due - clock.now()
         if left <= 0:
             sign.tick()
+            watch.ticked()
             due += 1
         elif select.select([door], [], [], left)[0]:
             try:
                 octets, sender = door.recvfrom(_MOST_RECEIVED)
             except ConnectionRefusedError:  # of a reply that nobody waits for
                 continue
+            for row in watch.rows_asked(octets):
+                watch.owned(row, _owner(sign, watch.reader, row))
             reply = sign.datagram(octets)
             watch.heard(clock.now() - begun, octets, reply)
             if reply is not None:
                 door.sendto(reply, sender)
+
+
+def _owner(sign: Answering, reader: bytes, row: Row) -> bytes:
+    """The owner that a row of the sign has; none where there is no such row. The sign answers a request that follows
+    at once, so that it counts its silence as if it had not been asked."""
+    asked = get(row.cell(Column.OWNER), is_writer=False).octets(1, (reader, reader))
+    message = spelled(sign.datagram(asked) or b"")
+    held = message.bindings[0][1][1] if message is not None and message.status == wire.NO_ERROR else b""
+    return held if isinstance(held, bytes) else b""
 
 
 def stop(_number: int, _frame: FrameType | None) -> None:
@@ -70,8 +88,16 @@ def _as_json(watch: Watch) -> str:
         {"habit": held.habit.value, "moment": round(held.moment, 3), "words": held.words, "octets": held.octets.hex()}
         for held in watch.seen
     ]
-    counts = {"requests": watch.requests, "again": watch.again, "dropped": watch.dropped}
-    return json.dumps({**counts, "seen": seen}, indent=1) + "\n"
+    whole = {
+        "verdict": watch.verdict().value,
+        "requests": watch.requests,
+        "again": watch.again,
+        "dropped": watch.dropped.total(),
+        "dropped_for": dict(watch.dropped),
+        "habits": {habit.value: watch.counts[habit] for habit in Habit},
+        "seen": seen,
+    }
+    return json.dumps(whole, indent=1) + "\n"
 
 
 def _arguments() -> argparse.ArgumentParser:
@@ -98,11 +124,14 @@ def _arguments() -> argparse.ArgumentParser:
 def main() -> int:
     asked = _arguments().parse_args()
     try:
-        sign = made(asked.signtool, asked.sign.read_bytes())
+        description = asked.sign.read_bytes()
+        sign, reader = made(asked.signtool, description), described(description).reader
+        report = asked.json.open("w", encoding="utf-8") if asked.json else None
     except (OSError, Bad, Refusal) as fault:
-        print(f"{asked.sign}: {fault}" if isinstance(fault, Bad) else fault, file=sys.stderr)
+        where = f"{asked.sign}: {fault}{cause(asked.sign, fault)}" if isinstance(fault, Bad) else ""
+        print(where or fault, file=sys.stderr)
         return 2
-    watch = Watch()
+    watch = Watch(reader)
     for number in (signal.SIGINT, signal.SIGTERM):
         signal.signal(number, stop)
     family = socket.AF_INET6 if ":" in asked.host else socket.AF_INET
@@ -121,9 +150,10 @@ def main() -> int:
             signal.signal(number, signal.SIG_IGN)
         sign.end()
     print("\n".join(watch.lines()), flush=True)
-    if asked.json:
-        asked.json.write_text(_as_json(watch), encoding="utf-8")
-    return 1 if watch.seen else 0
+    if report is not None:
+        with report:
+            report.write(_as_json(watch))
+    return watch.verdict().status
 
 
 if __name__ == "__main__":
