@@ -23,6 +23,7 @@ MODULES = tuple(
         "udp",
         "parts",
         "reports",
+        "besides",
         "ways",
         "seconds",
         "verdicts",

@@ -76,6 +76,7 @@ class Results:
     before: list[Difference] = field(default_factory=list)
     once_before: list[Difference] = field(default_factory=list)  # as `once` of a chapter, before any of them
     configuration: list[tuple[str, str, str]] = field(default_factory=list)  # object, as described, as read
+    besides: list[str] = field(default_factory=list)  # objects that the sign has besides the profile's
     set_back: list[tuple[str, str, str]] = field(default_factory=list)  # what the known state changes, likewise
     is_silent: bool = False
     is_learnt: bool = True

@@ -43,6 +43,7 @@ def as_json(results: Results, about: About, not_tested: list[str]) -> str:
         "seed": about.seed,
         "causes": causes(results.differences()),
         "configuration": _objects(results.configuration),
+        "besides": results.besides,
         "set_back": _objects(results.set_back),
         "chapters": chapters,
         "differences": [_one(difference, about) for difference in results.differences()],

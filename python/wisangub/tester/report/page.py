@@ -92,6 +92,7 @@ def as_html(results: Results, about: About, not_tested: list[str]) -> str:
     articles = "".join(_article(number, held, about) for number, held in enumerate(found, 1)) or "<p>None.</p>"
     seen = "".join(_article(number, held, about) for number, held in enumerate(results.once(), len(found) + 1))
     once = f"<h2>Now and then</h2>{seen}" if seen else ""
+    once += _list("Besides the profile's objects, and no difference", results.besides)
     once += _list("The way to the sign", way_words(results)) + _list("Not judged", results.unjudged())
     summary = _list("What differs", causes(found))
     before = _objects("Described otherwise", results.configuration) + _objects(

@@ -8,7 +8,7 @@ from wisangub.tester.findings.differences import Difference
 from wisangub.tester.findings.results import ChapterResult, Results
 
 from .causes import cause, causes
-from .words import About, how_sure, origin, sequence, verdict, way_words
+from .words import About, besides_words, how_sure, origin, sequence, verdict, way_words
 
 try:
     from rich.console import Console
@@ -137,6 +137,8 @@ def ending(results: Results, about: About, not_tested: list[str]) -> list[str]:
     for name, described, read in results.set_back:
         said = f"{name} is {described} in the description, was {read} on the sign, and is set back"
         lines.append(f"changed since: {said}")
+    if results.besides:
+        lines.append(f"besides: the sign has {besides_words(results)}, which is no difference")
     for number, difference in enumerate([*results.differences(), *results.once()], 1):
         lines += ["", *difference_lines(number, difference, about)]
     lines += ["", "what differs:", *[f"  {line}" for line in found]] if (found := causes(results.differences())) else []

@@ -91,6 +91,12 @@ def verdict(results: Results) -> str:
     return f"{found.value}: {told}" + (f"; {odd_words(results)}" if results.is_odd() else "")
 
 
+def besides_words(results: Results) -> str:
+    """The first of the objects that a sign has besides the profile's, and how many there are."""
+    first = ", ".join(results.besides[:8])
+    return f"{len(results.besides)} objects besides the profile's: {first}" + (" .." if results.besides[8:] else "")
+
+
 def odd_words(results: Results) -> str:
     """What was wrong now and then, in a few words."""
     once, way = sum(1 + held.alike for held in results.once()), results.way

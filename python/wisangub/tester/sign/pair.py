@@ -10,11 +10,13 @@ from wisangub.tester.requests.objects import Name, Row, is_validation, row_of
 from wisangub.tester.requests.steps import Ask, Raw, Step, Wait, get
 from wisangub.tester.state.unanswered import is_command, is_known
 
+from .besides import Besides
 from .clock import Clock
 from .oracle import Oracle
 from .port import Port
 from .ticks import Ticks
 
+_OF_NAMES = (Kind.STATUS, Kind.BINDINGS, Kind.VALUE)  # differences that other objects may explain
 _MOST_DOUBTS = 2  # sequences in a row that end since a tick may have come late
 _SAMPLES = 3  # how often a Get whose answer is in doubt is asked anew
 
@@ -44,6 +46,7 @@ class Pair:
     ticks: Ticks
     communities: tuple[bytes, bytes]
     masked: set[Name] = field(default_factory=set)
+    besides: Besides = field(default_factory=Besides)  # what the sign under test has that ours has not
     touched: set[Row] = field(default_factory=set)
     log: list[bytes | None] = field(default_factory=list)  # what ours was handed since it began; None is a tick
     numbers: dict[int, int] = field(default_factory=dict)
@@ -144,9 +147,23 @@ class Pair:
         if heard.tries > 1:
             self.pass_ticks()
             ours = self.hand(octets)
-        differs = mismatch(ours, heard.reply, frozenset(self.masked))
+        differs = self._mismatch(message, ours, heard.reply)
         is_sure = heard.tries == 1 and not self.ticks.is_in_doubt(heard.begun, heard.ended) or step.group is not None
         return Exchange(step, octets, ours, heard.reply, differs), is_sure
+
+    def _mismatch(self, request: wire.Message, ours: bytes | None, theirs: bytes | None) -> Mismatch | None:
+        """How the replies differ, but for what the sign under test has besides."""
+        masked = frozenset(self.masked)
+        differs = mismatch(ours, theirs, masked)
+        reply = spelled(theirs or b"")
+        if differs is None or reply is None or not self.besides.names or differs.kind not in _OF_NAMES:
+            return differs
+        return self.besides.judged(request, reply, differs, masked, self._ours_of)
+
+    def _ours_of(self, request: wire.Message) -> wire.Message | None:
+        """Our reply to a part of a read that ours was handed: it changes nothing."""
+        reply = self.oracle.datagram(wire.written(request))
+        return None if reply is None else spelled(reply)
 
     def set(self, step: Ask | Raw, octets: bytes, message: wire.Message, ours: bytes) -> Exchange:
         heard = self.port.ask_once(octets, message.number, ours)
@@ -155,7 +172,7 @@ class Pair:
             return Exchange(step, octets, ours, None, Mismatch(Kind.NO_ANSWER), True, True)
         if _hangs_on_ticks(message) and self.ticks.may_have_come(heard.ended):
             raise Inconclusive("a tick may have come before the sign took what hangs on ticks")
-        differs = mismatch(ours, heard.reply, frozenset(self.masked))
+        differs = self._mismatch(message, ours, heard.reply)
         if differs is not None and self.ticks.is_in_doubt(heard.begun, heard.ended) and self.doubts < _MOST_DOUBTS:
             self.doubts += 1
             self.ticks.was_late()

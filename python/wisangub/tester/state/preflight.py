@@ -12,7 +12,8 @@ from wisangub.tester.findings.results import Results, Watcher
 from wisangub.tester.findings.rules import RULES, Rule
 from wisangub.tester.requests.messages import spelled
 from wisangub.tester.requests.objects import DEFAULTS, Column, Name, Value, integer, octets, row_of, spoken
-from wisangub.tester.requests.steps import Ask, Wait, get, looks
+from wisangub.tester.requests.steps import Ask, Wait, get, get_next, looks
+from wisangub.tester.sign.besides import Besides
 from wisangub.tester.sign.pair import Exchange, Pair
 from wisangub.tester.sign.way import Stopped
 
@@ -27,6 +28,7 @@ _OTHER_SIGN = (
     "dmsMaxChangeableMsg.0",
     "dmsMaxVolatileMsg.0",
 )
+_GAPS, _MOST_BESIDES = 20, 2000  # gaps that one GetNext asks for; instances that are listed
 _READS = (Kind.STATUS, Kind.BINDINGS, Kind.VALUE)
 
 
@@ -49,6 +51,7 @@ class Preflight:
         if others and not is_anyway:
             raise Stopped(f"{', '.join(others)} differ, so the description is of another sign; --anyway goes on")
         self.reach_first()
+        self.find_besides()
         self.compare_all()
         return True
 
@@ -85,6 +88,36 @@ class Preflight:
                 break
             self.tell_unreached(unreached)
         self.results.is_learnt = self.pair.ticks.is_learnt()
+
+    def find_besides(self) -> None:
+        """What the sign says that it has in the gaps between the profile's objects: no difference from here on."""
+        names = self.context.instances
+        besides = self.pair.besides = Besides(names)
+        gaps = [(before, after) for before, after in zip([(0, 0), *names], [*names, None]) if _is_gap(before, after)]
+        for at in range(0, len(gaps), _GAPS):
+            asked = get_next(*[before for before, _ in gaps[at : at + _GAPS]])
+            reply = spelled(self.reset.ask(asked) or b"")
+            if reply is None:
+                return
+            if reply.status == wire.NO_ERROR and [name for name, _ in reply.bindings] == [
+                after for _, after in gaps[at : at + _GAPS]
+            ]:
+                continue
+            for before, after in gaps[at : at + _GAPS]:
+                self._walk(before, after, besides)
+        self.results.besides = [spoken(name) for name in besides.names]
+
+    def _walk(self, before: Name, after: Name | None, besides: Besides) -> None:
+        """The instances of one gap, each of which has to answer a Get too."""
+        while len(besides.names) < _MOST_BESIDES:
+            found = spelled(self.reset.ask(get_next(before)) or b"")
+            if found is None or found.status or len(found.bindings) != 1:
+                return
+            name = found.bindings[0][0]
+            if name <= before or after is not None and name >= after or self.reset.read([name])[name] is None:
+                return
+            besides.add(name)
+            before = name
 
     def compare_all(self) -> None:
         """Every instance of both, one after the other: of those that read otherwise the first of each rule is told."""
@@ -172,6 +205,11 @@ class Preflight:
             if cause is not None and isinstance(cause[1], int):
                 return RULES[classify.BY_CAUSE.get(cause[1], "deciding")]
         return rule
+
+
+def _is_gap(before: Name, after: Name | None) -> bool:
+    """Whether an object may stand between two instances: not between two rows of a column that follow each other."""
+    return after is None or before[:-1] != after[:-1] or after[-1] != before[-1] + 1
 
 
 def _note(unreached: list[Unreached]) -> str:
