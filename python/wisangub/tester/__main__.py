@@ -12,6 +12,7 @@ PARTS = {
 
 
 def run() -> int:
+    """The exit status of wisangub-conform, or of the subcommand that its first word names."""
     return commands.run("wisangub.tester.cli", PARTS)
 
 

@@ -196,6 +196,7 @@ def _interrupted(_number: int, _frame: FrameType | None) -> None:
 
 
 def main() -> int:
+    """The whole command; its exit status is the verdict's, or 2 where it could not test."""
     asked = _arguments().parse_args()
     oracle: Oracle | None = None
     judge: Judge | None = None

@@ -18,6 +18,8 @@ _NO_END = 65535  # minutes
 
 @dataclass
 class Context:
+    """The sign as the chapters know it. `seed` and `requests` are of the random ones."""
+
     described: Description
     communities: tuple[bytes, bytes]
     judge: Judge
@@ -39,6 +41,7 @@ class Context:
 
     @functools.cached_property
     def permanent(self) -> list[Row]:
+        """The permanent rows."""
         return [Row(Memory.PERMANENT, number + 1) for number in range(len(self.described.permanent))]
 
     @property
@@ -58,6 +61,7 @@ class Context:
 
     @property
     def defaults(self) -> tuple[int, ...]:
+        """The nine defaults of the description."""
         return self.described.face.defaults
 
     @functools.cached_property
@@ -81,14 +85,17 @@ class Context:
         return self.judge.fault(text, defaults or self.defaults)
 
     def crc(self, text: bytes, beacon: int = 0, pixel: int = 0) -> int:
+        """The checksum of a message, of 16 bits."""
         return checksum(text, beacon, pixel)
 
     def code(self, row: Row, crc: int, priority: int = 255, minutes: int = _NO_END, address: bytes = ADDRESS) -> bytes:
+        """The code of an activation, of twelve octets."""
         return minutes.to_bytes(2, "big") + bytes([priority]) + self.message_code(row, crc) + address
 
     def blank_code(
         self, number: int = 1, priority: int = 255, minutes: int = _NO_END, address: bytes = ADDRESS
     ) -> bytes:
+        """The code of the activation of a blank message."""
         return self.code(Row(Memory.BLANK, number), 0, priority, minutes, address)
 
     def message_code(self, row: Row, crc: int) -> bytes:
@@ -126,12 +133,15 @@ class Context:
 
 
 def activate(code: bytes, rule: str = "") -> Ask:
+    """A SET of dmsActivateMessage."""
     return put(activation(code), rule=rule)
 
 
 def activation(code: bytes) -> Binding:
+    """The binding of an activation."""
     return scalar("dmsActivateMessage"), octets(code)
 
 
 def remaining(minutes: int) -> Binding:
+    """The binding of dmsMessageTimeRemaining."""
     return scalar("dmsMessageTimeRemaining"), (2, minutes)

@@ -25,6 +25,8 @@ PASSES = 4  # times that what could not be judged is begun again at the end of i
 
 @dataclass
 class Session:
+    """A test of one sign; `most_seconds` is how long a difference is made smaller."""
+
     pair: Pair
     context: Context
     watcher: Watcher
@@ -39,6 +41,7 @@ class Session:
         self.preflight = Preflight(self.pair, self.reset, self.context, self.results, self.watcher)
 
     def is_enough(self) -> bool:
+        """Whether as many differences were found as are asked for."""
         return self.most_differences is not None and len(self.results.differences()) >= self.most_differences
 
     def run(self, chapters: Sequence[Chapter]) -> Results:
@@ -75,6 +78,7 @@ class Session:
     # --- chapters --------------------------------------------------------------------------------------------
 
     def chapter(self, chapter: Chapter) -> None:
+        """All cases of a chapter, and its place in the results."""
         result = ChapterResult(chapter)
         self.results.chapters.append(result)
         blocks = list(chapter.blocks(self.context))
@@ -140,6 +144,7 @@ class Session:
         return self.block(result, replace(block, steps=[*before, *block.steps], is_fresh=True), None)
 
     def rule_of(self, block: Block, run: Run, is_small: bool = False) -> Rule:
+        """The rule that a difference breaks."""
         exchange = run.exchange
         assert exchange.mismatch is not None
         if exchange.mismatch.kind is Kind.SPELLING:
@@ -183,6 +188,7 @@ class Session:
         return self.count() > told
 
     def count(self) -> int:
+        """How many differences were found, with those that are like others."""
         return sum(1 + held.alike for held in self.results.differences())
 
     def difference(self, result: ChapterResult, block: Block, run: Run, steps: list[Step]) -> None:

@@ -80,6 +80,7 @@ def _owner(sign: Answering, reader: bytes, row: Row) -> bytes:
 
 
 def stop(_number: int, _frame: FrameType | None) -> None:
+    """The handler of a signal: raises Stopped."""
     raise Stopped
 
 
@@ -122,6 +123,7 @@ def _arguments() -> argparse.ArgumentParser:
 
 
 def main() -> int:
+    """Watches until it is stopped, and reports; the exit status is the verdict's."""
     asked = _arguments().parse_args()
     try:
         description = asked.sign.read_bytes()

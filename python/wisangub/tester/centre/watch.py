@@ -78,6 +78,7 @@ class Watch:
     refused: set[Name] = field(default_factory=set)  # objects outside the table, refused and not written since
 
     def note(self, habit: Habit, moment: float, octets: bytes, words: str) -> None:
+        """A habit was seen at this moment, in seconds from the beginning, in these octets."""
         self.counts[habit] += 1
         if self.counts[habit] <= _MOST_SEEN:
             self.seen.append(Seen(habit, moment, words, octets))

@@ -14,6 +14,7 @@ _INTEGERS = ("version", "number", "status", "index")
 
 
 def integers() -> Iterator[Block]:
+    """Cases of what an INTEGER's content may be."""
     good = [
         b"\x7f",
         b"\x00\x80",
@@ -99,6 +100,7 @@ def values() -> Iterator[Block]:
 
 
 def names() -> Iterator[Block]:
+    """Cases of what a name's content may be."""
     most = wire.name_content((1, 3) + (2**32 - 1,) * 3)
     good = [
         b"\x2b",

@@ -18,6 +18,7 @@ def raw(rule: str, changes: dict[str, Form], **more: object) -> Raw:
 
 
 def whole_changed(change: Callable[[bytes], bytes], rule: str = "") -> Raw:
+    """A Get whose octets are changed as a whole."""
     return Raw(lambda number, names: change(spelled(number, names[1], {})), rule)
 
 

@@ -35,6 +35,7 @@ class Chapter:
 
 
 def modify(row: Row) -> Ask:
+    """A row is asked to modify."""
     return put(row.status(RowStatus.MODIFY_REQ), rule="statuses")
 
 
@@ -48,10 +49,12 @@ def fill(
 
 
 def validate(row: Row) -> Ask:
+    """A row is asked to validate."""
     return put(row.status(RowStatus.VALIDATE_REQ), rule="statuses")
 
 
 def unuse(row: Row) -> Ask:
+    """A row is asked to be not used."""
     return put(row.status(RowStatus.NOT_USED_REQ), rule="statuses")
 
 
@@ -74,6 +77,7 @@ def look(*rows: Row, rule: str = "", more: Sequence[Name] = ()) -> list[Ask]:
 
 
 def look_at(*names: Name, rule: str = "") -> Ask:
+    """A read of these names."""
     return get(*names, rule=rule)
 
 

@@ -61,6 +61,7 @@ class Values:
     # --- names and values ------------------------------------------------------------------------------------
 
     def name(self) -> Name:
+        """A name to read."""
         draw = self.chance.random()
         if draw < 0.45:
             return self.chance.choice(STATE_SCALARS)
@@ -104,6 +105,7 @@ class Values:
         return name, integer(self.chance.choice([least, most, self.chance.randint(least, most), most + 1]))
 
     def field(self, row: Row) -> Binding:
+        """A field of a row, with a value that may fit."""
         draw = self.chance.random()
         text, beacon, pixel = self.held.get(row, (b"", 0, 0))
         if draw < 0.5:
@@ -142,10 +144,12 @@ class Values:
         return Row(self.chance.choice([0, 1, 6, 8]), 1), 0
 
     def message_code(self) -> bytes:
+        """A code of five octets."""
         row, crc = self.target()
         return self.context.message_code(row, crc)
 
     def code(self) -> bytes:
+        """A code of an activation, of twelve octets."""
         row, crc = self.target()
         if self.chance.random() < 0.1:
             crc ^= 1 << self.chance.randrange(16)

@@ -57,6 +57,7 @@ def _around(name: Name, least: int, most: int) -> list[Binding]:
 
 
 def scalars(context: Context) -> Iterator[Block]:
+    """Cases of each scalar's range and types."""
     for name, least, most in RANGES:
         yield Block(
             "ranges", "ranges", [step for bound in _around(name, least, most) for step in (put(bound), look_at(name))]
@@ -97,6 +98,7 @@ def scalars(context: Context) -> Iterator[Block]:
 
 
 def cells(context: Context, row: Row) -> Iterator[Block]:
+    """Cases of the range and types of a row's fields."""
     bounds = [
         bound for column, (least, most) in _CELL_RANGES.items() for bound in _around(row.cell(column), least, most)
     ]

@@ -20,6 +20,7 @@ class Telling:
 
 
 def default(member: int, value: int) -> Binding:
+    """A SET's binding of the default that has this place in a description, from 1."""
     return DEFAULTS[member - 1], integer(value)
 
 

@@ -123,6 +123,7 @@ def _characters(context: Context) -> list[Sample]:
 
 
 def parts(context: Context) -> list[Sample]:
+    """Texts about parts of a line, their places and what touches."""
     one = context.character()
     lines = [
         b"[jl3]%s[jl2]%s",
@@ -157,6 +158,7 @@ def parts(context: Context) -> list[Sample]:
 
 
 def pages(context: Context) -> list[Sample]:
+    """Texts about pages, their lines and what is missing."""
     one, last = context.character(), b"[np]" * 5 + full(context) + b"[nl0][np]"
     found = [one + b"[np]" * 5 + one, b"[np]" * 6, b"[np]" * 5, one + b"[np]" * 6 + one, (one + b"[np]") * 7, last]
     return made("pages", found, 2)

@@ -39,6 +39,7 @@ def object_of(name: Name) -> tuple[int, ...]:
 
 
 def signature(exchange: Exchange) -> Signature:
+    """What is alike in two exchanges that show the same difference."""
     assert exchange.mismatch is not None
     message = spelled(exchange.octets)
     names = exchange.mismatch.names
@@ -91,11 +92,13 @@ class Difference:
 
     @property
     def title(self) -> str:
+        """The class and the first of the objects that differ."""
         about = ", ".join(dict.fromkeys(spoken(name) for name in self.mismatch.names[:3]))
         return self.mismatch.kind.value + (f": {about}" if about else "")
 
     @property
     def datagrams(self) -> int:
+        """How many datagrams the sequence sends."""
         return sum(octets is not None for octets in self.sent)
 
     def sides(self) -> tuple[list[str], list[str]]:

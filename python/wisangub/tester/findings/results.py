@@ -82,6 +82,7 @@ class Results:
     is_learnt: bool = True
 
     def differences(self) -> list[Difference]:
+        """All that differs and came again."""
         return self.before + [difference for result in self.chapters for difference in result.differences]
 
     def once(self) -> list[Difference]:

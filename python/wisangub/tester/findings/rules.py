@@ -32,6 +32,8 @@ _TABLE = pathlib.Path(__file__).with_name("rules.txt")
 
 @dataclass(frozen=True)
 class Rule:
+    """A sentence of docs/PROFILE.md under its heading; `own` is a choice of the profile."""
+
     key: str
     chapter: str
     heading: str

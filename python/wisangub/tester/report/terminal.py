@@ -126,6 +126,7 @@ class Rich(Plain):
 
 
 def watcher() -> Plain:
+    """Who tells a person how the test goes on: with a progress bar where there can be one."""
     return Rich() if Console is not None and sys.stdout.isatty() else Plain()
 
 

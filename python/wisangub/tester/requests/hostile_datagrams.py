@@ -65,6 +65,7 @@ ROWS = ((3, 1), (3, 2), (4, 1))
 
 
 def may_be_written(binding: wire.Binding) -> bool:
+    """Whether a binding has a value that its object may be written."""
     name, (tag, value) = binding
     if name[: len(DMS)] != DMS:
         return False
@@ -161,6 +162,8 @@ TAGS = [
 
 
 class Maker:
+    """Makes datagrams, the same for the same seed."""
+
     def __init__(self, seed: int) -> None:
         self.random = random.Random(seed)
         self.rate = 0.0
@@ -305,6 +308,7 @@ class Maker:
         return octets + octets
 
     def hostile(self, kinds: list[int], number: int) -> bytes:
+        """Octets near to a message."""
         draw = self.random.randrange(400)
         if draw == 0:
             return self.random.randbytes(self.one([0, 1, 2, 20, 100]))
@@ -317,12 +321,14 @@ class Maker:
         return made
 
     def to_sign(self) -> bytes:
+        """A datagram for a sign."""
         while True:
             octets = self.hostile([GET, GET, GET_NEXT, GET_NEXT, SET, SET, SET, RESPONSE, TRAP], self.bound())
             if not is_in_order(octets):
                 return octets
 
     def to_centre(self, waiting: int) -> bytes:
+        """A datagram for a central system."""
         while True:
             number = self.one(BOUNDS[:4] + [waiting] * 6 + [waiting + 1, waiting - 1])
             octets = self.hostile([RESPONSE] * 6 + [GET, SET, TRAP], number)

@@ -33,5 +33,6 @@ def written(message: wire.Message) -> bytes:
 
 
 def status_of(octets: bytes | None) -> int | None:
+    """The error-status that a reply spells; None where it is no message."""
     message = spelled(octets) if octets is not None else None
     return None if message is None else message.status

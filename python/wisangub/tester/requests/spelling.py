@@ -34,6 +34,7 @@ def longer(by: int) -> Form:
 
 
 def tagged(tag: int) -> Form:
+    """Another tag."""
     return lambda _, content: wire.element(tag, content)
 
 
@@ -53,6 +54,7 @@ def without() -> Form:
 
 
 def twice() -> Form:
+    """The element, and once more."""
     return lambda tag, content: 2 * wire.element(tag, content)
 
 

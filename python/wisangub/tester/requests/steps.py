@@ -55,14 +55,17 @@ Step = Union[Ask, Raw, Wait]
 
 
 def get(*names: Name, rule: str = "", is_writer: bool = True) -> Ask:
+    """A Get of these names."""
     return Ask(wire.GET, tuple((name, NULL) for name in names), is_writer, rule)
 
 
 def get_next(*names: Name, rule: str = "", is_writer: bool = True) -> Ask:
+    """A GetNext of these names."""
     return Ask(wire.GET_NEXT, tuple((name, NULL) for name in names), is_writer, rule)
 
 
 def put(*bindings: Binding, rule: str = "", is_writer: bool = True) -> Ask:
+    """A SET of these bindings."""
     return Ask(wire.SET, bindings, is_writer, rule)
 
 

@@ -29,6 +29,8 @@ class Run:
 
 @dataclass
 class Runner:
+    """Runs sequences from the known state. `answered` has what SETs were answered, by their likes."""
+
     pair: Pair
     reset: Reset
     most_seconds: float = 40.0  # that a difference is made smaller

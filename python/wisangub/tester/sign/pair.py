@@ -40,6 +40,8 @@ class Exchange:
 
 @dataclass
 class Pair:
+    """The sign under test behind its port, and ours behind the oracle."""
+
     port: Port
     oracle: Oracle
     clock: Clock
@@ -59,6 +61,7 @@ class Pair:
     # --- ours ------------------------------------------------------------------------------------------------
 
     def restart_ours(self) -> None:
+        """Ours is as it is made, and has had no ticks."""
         self.ticks.take_passed()
         self.oracle.restart()
         self.log.clear()
@@ -96,6 +99,7 @@ class Pair:
         self.numbers.clear()
 
     def number_of(self, step: Ask | Raw) -> int:
+        """The request number of a step in this run."""
         if step.group is None:
             return self.port.new_number()
         return self.numbers.setdefault(step.group, self.port.new_number())
@@ -128,6 +132,7 @@ class Pair:
         return exchange
 
     def note_rows(self, message: wire.Message | None) -> None:
+        """The rows that a SET may have changed."""
         if message is not None and message.kind == wire.SET:
             rows = (row_of(name) for name, _ in message.bindings)
             self.touched.update(Row(*row) for row in rows if row is not None)
@@ -166,6 +171,7 @@ class Pair:
         return None if reply is None else spelled(reply)
 
     def set(self, step: Ask | Raw, octets: bytes, message: wire.Message, ours: bytes) -> Exchange:
+        """A SET at both. Raises Inconclusive where it cannot be told what it did."""
         heard = self.port.ask_once(octets, message.number, ours)
         if heard.reply is None:
             self.settle_lost(octets, message, ours)

@@ -45,6 +45,7 @@ class Port:
         self.way = Way(self.clock, self.wait, self.patience)
 
     def new_number(self) -> int:
+        """A request number that was not used for long."""
         self.number = self.number + 1 if self.number < LAST_NUMBER else FIRST_NUMBER
         return self.number
 
@@ -56,6 +57,7 @@ class Port:
         self.odd[number] = [*sent, octets][-_MOST_KEPT:]
 
     def send(self, octets: bytes) -> None:
+        """Sends octets, and counts them."""
         self.sent += 1
         self.link.send(octets)
 

@@ -148,6 +148,7 @@ def _soak(asked: argparse.Namespace, description: bytes) -> list[dict[str, Any]]
 
 
 def main() -> int:
+    """Runs the seeds and prints what came of each; the exit status is 1 where one differs."""
     parser = argparse.ArgumentParser(prog="wisangub-conform soak", description="right signs through random requests")
     parser.add_argument("--seeds", type=int, default=20)
     parser.add_argument("--first", type=int, default=1, metavar="SEED")

@@ -34,6 +34,8 @@ _READS = (Kind.STATUS, Kind.BINDINGS, Kind.VALUE)
 
 @dataclass
 class Preflight:
+    """The reads before the chapters, and the first way to the known state."""
+
     pair: Pair
     reset: Reset
     context: Context
@@ -56,6 +58,7 @@ class Preflight:
         return True
 
     def configure(self) -> None:
+        """What is described otherwise is told and left out; what was changed is listed."""
         for name, wanted, have in _differing(self.reset, _described(self.context)):
             if self.reset.read([name])[name] == wanted:
                 self._wrong_once(get(name), Mismatch(Kind.VALUE, (name,)))
@@ -76,6 +79,7 @@ class Preflight:
         return Difference.of(rule, "before", exchange, [exchange.step], [exchange.octets])
 
     def add(self, difference: Difference) -> None:
+        """A difference before the chapters is told."""
         self.results.before.append(difference)
         self.watcher.found(difference)
 

@@ -21,6 +21,8 @@ _Read = dict[Name, Value | None]
 
 @dataclass
 class Reset:
+    """Brings both signs to the known state. `last` has the last request for an object and its reply."""
+
     pair: Pair
     context: Context
     last: dict[Name, tuple[Ask, bytes | None]] = field(default_factory=dict)
@@ -37,6 +39,7 @@ class Reset:
         return {name: value for name, value in self.objects.all(self.touched()).items() if name not in left_out}
 
     def touched(self) -> list[Row]:
+        """The rows that may have been changed since the known state, in order."""
         rows = (row for row in self.pair.touched if row in self.context.rows)
         return sorted(rows, key=lambda row: (row.memory, row.number))
 
@@ -101,6 +104,7 @@ class Reset:
         return Unreached(name, value, read, request, reply)
 
     def repair(self, wrong: list[Name], observe: bool) -> None:
+        """A request for each object that is not as it should be."""
         for row in self.touched():
             if row.cell(Column.STATUS) in wrong:
                 self.empty(row)
@@ -120,6 +124,7 @@ class Reset:
             self.put(activate(self.context.known_code), *self.objects.shown())
 
     def put(self, request: Ask, *names: Name) -> None:
+        """A SET, which is remembered as the last for these names."""
         reply = self.ask(request)
         self.last |= {name: (request, reply) for name in names}
 

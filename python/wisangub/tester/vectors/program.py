@@ -57,6 +57,7 @@ def _compare(door: socket.socket, to: tuple[str, int], wanted: list[dict[str, An
 
 
 def main() -> int:
+    """Asks for the vectors and prints what is otherwise; 2 where the sign is silent."""
     parser = argparse.ArgumentParser(
         prog=called("wisangub-conform vectors"),
         description=__doc__,
