@@ -10,7 +10,7 @@ from wisangub.tester.sign.described import Bad, described
 from wisangub.tester.sign.judge import SignJudge
 from wisangub.tester.sign.oracle import made
 
-from .test_signs import skip
+from .skipping import skip
 
 TEXTS = [b"", b"A", b"A" * 4, b"[zz]", b"A[nl]B", b"[fo9]A", b"[jl4]A[jl2]B", b"\0", b"\xe4", b"A[np]B", b"A" * 513]
 DEFAULTS = [(0, 9, 5, 5, 1, 3, 2, 30, 0), (0, 9, 5, 5, 2, 4, 4, 30, 0)]

@@ -9,6 +9,8 @@ from wisangub.tester.sign.judge import SignJudge
 from wisangub.tester.sign.oracle import made
 from wisangub.tester.soak import program as soak
 
+from .skipping import skip
+
 SIGNS = [TOP / "signs/roadside.sign", TOP / "signs/gantry.sign"]
 FEW = (
     "integers_may_be_padded",
@@ -57,15 +59,3 @@ def test_wrong_signs_are_found() -> None:
         if mutant.name in FEW:
             outcome = tried(mutant, BENCH, "model")
             assert outcome.is_found, outcome
-
-
-class Skipped(Exception):
-    """A test that cannot run here, where there is no pytest."""
-
-
-def skip(why: str) -> None:
-    try:
-        import pytest
-    except ImportError:
-        raise Skipped(why) from None
-    pytest.skip(why)

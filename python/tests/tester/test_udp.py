@@ -15,7 +15,7 @@ from typing import Iterator
 from model import text
 from wisangub.process.places import TOP
 
-from .test_signs import skip
+from .skipping import skip
 
 LONG = 300  # seconds that a busy machine may take
 BUSY = 25  # where a test that fails took longer, seconds of the machine are none to go by: it is skipped
