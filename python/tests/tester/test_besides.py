@@ -3,7 +3,9 @@
 import bisect
 
 from model import text, wire
+from model.objects import Objects
 from model.sign import Sign
+from model.state import State
 from trials.wrong_signs import bench
 from wisangub.snmp.names import DMS, scalar
 from wisangub.tester.findings.compare import Kind
@@ -22,11 +24,11 @@ HELD: dict[wire.Name, wire.Tagged] = {
 }
 
 
-class Richer(Sign):
-    """A sign with more objects than the profile's."""
+class MoreObjects(Objects):
+    """The profile's objects, and those besides."""
 
-    def __init__(self) -> None:
-        super().__init__(text.bench())
+    def __init__(self, state: State) -> None:
+        super().__init__(state)
         for name in HELD:
             bisect.insort(self.names, name)
 
@@ -34,12 +36,20 @@ class Richer(Sign):
         return HELD.get(name) or super().value(name)
 
 
+class Richer(Sign):
+    """A sign with more objects than the profile's."""
+
+    def __init__(self) -> None:
+        super().__init__(text.bench())
+        self.objects = MoreObjects(self.state)
+
+
 class Forgetful(Richer):
     """One that leaves an object of the profile out of its order."""
 
     def __init__(self) -> None:
         super().__init__()
-        self.names.remove(scalar("defaultFlashOn"))
+        self.objects.names.remove(scalar("defaultFlashOn"))
 
 
 def found(sign: Sign) -> Results:
