@@ -1,0 +1,91 @@
+"""The roles of PostgreSQL that docs/CONTROL.md has: a service works, and changes neither audit nor journals."""
+
+import pathlib
+import re
+from typing import Iterator
+
+import pytest
+
+from . import needs
+
+needs.modules("aiohttp", "jinja2", "psycopg")
+
+from trials.room.cluster import Cluster
+from wisangub.process.places import TOP
+from wisangub.refusal import Refusal
+from wisangub.room.store import database
+from wisangub.room.store.database import Failed
+
+from .bench import HELLO, bench
+from .visits import Bench, Visitors, run
+
+OWNER, SERVICE = "room_owner", "room_service"
+DENIED = (
+    "UPDATE audit SET what = 'nothing'",
+    "DELETE FROM audit",
+    "TRUNCATE audit",
+    "DROP TABLE audit",
+    "ALTER TABLE audit DISABLE TRIGGER ALL",
+    "UPDATE lines SET line = ''",
+    "DELETE FROM lines",
+    "DELETE FROM commands",
+    "UPDATE commands SET line = ''",
+    "UPDATE commands SET who = 'nobody'",
+    "DELETE FROM ledger",
+    "UPDATE keys SET value = ''",
+    "INSERT INTO migrations (number, at) VALUES (900, 0)",
+    "CREATE TABLE more (a BIGINT)",
+)
+
+
+def recipe() -> list[str]:
+    """The statements of the page, for the roles of the test."""
+    found = re.search(r"```sql\n(.*?)```", (TOP / "docs/CONTROL.md").read_text(), re.DOTALL)
+    assert found is not None
+    text = re.sub(r"\bcontrol\b", SERVICE, found[1].replace("control_owner", OWNER))
+    return [one.strip() for one in text.split(";\n") if one.strip()]
+
+
+@pytest.fixture
+def role(server: Cluster) -> Iterator[str]:
+    """A new database of the owner, as the service's role sees it."""
+    url = server.database()
+    first = database.connected(url)
+    for name in (OWNER, SERVICE):
+        if not first.run("SELECT 1 FROM pg_roles WHERE rolname = ?", name):
+            first.run(f"CREATE ROLE {name} LOGIN")
+    first.run(f"ALTER DATABASE {url.rpartition('/')[2]} OWNER TO {OWNER}")
+    first.close()
+    owner = database.opened(url.replace("control@", f"{OWNER}@"))
+    for statement in recipe():
+        owner.run(statement)
+    owner.close()
+    yield url.replace("control@", f"{SERVICE}@")
+
+
+def test_a_worker_of_the_service_s_role_changes_no_record(tmp_path: pathlib.Path, role: str) -> None:
+    with bench(tmp_path, role) as at:
+        assert at.ended(at.worker(), at.ask(HELLO)) == "accepted"
+        held = at.store.database
+        before = held.run("SELECT * FROM audit"), held.run("SELECT * FROM lines")
+        for statement in DENIED:
+            with pytest.raises(Failed, match="permission denied|must be owner"):
+                held.run(statement)
+        assert (held.run("SELECT * FROM audit"), held.run("SELECT * FROM lines")) == before and all(before)
+
+
+def test_pages_of_the_service_s_role(tmp_path: pathlib.Path, role: str) -> None:
+    async def act(bench: Bench, visitor: Visitors) -> None:
+        one = await bench.logged_in(visitor, "administrator")
+        assert (await visitor().log_in("operator", "wrong"))[0] == 403
+        assert "another role" in (await one.post("/users", {"do": "role", "name": "reader", "role": "operator"}))[1]
+        assert (await one.get("/audit"))[0] == 200 and (await one.post("/logout", {}))[0] == 303
+
+    run(tmp_path, role, act)
+
+
+def test_the_service_s_role_carries_no_database_over(role: str, monkeypatch: pytest.MonkeyPatch) -> None:
+    known = database.migrations()
+    monkeypatch.setattr(database, "migrations", lambda: [*known, (900, "CREATE TABLE more (a BIGINT);\n")])
+    with pytest.raises(Refusal, match="permission denied"):
+        database.opened(role)
