@@ -27,6 +27,7 @@ PAGES = (
     "/users",
     "/audit",
     "/account",
+    "/alarms",
     "/login",
 )
 BLANK = {"kind": "blank", "sign": "1", "number": "1", "confirmation": "x" * 24}

@@ -27,6 +27,7 @@ PAGES = {
     "/history": Role.READER,
     "/history?outcome=open&who=operator&sign={one}": Role.READER,
     "/account": Role.READER,
+    "/alarms": Role.READER,
     "/batches/1": Role.READER,
     "/compose": Role.OPERATOR,
     "/compose?sign={one}&sign={gantry}": Role.OPERATOR,
@@ -42,6 +43,7 @@ POSTS = {
     "/look": Role.OPERATOR,
     "/users": Role.ADMINISTRATOR,
     "/commands/1/withdraw": Role.OPERATOR,
+    "/alarms/1/acknowledge": Role.OPERATOR,
 }
 MARKUP = "<script>alert('&')</script>"
 

@@ -1,6 +1,7 @@
 """What the control room keeps, each table or two of it behind an object of its own over one database."""
 
 from .addresses import Addresses
+from .alarms import Alarms
 from .commands import Commands
 from .connection import Database
 from .leases import Leases
@@ -22,3 +23,4 @@ class Store:
         self.commands = Commands(database)
         self.readings = Readings(database)
         self.messages = Messages(database)
+        self.alarms = Alarms(database)

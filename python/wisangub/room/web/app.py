@@ -17,7 +17,19 @@ from wisangub.room.store.database import Failed, Taken
 from wisangub.room.store.logins import Visitor
 from wisangub.room.store.users import Role
 
-from . import bodies, compose, log_pages, people, picture_pages, record_pages, send, sign_in, sign_pages, wall
+from . import (
+    alarm_pages,
+    bodies,
+    compose,
+    log_pages,
+    people,
+    picture_pages,
+    record_pages,
+    send,
+    sign_in,
+    sign_pages,
+    wall,
+)
 from .events import Hub, events
 from .security import address_of, prepare
 from .service import HERE, SERVICE, Service, service_of
@@ -55,6 +67,8 @@ ROUTES = (
     Route("GET", r"/signs/{sign:\d{1,9}}/shown", record_pages.shown),
     Route("GET", r"/signs/{sign:\d{1,9}}/log", log_pages.log),
     Route("GET", "/history", record_pages.history_page),
+    Route("GET", "/alarms", alarm_pages.listed),
+    Route("POST", r"/alarms/{alarm:\d{1,9}}/acknowledge", alarm_pages.acknowledge, _OPERATOR),
     Route("GET", r"/batches/{batch:\d{1,9}}", send.batch),
     Route("GET", "/compose", compose.form, _OPERATOR),
     Route("POST", "/compose", compose.confirm, _OPERATOR),

@@ -4,7 +4,8 @@ from dataclasses import dataclass
 
 from aiohttp import web
 
-from wisangub.room.store import queries
+from wisangub.room.store import alarms, queries
+from wisangub.room.store.alarms import Alarm
 from wisangub.room.store.database import Database
 from wisangub.room.store.messages import Messages
 from wisangub.room.store.queries import CommandView, SignView, TableView, Wanted
@@ -22,6 +23,7 @@ class Overview:
     picture: str | None
     is_stale: bool
     commands: list[CommandView]
+    alarms: list[Alarm]
     now: float
 
 
@@ -31,7 +33,7 @@ def _overviewed(service: Service, database: Database, sign_id: int) -> Overview:
     now = queries.now(database)
     commands = queries.commands(database, Wanted(sign=sign_id, most=_FEW))
     picture = service.picture(sign_id, sign.shown.text) if sign.shown else None
-    return Overview(sign, picture, sign.is_stale(now), commands, now)
+    return Overview(sign, picture, sign.is_stale(now), commands, alarms.listed(database, sign_id), now)
 
 
 async def overview(request: web.Request) -> web.Response:

@@ -4,7 +4,7 @@ from dataclasses import dataclass
 
 from aiohttp import web
 
-from wisangub.room.store import queries
+from wisangub.room.store import alarms, queries
 from wisangub.room.store.database import Database
 from wisangub.room.store.queries import CommandView, SignView
 
@@ -25,6 +25,7 @@ class Card:
     step: Step | None
     waiting: int
     is_wide: bool
+    is_other: bool  # it shows what none of its centres here has activated
 
     @property
     def is_lit(self) -> bool:
@@ -39,11 +40,12 @@ class Card:
         return "busy" if self.command else "lit" if self.sign.shown and self.sign.shown.text else "blank"
 
 
-def _card(service: Service, sign: SignView, now: float, open_: list[CommandView]) -> Card:
+def _card(service: Service, sign: SignView, now: float, open_: list[CommandView], is_other: bool) -> Card:
     picture = service.picture(sign.id, sign.shown.text) if sign.shown else None
     command = next((one for one in open_ if one.number is not None), open_[0] if open_ else None)
     step = next((one for one in states(command) if one.state == "now"), None) if command else None
-    return Card(sign, picture, sign.is_stale(now), command, step, len(open_), service.faces[sign.id].width > _WIDE)
+    is_wide = service.faces[sign.id].width > _WIDE
+    return Card(sign, picture, sign.is_stale(now), command, step, len(open_), is_wide, is_other)
 
 
 def cards(service: Service, database: Database) -> tuple[list[Card], float]:
@@ -52,10 +54,11 @@ def cards(service: Service, database: Database) -> tuple[list[Card], float]:
     of: dict[int, list[CommandView]] = {}
     for command in open_:
         of.setdefault(command.sign, []).append(command)
+    others = alarms.signs_with(database, alarms.OTHER)
     known = {sign.id: sign for sign in queries.signs(database)}
     now = queries.now(database)  # after what it is compared with
     found = [known[sign_id] for sign_id in service.signs if sign_id in known]
-    return [_card(service, sign, now, of.get(sign.id, [])) for sign in found], now
+    return [_card(service, sign, now, of.get(sign.id, []), sign.id in others) for sign in found], now
 
 
 async def wall(request: web.Request) -> web.Response:

@@ -8,6 +8,7 @@ from wisangub.snmp.names import Memory, RowStatus
 
 NO_END = 65535
 STATUSES = {status.value: status.name.lower().replace("_", " ") for status in RowStatus if status <= RowStatus.ERROR}
+ALARMS = {"silent": "silent", "error": "in error", "other": "not ours", "failed": "command failed"}
 _MEMORIES: dict[int, str] = {
     Memory.PERMANENT: "permanent",
     Memory.CHANGEABLE: "changeable",

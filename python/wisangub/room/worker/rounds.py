@@ -11,6 +11,7 @@ from wisangub.refusal import Refusal
 from wisangub.room.addresses import AGAIN
 from wisangub.room.fleet import Sign
 from wisangub.room.output import LOG
+from wisangub.room.store.alarms import EVERY
 from wisangub.room.store.database import Failed, Taken
 from wisangub.room.store.store import Store
 from wisangub.snmp.mib import Mib
@@ -57,6 +58,7 @@ class Worker:
         self.to_release: set[int] = set()
         self.fault = ""  # what the database said last, which is said once
         self.next_look = self.next_renewal = 0.0
+        self.next_alarms = time.monotonic() + EVERY
 
     def run(self) -> None:
         """Until it is stopped."""
@@ -107,6 +109,9 @@ class Worker:
         self.verdicts.begin()
         self.gets.again()
         self.lease()
+        if time.monotonic() >= self.next_alarms:
+            self.next_alarms = time.monotonic() + EVERY
+            self.store.alarms.look()
 
     # ---- lines
 

@@ -1,0 +1,152 @@
+"""The table of alarms: what is wrong with a sign, as its readings, its table and its commands say."""
+
+from dataclasses import dataclass
+
+from wisangub.snmp.names import RowStatus
+
+from . import queries
+from .audit import note
+from .connection import Database, Row
+from .queries import Shown, SignView
+from .values import text_or_none, texts, time_of, time_or_none, whole
+
+SILENT, ERROR, OTHER, FAILED = "silent", "error", "other", "failed"
+EVERY = 5.0  # seconds from one look for alarms to the next, of all workers together
+_CENTRAL = 8  # the mode of what a central system activated
+_MOST_TEXT = 60  # characters of a text that an alarm says
+_FOUND = """
+SELECT alarms.id, alarms.sign, signs.name, alarms.kind, alarms.what, alarms.begun, alarms.ended, alarms.seen_by,
+       alarms.seen_at
+FROM alarms JOIN signs ON signs.id = alarms.sign
+"""
+
+
+@dataclass(frozen=True)
+class Alarm:
+    """An alarm that stands where `ended` is none, and that somebody has seen where `seen_by` is one."""
+
+    id: int
+    sign: int
+    sign_name: str
+    kind: str
+    what: str
+    begun: float
+    ended: float | None
+    seen_by: str | None
+    seen_at: float | None
+
+
+def _alarm(row: Row) -> Alarm:
+    return Alarm(
+        whole(row[0]),
+        whole(row[1]),
+        str(row[2]),
+        str(row[3]),
+        str(row[4]),
+        time_of(row[5]),
+        time_or_none(row[6]),
+        text_or_none(row[7]),
+        time_or_none(row[8]),
+    )
+
+
+def listed(database: Database, sign: int | None = None, most: int = 200) -> list[Alarm]:
+    """Alarms that stand or that nobody has seen, of one sign or of all: those that nobody has seen first, the newest
+    first."""
+    where, values = ("", []) if sign is None else (" AND alarms.sign = ?", [sign])
+    rows = database.run(
+        f"{_FOUND} WHERE (alarms.ended IS NULL OR alarms.seen_by IS NULL){where}"
+        " ORDER BY CASE WHEN alarms.seen_by IS NULL THEN 0 ELSE 1 END, alarms.id DESC LIMIT ?",
+        *values,
+        most,
+    )
+    return list(map(_alarm, rows))
+
+
+def signs_with(database: Database, kind: str) -> set[int]:
+    """The signs of which an alarm of this kind stands."""
+    return {whole(row[0]) for row in database.run("SELECT sign FROM alarms WHERE kind = ? AND ended IS NULL", kind)}
+
+
+def see(database: Database, number: int, who: str) -> bool:
+    """Somebody has seen an alarm, which stands in the audit; False where another one has before, or there is none."""
+    with database.transaction():
+        rows = database.run(
+            "UPDATE alarms SET seen_by = ?, seen_at = {clock} WHERE id = ? AND seen_by IS NULL RETURNING sign, what",
+            who,
+            number,
+        )
+        for sign, what in rows:
+            name = texts(database.run("SELECT name FROM signs WHERE id = ?", sign))[0]
+            note(database, who, f"{name}: alarm {number} is acknowledged: {what}")
+        return bool(rows)
+
+
+class Alarms:
+    """Looks for what is wrong with signs."""
+
+    def __init__(self, database: Database) -> None:
+        self.database = database
+        self._run = database.run
+        self._ours: set[tuple[int, bytes, bytes]] = set()  # signs with what they showed that a ledger has
+
+    def look(self) -> None:
+        """Begins and ends alarms, where none of the workers has looked just before."""
+        with self.database.transaction(is_alone=True):
+            due = "at + ? <= {clock} OR at > {clock}"  # at a time to come: the clock jumped
+            if not self._run(f"UPDATE alarm_looks SET at = {{clock}} WHERE {due} RETURNING at", EVERY):
+                return
+            found = self._found()
+            rows = self._run("SELECT sign, kind, what FROM alarms WHERE ended IS NULL")
+            standing = {(whole(sign), str(kind)): str(what) for sign, kind, what in rows}
+            gone = [key for key, what in standing.items() if found.get(key) != what]
+            self.database.run_all(
+                "UPDATE alarms SET ended = {clock} WHERE sign = ? AND kind = ? AND ended IS NULL", sorted(gone)
+            )
+            self.database.run_all(
+                "INSERT INTO alarms (sign, kind, what, begun) VALUES (?, ?, ?, {clock})",
+                [(*key, what) for key, what in sorted(found.items()) if standing.get(key) != what],
+            )
+
+    def _found(self) -> dict[tuple[int, str], str]:
+        """What is wrong now, in words, by signs and kinds."""
+        found: dict[tuple[int, str], str] = {}
+        for sign in queries.signs(self.database):
+            if words := f"it stands still: {sign.still}" if sign.still else sign.fault:
+                found[sign.id, SILENT] = words
+            if words := self._other(sign):
+                found[sign.id, OTHER] = words
+        rows = self._run(
+            "SELECT sign, memory, number FROM messages WHERE status = ? ORDER BY sign, memory DESC, number DESC",
+            RowStatus.ERROR,
+        )
+        for sign_id, memory, number in rows:
+            found[whole(sign_id), ERROR] = f"row {number} of memory {memory} is in error"
+        rows = self._run(
+            "SELECT commands.sign, commands.id, commands.outcome FROM signs JOIN commands ON commands.id ="
+            " (SELECT max(id) FROM commands WHERE sign = signs.id AND outcome IS NOT NULL"
+            " AND outcome NOT LIKE 'withdrawn by %') WHERE commands.outcome <> 'accepted'"
+        )
+        for sign_id, command, outcome in rows:
+            found[whole(sign_id), FAILED] = f"command {command} {outcome}"
+        return found
+
+    def _other(self, sign: SignView) -> str | None:
+        """Whose text a sign shows that none of its centres here has activated; None where it shows none or ours."""
+        shown = sign.shown
+        if shown is None or not shown.text or self._is_ours(sign.id, shown):
+            return None
+        text = "".join(one if one.isprintable() else "?" for one in shown.text.decode("latin-1"))
+        words = f"it shows “{text[:_MOST_TEXT]}{'..' * (len(text) > _MOST_TEXT)}”, "
+        if shown.mode != _CENTRAL:
+            return f"{words}by itself (mode {shown.mode})"
+        return f"{words}which {'.'.join(map(str, shown.requester)) or 'somebody'} activated"
+
+    def _is_ours(self, sign: int, shown: Shown) -> bool:
+        """Whether the ledger has an activation of the row, the checksum and the address that the sign says."""
+        key = (sign, shown.source, shown.requester)
+        if shown.mode == _CENTRAL and key not in self._ours:
+            digits = (shown.source + shown.requester).hex()
+            if self._run("SELECT 1 FROM ledger WHERE sign = ? AND substr(code, 7, 18) = ? LIMIT 1", sign, digits):
+                self._ours.add(key)
+        return shown.mode == _CENTRAL and key in self._ours
