@@ -30,9 +30,10 @@ def add_database(parser: argparse.ArgumentParser, default: str | None = None, ma
 
 
 def add_fleet(parser: argparse.ArgumentParser) -> None:
-    """--fleet and --signtool."""
+    """--fleet, --signtool and --alarms."""
     parser.add_argument("--fleet", required=True, metavar="FILE", help="the signs, as in signs/fleet.toml")
     parser.add_argument("--signtool", default=str(SIGNTOOL), metavar="PATH")
+    parser.add_argument("--alarms", metavar="FILE", help="who is told of alarms, by mail and webhooks")
 
 
 def need(program: str, where: str, *modules: str) -> None:

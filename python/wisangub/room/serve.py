@@ -113,7 +113,7 @@ def _both(asked: argparse.Namespace, signs: list[Sign], waiting: Waiting) -> int
     """A worker in this process, and the pages in one of their own: nothing that they do holds the worker."""
     with beside.begun("wisangub.room.serve", [*sys.argv[1:], "--no-worker"]) as pages:
         if pages.is_standing(waiting):
-            work(asked.database, asked.signtool, signs, waiting)
+            work(asked.database, asked.signtool, signs, waiting, asked.alarms)
         return pages.status(waiting)
 
 

@@ -1,6 +1,7 @@
 """The table of alarms: what is wrong with a sign, as its readings, its table and its commands say."""
 
 from dataclasses import dataclass
+from typing import Sequence
 
 from wisangub.snmp.names import RowStatus
 
@@ -8,9 +9,12 @@ from . import queries
 from .audit import note
 from .connection import Database, Row
 from .queries import Shown, SignView
-from .values import text_or_none, texts, time_of, time_or_none, whole
+from .values import places, text_or_none, texts, time_of, time_or_none, whole
 
 SILENT, ERROR, OTHER, FAILED = "silent", "error", "other", "failed"
+KINDS = (SILENT, ERROR, OTHER, FAILED)
+TRIES, AGAIN = 6, 60.0  # how often it is tried to tell somebody, and seconds to the second time; then longer
+_MOST_TOLD = 50  # alarms of one message
 EVERY = 5.0  # seconds from one look for alarms to the next, of all workers together
 _CENTRAL = 8  # the mode of what a central system activated
 _MOST_TEXT = 60  # characters of a text that an alarm says
@@ -80,6 +84,41 @@ def see(database: Database, number: int, who: str) -> bool:
             name = texts(database.run("SELECT name FROM signs WHERE id = ?", sign))[0]
             note(database, who, f"{name}: alarm {number} is acknowledged: {what}")
         return bool(rows)
+
+
+def to_tell(database: Database, target: str, kinds: Sequence[str]) -> list[Alarm]:
+    """Alarms of these kinds that stand, that nobody has seen and that this target was not told of: they count as being
+    told now, so that nobody else tells it, and are tried again later, some times."""
+    if not kinds:
+        return []
+    with database.transaction(is_alone=True):
+        rows = database.run(
+            f"{_FOUND} LEFT JOIN notices ON notices.alarm = alarms.id AND notices.target = ?"
+            f" WHERE alarms.ended IS NULL AND alarms.seen_by IS NULL AND alarms.kind IN ({places(kinds)})"
+            " AND (notices.alarm IS NULL OR (notices.told IS NULL AND notices.tries < ?"
+            " AND (notices.next_try <= {clock} OR notices.next_try > {clock} + ?))) ORDER BY alarms.id LIMIT ?",
+            target,
+            *kinds,
+            TRIES,
+            AGAIN * TRIES,  # further than a next try is: the clock jumped
+            _MOST_TOLD,
+        )
+        found = list(map(_alarm, rows))
+        database.run_all(
+            "INSERT INTO notices (alarm, target, tries, next_try) VALUES (?, ?, 1, {clock} + ?)"
+            " ON CONFLICT (alarm, target) DO UPDATE SET tries = notices.tries + 1,"
+            " next_try = {clock} + ? * (notices.tries + 1)",
+            [(one.id, target, AGAIN, AGAIN) for one in found],
+        )
+        return found
+
+
+def told(database: Database, target: str, alarms: Sequence[Alarm]) -> None:
+    """The target knows of these."""
+    with database.transaction():
+        database.run_all(
+            "UPDATE notices SET told = {clock} WHERE alarm = ? AND target = ?", [(one.id, target) for one in alarms]
+        )
 
 
 class Alarms:

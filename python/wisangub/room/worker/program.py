@@ -7,15 +7,13 @@ not answer. It ends at an interrupt or a SIGTERM; what was under way is carried 
 
 import argparse
 import sys
-from typing import Callable
 
 from wisangub.endpoint.sockets import Waiting
 from wisangub.refusal import status_of
-from wisangub.room import fleet, options
+from wisangub.room import fleet, notices, options
 from wisangub.room.fleet import Sign
 from wisangub.room.output import print_line
 from wisangub.room.store import database
-from wisangub.room.store.database import Database
 from wisangub.room.store.store import Store
 from wisangub.room.waits import waited
 
@@ -39,23 +37,38 @@ def _arguments() -> argparse.ArgumentParser:
     return parser
 
 
-def work(where: str, program: str, signs: list[Sign], waiting: Waiting, pace: Pace = Pace()) -> None:
-    """A worker over a database that is there, until it is stopped."""
-    _work(lambda: database.opened(where, may_create=False), program, signs, waiting, pace, "")
+def work(
+    where: str, program: str, signs: list[Sign], waiting: Waiting, told: str | None = None, pace: Pace = Pace()
+) -> None:
+    """A worker over a database that is there, until it is stopped. `told` is the file of who is told of alarms."""
+    _work(where, False, program, signs, waiting, told, pace, "")
 
 
 def _work(
-    opened: Callable[[], Database], program: str, signs: list[Sign], waiting: Waiting, pace: Pace, words: str
+    where: str,
+    may_create: bool,
+    program: str,
+    signs: list[Sign],
+    waiting: Waiting,
+    told: str | None,
+    pace: Pace,
+    words: str,
 ) -> None:
+    teller = None if told is None else notices.Notices(where, notices.read(told))
+
     def begun() -> Worker:
-        store = Store(opened())
+        store = Store(database.opened(where, may_create))
         return Worker(store, store.signs.enter(signs), program, pace, waiting)
 
     worker = waited(waiting, begun)
     if worker is not None:
         if words:
             print_line(words)
+        if teller is not None:
+            teller.start()
         worker.run()
+        if teller is not None:
+            teller.stop()
         worker.store.database.close()
 
 
@@ -64,14 +77,8 @@ def main() -> int:
     options.need("wisangub.room.worker.program", asked.database)
     signs, waiting = fleet.read(asked.fleet), Waiting()
     fleet.tell_open(signs)
-    _work(
-        lambda: database.opened(asked.database, asked.create),
-        asked.signtool,
-        signs,
-        waiting,
-        Pace(asked.tick, asked.lease),
-        f"a worker of {len(signs)} signs",
-    )
+    pace, words = Pace(asked.tick, asked.lease), f"a worker of {len(signs)} signs"
+    _work(asked.database, asked.create, asked.signtool, signs, waiting, asked.alarms, pace, words)
     return 0
 
 
