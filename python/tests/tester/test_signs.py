@@ -48,6 +48,7 @@ def test_the_program_beside_the_model_shows_nothing() -> None:
 
 def test_a_soak_counts_what_it_told() -> None:
     entry = {"under_test": "model", "signtool": "model", "sign": "bench", "requests": 150, "commit": ""}
+    entry |= {"both_ways": False}
     for faulty in (0.0, 0.3):
         held = soak.run(entry | {"seed": 5, "faulty": faulty}, text.BENCH)
         assert held["clean"] and held["cases"] == 3 and (held["not_told"] == 0 or faulty), held

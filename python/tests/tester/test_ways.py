@@ -7,6 +7,7 @@ from model.sign import Sign
 from trials.wrong_signs import bench
 from wisangub.snmp import wire
 from wisangub.snmp.names import Memory, RowStatus, scalar
+from wisangub.tester.findings.results import Verdict
 from wisangub.tester.requests.objects import Column, Row, integer, octets
 from wisangub.tester.requests.steps import Ask, get, put
 from wisangub.tester.session import Session
@@ -160,6 +161,27 @@ def test_a_lossy_way_shows_no_difference_where_no_answer_comes() -> None:
         session = bench.session(text.BENCH, seed=seed, faulty=0.3, requests=150)
         results = bench.run(session, ["random"])
         assert results.is_clean(), [difference.title for difference in results.differences()]
+
+
+def test_requests_that_are_lost_late_and_doubled_show_no_difference() -> None:
+    session = bench.session(text.BENCH, seed=3, faulty=0.05, requests=100, both_ways=True)
+    session.results.lossy = 30.0
+    results = bench.run(session, ["set", "random"])
+    assert results.verdict() is Verdict.CONFORMS, (results.unjudged(), [held.title for held in results.once()])
+    assert session.pair.port.way.late and session.pair.port.way.doubled
+
+
+def test_a_late_request_to_any_row_is_seen_on_the_way_back() -> None:
+    session, losing = begun()
+    session.pair.port.passed_over = 1
+    for ask in (put(ROW.status(RowStatus.MODIFY_REQ)), put(ROW.priority(9))):
+        losing.link.send(ask.octets(session.pair.port.new_number(), WRITER))  # neither ours nor the pair knows of it
+    losing.link.waiting.clear()
+    assert not session.pair.touched
+    session.pair.is_dirty = True
+    assert session.reset.reach() == []
+    status = session.reset.read([ROW.cell(Column.STATUS)])
+    assert status == {ROW.cell(Column.STATUS): integer(1)}
 
 
 def test_asks_of_a_sequence_keep_their_numbers() -> None:

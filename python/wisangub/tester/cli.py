@@ -188,10 +188,14 @@ def _tested(asked: argparse.Namespace, session: Session, watcher: terminal.Plain
     return results.verdict().status
 
 
+def _passed_over(_number: int, _frame: FrameType | None) -> None:
+    """A signal after the first; SIG_IGN in its place would have Python complain of one that was on its way."""
+
+
 def _interrupted(_number: int, _frame: FrameType | None) -> None:
     """The first signal ends the test; the sign is put back and the report written, whatever comes after it."""
     for number in (signal.SIGINT, signal.SIGTERM):
-        signal.signal(number, signal.SIG_IGN)
+        signal.signal(number, _passed_over)
     raise KeyboardInterrupt
 
 

@@ -13,7 +13,7 @@ from .findings.rules import RULES, Rule
 from .requests.steps import Step, datagrams
 from .runs.runner import Run, Runner
 from .runs.shrinking import shrunk
-from .sign.pair import Inconclusive, Pair
+from .sign.pair import Exchange, Inconclusive, Pair
 from .sign.way import Stopped
 from .state.known_state import Unreachable
 from .state.preflight import Preflight
@@ -179,6 +179,10 @@ class Session:
         """Whether no answer came on a way that loses some, be it three times."""
         return run.signature.kind is Kind.NO_ANSWER and (run.exchange.is_lost or self.pair.port.is_lossy())
 
+    def _may_be_late(self, seen: Exchange) -> bool:
+        """Whether a request that came late or twice may have made what was seen: the sign was as it read."""
+        return self.pair.port.is_lossy() and not seen.is_slip
+
     def differs_in_part(self, result: ChapterResult, block: Block) -> bool:
         """Whether a part of the block differs, which is told then."""
         told = self.count()
@@ -196,9 +200,10 @@ class Session:
         self.pair.is_dirty = True
         if self.differs_in_part(result, block) or self.is_told(result, self.rule_of(block, run), run):
             return
+        seen = run.exchange
         is_shrunk = sum(held.is_shrunk for held in result.differences) < MOST_SHRUNK
         run, is_repeated = self.made_small(run, steps, is_shrunk)
-        if not is_repeated and self.is_loss(run):
+        if not is_repeated and (self.is_loss(run) or self._may_be_late(seen)):
             result.left.append(replace(block, steps=run.steps, is_fresh=True))
             return
         rule = self.rule_of(block, run, is_repeated and is_shrunk)

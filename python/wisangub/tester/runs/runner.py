@@ -50,8 +50,16 @@ class Runner:
             sent.append(exchange.octets)
             is_lost = self.is_lost(exchange)
             if exchange.mismatch is not None and not is_lost:
+                exchange.is_slip = self._is_slip(exchange)
                 return Run(exchange, list(steps[: at + 1]), sent)
         return None
+
+    def _is_slip(self, exchange: Exchange) -> bool:
+        """Whether a read is right when it is asked again at once: no late request made it wrong, but the sign did."""
+        if exchange.is_set or not self.pair.port.is_lossy():
+            return not exchange.is_set
+        again = self.pair.do(exchange.step)
+        return again is not None and again.mismatch is None
 
     def is_lost(self, exchange: Exchange) -> bool:
         """Whether a SET without a reply is one of many whose replies came, on a way that loses some."""

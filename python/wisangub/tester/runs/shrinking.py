@@ -43,8 +43,15 @@ class Shrinking:
         return True
 
     def is_seen_again(self, steps: Sequence[Step], times: int) -> bool:
-        """Whether so many runs in a row show the difference at the last of the steps."""
-        return all(self.shows(steps, of_any_cost=True) for _ in range(times))
+        """Whether so many runs in a row show the difference at the last of the steps, each after all that was late."""
+        return all(self._shows_after_late_ones(steps) for _ in range(times))
+
+    def _shows_after_late_ones(self, steps: Sequence[Step]) -> bool:
+        try:
+            self.runner.reset.let_late_come()
+        except Inconclusive:
+            return False
+        return self.shows(steps, of_any_cost=True)
 
     def waits_alone(self) -> None:
         """So many seconds in one, and the request that differs; also after the first of the steps."""
@@ -103,7 +110,7 @@ def shrunk(runner: Runner, run: Run, block: Sequence[Step], is_made_smaller: boo
     """
     shrinking = Shrinking(runner, run.signature, run, runner.pair.clock.now() + runner.most_seconds)
     is_silent = run.exchange.mismatch is not None and run.exchange.mismatch.kind is Kind.NO_ANSWER
-    times = 3 if is_silent and runner.pair.port.is_lossy() else 1
+    times = (3 if is_silent else 2) if runner.pair.port.is_lossy() else 1
     is_seen = len(block) < len(run.steps) and shrinking.is_seen_again(block, times)
     for _ in range(2):
         is_seen = is_seen or shrinking.is_seen_again(run.steps, times)

@@ -123,7 +123,7 @@ class Port:
         ended = self.clock.now()
         if reply is not None:
             self.usual += (ended - begun - self.usual) / 8
-            self.way.answered(number, is_answered and wait is None)
+            self.way.answered(number, is_answered)
         elif is_answered:
             self.way.silent(begun, wait is None)
         return Heard(reply, 1, begun, ended)

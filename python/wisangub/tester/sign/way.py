@@ -28,11 +28,12 @@ class Oddity(Enum):
 
 @dataclass
 class Sent:
-    """A request that a reply may come to: when it was sent first, its octets, and whether it was answered."""
+    """A request that replies may come to: when it was sent first, its octets, how often it was sent and answered."""
 
     moment: float
     octets: bytes
-    is_answered: bool = False
+    sends: int = 1
+    replies: int = 0
 
 
 @dataclass
@@ -52,6 +53,7 @@ class Way:
     late: int = 0
     doubled: int = 0
     longest: float = 0.0  # seconds that the sign was silent at the longest
+    slowest: float = 0.0  # seconds that a reply took at the longest
     reboots: int = 0  # that nobody asked for
     odd: Counter[Oddity] = field(default_factory=Counter)
     examples: dict[Oddity, bytes] = field(default_factory=dict)
@@ -71,6 +73,8 @@ class Way:
             self._recent[number] = Sent(self.clock.now(), octets)
             if len(self._recent) > _MOST_KEPT:
                 self._recent.pop(next(iter(self._recent)))
+        else:
+            self._recent[number].sends += 1
 
     def answered(self, number: int, is_counted: bool = True) -> None:
         """A request has its reply."""
@@ -81,8 +85,8 @@ class Way:
         self.asked += is_counted
         sent = self._recent.get(number)
         if sent is not None:
-            sent.is_answered = True
-            self._delays.append(now - sent.moment)
+            sent.replies += 1
+            self._took(now - sent.moment)
 
     def silent(self, begun: float, is_counted: bool = True) -> None:
         """A request that was sent at this moment has no reply in time."""
@@ -96,13 +100,18 @@ class Way:
     def passed_over(self, number: int) -> None:
         """A reply to an earlier request."""
         sent = self._recent.get(number)
-        if sent is None or sent.is_answered:
+        if sent is None or sent.replies >= sent.sends:
             self.doubled += 1
             return
         self.late += 1
-        sent.is_answered = True
-        self._delays.append(self.clock.now() - sent.moment)
+        sent.replies += 1
+        self._took(self.clock.now() - sent.moment)
         self._silent_since, self._in_a_row = None, 0
+
+    def _took(self, seconds: float) -> None:
+        """A reply took so long."""
+        self._delays.append(seconds)
+        self.slowest = max(self.slowest, seconds)
 
     def note(self, oddity: Oddity, octets: bytes) -> None:
         """A reply that no way makes of a right one."""
@@ -123,9 +132,9 @@ class Way:
         silence = 0.0 if self._silent_since is None else now - self._silent_since
         if self.patience is None and silence >= _PATIENCE:
             raise Stopped(f"the sign was silent for {silence:.0f} seconds")
-        usual = sorted(self._delays)[len(self._delays) // 2] if len(self._delays) == _DELAYS else 0.0
-        if usual > self.wait:
-            raise Stopped(f"replies take {usual:.1f} s, and --wait is {self.wait:g}")
+        least = sorted(self._delays)[_DELAYS // 5] if len(self._delays) == _DELAYS else 0.0
+        if least > self.wait:
+            raise Stopped(f"four replies of five take {least:.1f} s or longer, and --wait is {self.wait:g}")
 
     def begin_anew(self) -> None:
         """What was silent is no reason to stop any more: once more is tried, with no deadline."""

@@ -1,11 +1,12 @@
 """Right signs through many random requests: wisangub-conform soak [--seeds N] [--requests N] [--faulty SHARE]
 
-    [--under-test PATH] [--signtool PATH] [--sign FILE] [--first SEED] [--record FILE] [--jobs N]
+    [--both-ways] [--under-test PATH] [--signtool PATH] [--sign FILE] [--first SEED] [--record FILE] [--jobs N]
 
 The sign under test and the oracle are the model or a program. With --faulty that share of the replies is lost, late or
-doubled, a third of it each. A line a seed, in the order in which they end; last how many sequences were told and how
-many could not be, and `N passed, N failed`. With --record each seed is a line of JSON in that file, with the commit
-that was run; seeds that stand there for the same commit and the same options are not run again.
+doubled, a third of it each, and with --both-ways of the requests too. A line a seed, in the order in which they end;
+last how many sequences were told and how many could not be, and `N passed, N failed`. With --record each seed is a line
+of JSON in that file, with the commit that was run; seeds that stand there for the same commit and the same options are
+not run again.
 """
 
 import argparse
@@ -28,7 +29,8 @@ from wisangub.tester.sign.oracle import Oracle, made
 
 from . import bench
 
-_OPTIONS = ("under_test", "signtool", "sign", "faulty", "requests", "seed", "commit")
+_OPTIONS = ("under_test", "signtool", "sign", "faulty", "both_ways", "requests", "seed", "commit")
+_OF_EARLIER = {"both_ways": False}  # what records of earlier had no word for
 
 
 class Program:
@@ -80,7 +82,9 @@ def run(entry: dict[str, Any], description: bytes) -> dict[str, Any]:
     judge = SignJudge(entry["signtool"], description)
     try:
         seed, faulty, requests = entry["seed"], entry["faulty"], entry["requests"]
-        session = bench.session(description, Program(sign), oracle, judge, seed, faulty, requests)
+        session = bench.session(
+            description, Program(sign), oracle, judge, seed, faulty, requests, both_ways=entry["both_ways"]
+        )
         results = bench.run(session, ["random"])
     finally:
         oracle.end()
@@ -115,7 +119,7 @@ def _recorded(record: pathlib.Path | None) -> dict[tuple[Any, ...], dict[str, An
     if record is None or not record.exists():
         return {}
     found = [json.loads(text) for text in record.read_text(encoding="utf-8").splitlines()]
-    return {tuple(held[option] for option in _OPTIONS): held for held in found}
+    return {tuple((_OF_EARLIER | held)[option] for option in _OPTIONS): held for held in found}
 
 
 def _entries(asked: argparse.Namespace) -> list[dict[str, Any]]:
@@ -154,6 +158,7 @@ def main() -> int:
     parser.add_argument("--first", type=int, default=1, metavar="SEED")
     parser.add_argument("--requests", type=int, default=100_000)
     parser.add_argument("--faulty", type=float, default=0.0, metavar="SHARE")
+    parser.add_argument("--both-ways", action="store_true", help="that share of the requests too")
     parser.add_argument("--under-test", default="model", metavar="PATH")
     parser.add_argument("--signtool", default="model", metavar="PATH")
     parser.add_argument("--sign", type=pathlib.Path, help="a description; else the bench sign")

@@ -4,7 +4,7 @@ from dataclasses import dataclass
 from typing import Iterable
 
 from wisangub.snmp import wire
-from wisangub.snmp.names import RowStatus, scalar
+from wisangub.snmp.names import Memory, RowStatus, scalar
 from wisangub.tester.context import Context
 from wisangub.tester.requests.messages import spelled
 from wisangub.tester.requests.objects import (
@@ -22,6 +22,7 @@ from wisangub.tester.requests.objects import (
 )
 from wisangub.tester.requests.steps import Ask, Step, Wait, get, put
 
+_A_ROW = 512  # octets of text for which a row is free
 VERDICTS = (scalar("dmsValidateMessageError"), scalar("dmsMultiSyntaxError"), scalar("dmsMultiSyntaxErrorPosition"))
 
 
@@ -97,6 +98,13 @@ class KnownState:
     def refused(self) -> dict[Name, Value]:
         """What a refused activation leaves."""
         return {scalar("dmsActivateErrorMsgCode"): octets(self.context.refused_code)}
+
+    def unused(self) -> dict[Name, Value]:
+        """The status of every row and what is free for texts, where no row is used."""
+        free = {Memory.CHANGEABLE: "dmsFreeChangeableMemory", Memory.VOLATILE: "dmsFreeVolatileMemory"}
+        counts = {memory: sum(row.memory == memory for row in self.context.rows) for memory in free}
+        held = {scalar(word): integer(_A_ROW * counts[memory]) for memory, word in free.items()}
+        return held | {row.cell(Column.STATUS): integer(RowStatus.NOT_USED) for row in self.context.rows}
 
     def emptied(self, row: Row) -> dict[Name, Value]:
         """The fields of a row that is not used."""

@@ -54,6 +54,9 @@ class Preflight:
             raise Stopped(f"{', '.join(others)} differ, so the description is of another sign; --anyway goes on")
         self.reach_first()
         self.find_besides()
+        if self.pair.port.is_lossy():
+            self.reset.let_late_come()
+            self.reset.reach_or_end()
         self.compare_all()
         return True
 

@@ -14,7 +14,7 @@ from .known_state import VERDICTS, KnownState, Unreachable, Unreached
 from .unanswered import ours_reads
 from .validation_ticks import ValidationTicks
 
-_ROUNDS = 4
+_ROUNDS, _LOSSY_ROUNDS = 4, 12  # times that the sign is read and repaired; more where requests are lost
 _MOST_KEPT = 400  # datagrams after which ours is begun anew
 _Read = dict[Name, Value | None]
 
@@ -34,9 +34,11 @@ class Reset:
         self.validation = ValidationTicks(self.pair)
 
     def wanted(self) -> dict[Name, Value]:
-        """What is to be read. Of a validation's verdict that stays which both have, where they go there together."""
+        """What is to be read. Of a validation's verdict that stays which both have, where they go there together. Where
+        requests may come late or twice, one may have come to any row."""
         left_out = self.pair.masked | set(VERDICTS if self.is_together else ())
-        return {name: value for name, value in self.objects.all(self.touched()).items() if name not in left_out}
+        wanted = self.objects.all(self.touched()) | (self.objects.unused() if self.pair.port.is_lossy() else {})
+        return {name: value for name, value in wanted.items() if name not in left_out}
 
     def touched(self) -> list[Row]:
         """The rows that may have been changed since the known state, in order."""
@@ -77,7 +79,9 @@ class Reset:
     def bring(self, observe: bool) -> list[Unreached]:
         """Brings the sign under test to the known state; with `observe` a validation is watched for its tick."""
         is_watched = not observe or not self.context.rows
-        for _ in range(_ROUNDS):
+        is_lossy = self.pair.port.is_lossy()
+        for left in range(_LOSSY_ROUNDS if is_lossy else _ROUNDS, 0, -1):
+            is_watched |= is_lossy and left <= _ROUNDS  # where the end of no validation is seen, the rows are emptied
             wanted = self.wanted()
             have = self.read(list(wanted))
             self._notice_reboot(have)
@@ -105,6 +109,7 @@ class Reset:
 
     def repair(self, wrong: list[Name], observe: bool) -> None:
         """A request for each object that is not as it should be."""
+        self.pair.touched.update(row for row in self.context.rows if row.cell(Column.STATUS) in wrong)
         for row in self.touched():
             if row.cell(Column.STATUS) in wrong:
                 self.empty(row)
@@ -174,6 +179,14 @@ class Reset:
         self.validation.begin_anew()
         self.pair.is_dirty = True
         self.reach_or_end()
+
+    def let_late_come(self) -> None:
+        """Where requests may come late: the known state, and time for what is still on its way; then it is to be
+        reached once more."""
+        if self.pair.port.is_lossy():
+            self.reach_or_end()
+            self.pair.clock.sleep_until(self.pair.clock.now() + max(self.pair.port.way.slowest, self.pair.port.wait))
+            self.pair.is_dirty = True
 
     def go_together(self) -> bool:
         """Whether the same requests brought both there, and both read the same."""
