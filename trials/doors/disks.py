@@ -20,25 +20,39 @@ from .requests import Changes
 PAGE = 4096  # octets of which a file in memory has a whole number
 
 
-class _Mounted:
-    """A small file system in memory, where it may be mounted."""
+class Mounted:
+    """A small file system in memory, where it may be mounted, in a folder that is made where it is not there."""
 
-    def __init__(self, trial: Trial) -> None:
-        self.folder = trial.new_folder()
-        self.is_there = self.call("mount", "-t", "tmpfs", "-o", "size=64k", "tmpfs", str(self.folder))
+    def __init__(self, folder: pathlib.Path) -> None:
+        self.folder = folder
+        folder.mkdir(exist_ok=True)
+        self.is_there = self._call("mount", "-t", "tmpfs", "-o", "size=64k", "tmpfs", str(folder))
 
-    def call(self, *words: str) -> bool:
+    def _call(self, *words: str) -> bool:
         try:
             return subprocess.run(words, capture_output=True, check=False, timeout=PACE.patience()).returncode == 0
         except (OSError, subprocess.TimeoutExpired):
             return False
 
     def remount(self, how: str) -> bool:
-        return self.call("mount", "-o", f"remount,{how}", str(self.folder))
+        """Whether it can be read only (`ro`), or written again (`rw`)."""
+        return self._call("mount", "-o", f"remount,{how}", str(self.folder))
+
+    def fill(self) -> pathlib.Path:
+        """No octet is left on the disk: the file that has them."""
+        filler = self.folder / "filler"
+        with open(filler, "wb", buffering=0) as file:
+            for size in (512, 1):
+                try:
+                    while file.write(b"\0" * size):
+                        pass
+                except OSError:
+                    pass
+        return filler
 
     def end(self) -> None:
         if self.is_there:
-            self.call("umount", "-l", str(self.folder))
+            self._call("umount", "-l", str(self.folder))
 
 
 def _answered(follower: Follower, door: Door, changes: Changes, count: int) -> list[bool]:
@@ -52,14 +66,13 @@ def _answered(follower: Follower, door: Door, changes: Changes, count: int) -> l
     return found
 
 
-def full(trial: Trial, mounted: _Mounted) -> None:
+def full(trial: Trial, mounted: Mounted) -> None:
     """A disk that runs full: SETs are lost and Gets answered, until there is room again."""
     path = mounted.folder / "journal"
     follower, changes = Follower(path), Changes(trial.chance)
-    filler = mounted.folder / "filler"
     door = trial.sign("--journal", str(path), "--no-ticks")
     trial.holds("on a small disk SETs are answered", all(_answered(follower, door, changes, 3)), door.errors.decode())
-    fill(filler)
+    filler = mounted.fill()
     found = _answered(follower, door, changes, 40)
     trial.holds(
         "on a full disk SETs are lost", not any(found[found.index(False) :] if False in found else [True]), found
@@ -75,21 +88,9 @@ def full(trial: Trial, mounted: _Mounted) -> None:
     _look_again(trial, "after a full disk", path, follower)
 
 
-def fill(filler: pathlib.Path) -> None:
-    """No octet is left on the disk."""
-    with open(filler, "wb", buffering=0) as file:
-        for size in (512, 1):
-            try:
-                while file.write(b"\0" * size):
-                    pass
-            except OSError:
-                pass
-
-
-def _full_at_start(trial: Trial, mounted: _Mounted) -> None:
+def _full_at_start(trial: Trial, mounted: Mounted) -> None:
     """On a full disk a door that needs its journal says why and ends; another one starts from what is there."""
-    filler = mounted.folder / "filler"
-    fill(filler)
+    filler = mounted.fill()
     door = trial.sign("--journal", str(mounted.folder / "none"), "--no-ticks", "--need-journal")
     is_well = door.ended() in (1, 2) and b"No space left" in door.errors and b"Traceback" not in door.errors
     trial.holds("a new journal on a full disk: said in words", is_well and not door.output, door.errors.decode())
@@ -100,7 +101,7 @@ def _full_at_start(trial: Trial, mounted: _Mounted) -> None:
         lines.append(b"ticks 1")
     (mounted.folder / "packed").write_bytes(records.records(lines))
     for name in ("packed", "none"):
-        fill(filler)
+        mounted.fill()
         _goes_on(trial, f"a full disk at the start of {name}", mounted.folder / name, b"No space left", filler.unlink)
     door = trial.sign("--journal", str(mounted.folder / "none"), "--no-ticks")
     trial.holds("and it is begun where there is room", door.port != 0 and door.stop() == 0, door.errors.decode())
@@ -133,9 +134,9 @@ def _goes_on(trial: Trial, name: str, path: pathlib.Path, words: bytes, repair: 
     trial.holds(f"{name}: and ends", after.stop() == 0, after.errors.decode())
 
 
-def _seconds_on_full(trial: Trial, mounted: _Mounted) -> None:
+def _seconds_on_full(trial: Trial, mounted: Mounted) -> None:
     """On a disk that is full at a start seconds pass and a duration ends; it is said each minute, and written after."""
-    path, filler = mounted.folder / "seconds", mounted.folder / "filler"
+    path = mounted.folder / "seconds"
     door, changes, follower = trial.sign("--journal", str(path)), Changes(trial.chance), Follower(path)
     manager = Manager(door.port)
     code = Activation(1, 255, MessageId(7, 9, 0), b"\x7f\0\0\1")
@@ -149,7 +150,7 @@ def _seconds_on_full(trial: Trial, mounted: _Mounted) -> None:
             file.write(records.record(b"heard", number, number))
             file.flush()
             number += 1
-    fill(filler)
+    filler = mounted.fill()
     door = trial.sign("--journal", str(path))
     manager = Manager(door.port)
     is_told = eventually(lambda: b"lost at the next start" in door.errors, 70.0)
@@ -163,10 +164,9 @@ def _seconds_on_full(trial: Trial, mounted: _Mounted) -> None:
     _look_again(trial, "after seconds on a full disk", path, follower)
 
 
-def _centre_on_full(trial: Trial, mounted: _Mounted) -> None:
+def _centre_on_full(trial: Trial, mounted: Mounted) -> None:
     """A centre whose disk is full at its start takes no command, and says why."""
-    filler = mounted.folder / "filler"
-    fill(filler)
+    filler = mounted.fill()
     words = ["--to", "127.0.0.1:9", "--journal", str(mounted.folder / "centre"), "--tick", "900", "--wait", "0.1"]
     rows: list[tuple[list[str], bytes]] = [([], b"not begun: it cannot be recorded: "), (["--need-journal"], b"")]
     for more, told in rows:
@@ -183,13 +183,13 @@ def _centre_on_full(trial: Trial, mounted: _Mounted) -> None:
     filler.unlink()
 
 
-def _log_on_full(trial: Trial, mounted: _Mounted) -> None:
+def _log_on_full(trial: Trial, mounted: Mounted) -> None:
     """A log whose disk is full: its door goes on, and writes it again where there is room."""
-    log, filler = mounted.folder / "log", mounted.folder / "filler"
+    log = mounted.folder / "log"
     path = trial.new_folder() / "journal"
     follower, changes = Follower(path), Changes(trial.chance)
     door = trial.sign("--journal", str(path), "--no-ticks", "--log", str(log))
-    fill(filler)
+    filler = mounted.fill()
     trial.holds(
         "with a log on a full disk SETs are answered", all(_answered(follower, door, changes, 30)), door.errors.decode()
     )
@@ -214,7 +214,7 @@ def _look_again(trial: Trial, name: str, path: pathlib.Path, follower: Follower)
     trial.holds(f"{name}: and ends", door.stop() == 0, door.errors.decode())
 
 
-def _read_only(trial: Trial, mounted: _Mounted) -> None:
+def _read_only(trial: Trial, mounted: Mounted) -> None:
     """A folder that can only be read: no door begins there."""
     path = mounted.folder / "journal"
     if not mounted.remount("ro"):
@@ -253,7 +253,7 @@ def run(trial: Trial) -> None:
         folder.chmod(0o500)
         refused(trial, "a folder that is not ours", str(folder / "journal"), b"Permission denied")
         folder.chmod(0o700)
-    mounted = _Mounted(trial)
+    mounted = Mounted(trial.new_folder())
     try:
         if mounted.is_there:
             parts = [full, _full_at_start, _log_on_full, _centre_on_full, _read_only]

@@ -4,12 +4,11 @@ from __future__ import annotations
 
 import pathlib
 import signal
-import subprocess
 import time
 
 from model import wire
 from model.text import BENCH
-from trials.doors.disks import fill
+from trials.doors.disks import Mounted
 
 from . import records
 from .doors import MOST_REPLY, Door
@@ -23,34 +22,6 @@ _MINUTE = 66  # seconds, and some
 _CONTROL = (1, 3, 6, 1, 4, 1, 1206, 4, 2, 3, 6)
 _TIME_COMM_LOSS = (*_CONTROL, 13, 0)
 NAMES = [(*_CONTROL, number, 0) for number in (7, 5, 13, 17)]
-
-
-class _Mounted:
-    """A small file system in memory, where one may be mounted."""
-
-    def __init__(self, folder: pathlib.Path) -> None:
-        self.folder = folder
-        folder.mkdir()
-        self.is_there = self.call("mount", "-t", "tmpfs", "-o", "size=64k", "tmpfs", str(folder))
-
-    def call(self, *words: str) -> bool:
-        try:
-            return subprocess.run(words, capture_output=True, check=False, timeout=60).returncode == 0
-        except (OSError, subprocess.TimeoutExpired):
-            return False
-
-    def remount(self, how: str) -> bool:
-        return self.call("mount", "-o", f"remount,{how}", str(self.folder))
-
-    def fill(self) -> pathlib.Path:
-        """No octet is left on the disk: the file that has them."""
-        filler = self.folder / "filler"
-        fill(filler)
-        return filler
-
-    def end(self) -> None:
-        if self.is_there:
-            self.call("umount", "-l", str(self.folder))
 
 
 def _sets(trial: Trial, name: str, door: Door, is_answered: bool) -> None:
@@ -91,7 +62,7 @@ def _padded() -> bytes:
     return octets
 
 
-def _full(trial: Trial, mounted: _Mounted, path: pathlib.Path) -> None:
+def _full(trial: Trial, mounted: Mounted, path: pathlib.Path) -> None:
     """A disk that is full at a start, of a new journal and of one that is there."""
     for name, octets in (("a new journal on a full disk", b""), ("a journal on a full disk", _padded())):
         path.write_bytes(octets)
@@ -105,7 +76,7 @@ def _full(trial: Trial, mounted: _Mounted, path: pathlib.Path) -> None:
         again(trial, f"{name}, with room again", door, path)
 
 
-def _read_only(trial: Trial, mounted: _Mounted, path: pathlib.Path) -> None:
+def _read_only(trial: Trial, mounted: Mounted, path: pathlib.Path) -> None:
     """A disk that can only be read at a start."""
     for place, name in ((path, "a disk to read"), (path.with_name("other"), "a disk to read, without a journal")):
         if not mounted.remount("ro"):
@@ -118,7 +89,7 @@ def _read_only(trial: Trial, mounted: _Mounted, path: pathlib.Path) -> None:
         again(trial, f"{name}, and written again", door, place)
 
 
-def silent(trial: Trial, mounted: _Mounted, path: pathlib.Path) -> None:
+def silent(trial: Trial, mounted: Mounted, path: pathlib.Path) -> None:
     """A silence on which the sign acts, and polls after it, while the disk takes no record: the next start has them."""
     if trial.is_short():
         trial.skip("a silence on a full disk", "it takes longer than a minute")
@@ -150,7 +121,7 @@ def silent(trial: Trial, mounted: _Mounted, path: pathlib.Path) -> None:
 
 def run(trial: Trial) -> None:
     (trial.folder / "bench.sign").write_bytes(BENCH)
-    mounted = _Mounted(trial.folder / "mounted")
+    mounted = Mounted(trial.folder / "mounted")
     try:
         if not mounted.is_there:
             trial.skip("disks that refuse", "no file system can be mounted")
