@@ -41,6 +41,8 @@ class _Waiting:
 
 
 class Centre:
+    """A central system of one sign: a job at a time, requests, and the ledger of activations."""
+
     def __init__(self, community: bytes, swapped: bool, first: int) -> None:
         self.community, self.swapped, self.next = community, swapped, first
         self.job: _Job | None = None
@@ -171,6 +173,7 @@ class Centre:
         return self.fail(job, _NO_REPLY)
 
     def restart(self) -> None:
+        """The process is gone and there again: what waited is unknown, and a job is over."""
         if self.job is not None:
             if self.waiting is not None and self.job.step == 7:
                 self.enter(self.waiting.number, "unknown")

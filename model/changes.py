@@ -25,6 +25,8 @@ class Refused(Exception):
 
 
 class Changes:
+    """What the bindings of a SET write, command, and are refused with."""
+
     def __init__(self, state: State, showing: Showing, objects: Objects) -> None:
         self.state, self.showing, self.objects = state, showing, objects
 

@@ -22,6 +22,8 @@ def checksum(text: bytes, beacon: int, pixel: int) -> int:
 
 @dataclass(frozen=True)
 class MessageId:
+    """Memory, row and checksum of a message: 5 octets."""
+
     memory: int
     number: int
     crc: int
@@ -39,6 +41,8 @@ class MessageId:
 
 @dataclass(frozen=True)
 class Activation:
+    """Minutes, priority, message and address of who asks: 12 octets."""
+
     minutes: int
     priority: int
     id: MessageId

@@ -10,6 +10,8 @@ NOT_USED, MODIFYING, VALIDATING, VALID, ERROR = 1, 2, 3, 4, 5
 
 @dataclass
 class Row:
+    """A row of the message table."""
+
     text: bytes = b""
     owner: bytes = b""
     beacon: int = 0
@@ -18,11 +20,14 @@ class Row:
     status: int = NOT_USED
 
     def crc(self) -> int:
+        """Its checksum, 0 where it is not valid."""
         return checksum(self.text, self.beacon, self.pixel) if self.status == VALID else 0
 
 
 @dataclass
 class Description:
+    """All that a sign is made of, and the number of its centre's first request."""
+
     face: layout.Face
     reader: bytes
     writer: bytes

@@ -20,6 +20,8 @@ _Cell = tuple[int, Flash | None]  # the colour
 
 @dataclass
 class Font:
+    """A font; height, space between characters and between lines in pixels."""
+
     number: int
     height: int
     space: int
@@ -30,12 +32,15 @@ class Font:
 
 @dataclass
 class Face:
+    """Width and height in pixels, the fonts, and the defaults of a text."""
+
     width: int
     height: int
     fonts: list[Font]
     defaults: tuple[int, ...]  # in the order of the objects 4.1 to 4.9
 
     def font(self, number: int) -> Font | None:
+        """The font of this number; None where there is none."""
         return next((font for font in self.fonts if font.number == number), None)
 
     def known_font(self, number: int) -> Font:
@@ -56,6 +61,8 @@ class _Character:
 
 @dataclass
 class Line:
+    """A line of a page while its characters come."""
+
     gap: int | None  # the value of the tag that opened it; None: the average of the spacings
     characters: list[_Character] = field(default_factory=list)
     closed_font: Font | None = None  # the font current at the closing of a line
@@ -64,9 +71,11 @@ class Line:
         return self.characters or self.closed_font
 
     def height(self) -> int:
+        """In pixels: that of its tallest character."""
         return max((c.font.height for c in self.characters), default=self.closed_font.height if self.closed_font else 0)
 
     def spacing(self) -> int:
+        """In pixels, to the next line."""
         return max((c.font.line for c in self.characters), default=self.closed_font.line if self.closed_font else 0)
 
     def parts(self) -> dict[int, list[_Character]]:
@@ -74,10 +83,12 @@ class Line:
 
 
 def average(first: int, second: int) -> int:
+    """The mean, rounded up."""
     return (first + second + 1) // 2
 
 
 def line_width(characters: list[_Character]) -> int:
+    """In pixels."""
     width = sum(c.glyph[0] for c in characters)
     return width + sum(average(a.font.space, b.font.space) for a, b in zip(characters, characters[1:]))
 
@@ -110,6 +121,8 @@ def spans_fit(sizes: dict[int, int], room: int) -> bool:
 
 
 class Page:
+    """A page that is laid out; its times are in tenths of a second."""
+
     def __init__(self, part: int, back: int, on: int, off: int) -> None:
         self.parts: dict[int, list[Line]] = {TOP: [], _MIDDLE: [], _BOTTOM: []}
         self.part = part

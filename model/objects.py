@@ -11,6 +11,8 @@ DMS = (1, 3, 6, 1, 4, 1, 1206, 4, 2, 3)
 
 
 class Objects:
+    """The objects of a sign, each with its name, its tag and what it reads."""
+
     def __init__(self, state: State) -> None:
         self.state = state
         self.names = self.instances()
@@ -32,6 +34,7 @@ class Objects:
         return found + [DMS + cell for cell in cells] + [DMS + (*name, 0) for name in after]
 
     def after(self, name: wire.Name) -> wire.Name | None:
+        """The first name that stands behind this one; None behind the last."""
         at = bisect.bisect_right(self.names, name)
         return self.names[at] if at < len(self.names) else None
 
@@ -50,6 +53,8 @@ class Objects:
         return None if held is None else (wire.ADDRESS if rest[:2] == (6, 6) else wire.OCTETS, held)
 
     def scalars(self) -> dict[tuple[int, int], int | bytes]:
+        """What each scalar reads, by the last two numbers of its name."""
+
         def count(memory: int, status: int) -> int:
             return sum(row.status == status for row in self.state.rows[memory])
 
@@ -84,6 +89,7 @@ class Objects:
         return held | {(6, place): code for place, code in self.state.own.items()}
 
     def cell(self, column: int, memory: int, number: int) -> wire.Tagged | None:
+        """What a cell of the message table reads; None where there is none."""
         row = self.state.row(memory, number)
         if row is None or not 1 <= column <= 9:
             return None

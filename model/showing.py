@@ -10,6 +10,8 @@ from .state import COMMUNICATIONS_LOSS, END_DURATION, POWER_LOSS, POWER_RECOVERY
 
 
 class Showing:
+    """What a sign shows, and what changes that: activations, seconds, and losses of power."""
+
     def __init__(self, state: State) -> None:
         self.state = state
 
@@ -55,6 +57,7 @@ class Showing:
         )
 
     def refuse(self, code: Activation, cause: int, fault: Fault | None) -> None:
+        """Keeps why an activation was refused."""
         self.state.activate_error, self.state.refused_code = cause, code.octets(self.state.swapped)
         if fault:
             self.state.syntax, self.state.syntax_at = fault
@@ -76,6 +79,7 @@ class Showing:
     # --- events ---------------------------------------------------------------------------------------------------
 
     def tick(self) -> None:
+        """A second passes."""
         if not self.state.power:
             return
         self.state.settle()
@@ -104,12 +108,14 @@ class Showing:
             self.state.silence = 0
 
     def power_lost(self) -> None:
+        """The power is gone: what is shown is kept, and what is to be shown without it is activated."""
         if self.state.power:
             self.state.kept = self.state.shown
             self.activate_own(14, POWER_LOSS)
             self.state.power = False
 
     def power_back(self, seconds: int) -> None:
+        """The power is back after so many seconds."""
         if self.state.power:
             return
         self.state.rows[VOLATILE] = [Row() for _ in self.state.rows[VOLATILE]]

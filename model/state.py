@@ -14,6 +14,8 @@ NONE = 2
 
 @dataclass(frozen=True)
 class Shown:
+    """What is shown, as it was activated; the defaults are those of then."""
+
     text: bytes
     owner: bytes
     beacon: int
@@ -26,6 +28,7 @@ class Shown:
     defaults: tuple[int, ...]
 
     def crc(self) -> int:
+        """Its checksum, 0 where it is blank."""
         return 0 if self.source.memory == BLANK else checksum(self.text, self.beacon, self.pixel)
 
 
@@ -80,9 +83,11 @@ class State:
         return row
 
     def blank_shown(self, source: MessageId, mode: int) -> Shown:
+        """A blank message, activated so."""
         return Shown(b"", b"", 0, 0, 1, mode, NOBODY, None, source, tuple(self.defaults))
 
     def is_validating(self) -> bool:
+        """Whether a row is being validated."""
         return any(row.status == VALIDATING for rows in self.rows.values() for row in rows)
 
     def ask(self, memory: int, number: int, asked: int) -> bool:
@@ -99,6 +104,7 @@ class State:
         return True
 
     def settle(self) -> None:
+        """The row that is being validated is valid or in error."""
         for rows in self.rows.values():
             for row in rows:
                 if row.status == VALIDATING:

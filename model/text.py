@@ -49,12 +49,14 @@ def kept_lines(text: bytes) -> tuple[list[tuple[int, bytes]], int]:
 
 
 def number(word: bytes, least: int = 0, most: int = 65535, digits: int = 5) -> int:
+    """A number of at most so many digits and in this range; raises ValueError."""
     if not re.fullmatch(rb"[0-9]{1,%d}" % digits, word) or not least <= int(word) <= most:
         raise ValueError
     return int(word)
 
 
 def octets(word: bytes) -> bytes:
+    """The octets of pairs of hexadecimal digits, none for `-`; raises ValueError."""
     if word == b"-":
         return b""
     if not word or len(word) % 2 or not re.fullmatch(rb"[0-9a-fA-F]+", word):
@@ -63,6 +65,7 @@ def octets(word: bytes) -> bytes:
 
 
 def address(word: bytes) -> bytes:
+    """The four octets of A.B.C.D; raises ValueError."""
     parts = word.split(b".")
     if len(parts) != 4:
         raise ValueError
@@ -70,6 +73,7 @@ def address(word: bytes) -> bytes:
 
 
 def glyph(words: list[bytes], height: int) -> tuple[int, layout.Glyph]:
+    """A character's number, and its picture."""
     character, width = number(words[1], 1), number(words[2], 1, 32)
     held = octets(words[3])
     bits = [octet >> place & 1 == 1 for octet in held for place in range(7, -1, -1)]
@@ -110,6 +114,7 @@ class _Lines:
 
 
 def wants(words: list[bytes], keyword: bytes, count: int) -> list[bytes]:
+    """What stands behind this word, so many words; raises ValueError."""
     if words[0] != keyword or len(words) != count + 1:
         raise ValueError
     return words[1:]
@@ -170,6 +175,7 @@ def description(lines: _Lines) -> Description:
 
 
 def event(words: list[bytes], swapped: bool) -> _Event:
+    """The event of a line's words; raises ValueError."""
     kind = words[0].decode("latin-1")
     if kind == "publish":
         memory, row, text, owner, beacon, pixel, run, minutes, priority, by = wants(words, b"publish", 10)
@@ -204,6 +210,8 @@ def event(words: list[bytes], swapped: bool) -> _Event:
 
 
 class World:
+    """A sign, its centre, what they sent each other, and what was accepted."""
+
     def __init__(self, described: Description) -> None:
         self.sign = Sign(described)
         self.centre = Centre(described.writer, described.swapped, described.first)
@@ -213,6 +221,7 @@ class World:
         self.events = 0
 
     def happen(self, kind: str, held: Any) -> None:
+        """An event happens."""
         self.events += 1
         out = None
         if kind in ("publish", "blank", "activate"):
@@ -240,6 +249,7 @@ class World:
             self.to_sign.append(out)
 
     def report(self) -> list[str]:
+        """The lines of the report."""
         shown, swapped = self.sign.state.shown, self.sign.state.swapped
         remaining = self.sign.objects.scalars()[(6, 4)]
         assert isinstance(remaining, int)
@@ -265,6 +275,7 @@ def described(text: bytes) -> Description:
 
 
 def bench() -> Description:
+    """The bench sign."""
     return description(_Lines(BENCH))
 
 
@@ -286,5 +297,6 @@ def replayed(text: bytes) -> list[str]:
 
 
 def answered(sign: Description, datagram: bytes) -> bytes | None:
+    """The reply of a sign as it starts; None where it drops the datagram."""
     reply, _ = Sign(sign).receive(datagram)
     return reply

@@ -35,6 +35,8 @@ class Fault(Exception):
 
 @dataclass
 class Message:
+    """An SNMPv1 message, its version left out."""
+
     kind: int
     community: bytes
     number: int
@@ -157,6 +159,7 @@ def spelled(octets: bytes) -> Message | None:
 
 
 def element(tag: int, content: bytes) -> bytes:
+    """An element with the shortest length."""
     size = len(content)
     if size < 128:
         return bytes([tag, size]) + content
@@ -165,6 +168,7 @@ def element(tag: int, content: bytes) -> bytes:
 
 
 def integer(number: int, tag: int = INTEGER) -> bytes:
+    """An INTEGER in its fewest octets."""
     return element(tag, number.to_bytes((number if number >= 0 else ~number).bit_length() // 8 + 1, "big", signed=True))
 
 
@@ -180,10 +184,12 @@ def _name_content(numbers: Name) -> bytes:
 
 
 def name(numbers: Name) -> bytes:
+    """An OBJECT IDENTIFIER."""
     return element(NAME, _name_content(numbers))
 
 
 def value(tagged: Tagged) -> bytes:
+    """A value with its tag."""
     tag, held = tagged
     if tag in (INTEGER, COUNTER, GAUGE, TICKS):
         return integer(held, tag)
@@ -193,6 +199,7 @@ def value(tagged: Tagged) -> bytes:
 
 
 def binding(bound: Binding) -> bytes:
+    """A name and its value."""
     return element(SEQUENCE, name(bound[0]) + value(bound[1]))
 
 

@@ -35,6 +35,7 @@ class Moment:
         return f"clock {self.wall} {self.up}".encode()
 
     def later(self, seconds: int) -> "Moment":
+        """The moment so many seconds after this one, on the same run of the machine."""
         return Moment(self.boot, self.wall + seconds, self.up + seconds)
 
     @staticmethod
@@ -48,6 +49,7 @@ class Moment:
 
     @staticmethod
     def now() -> "Moment":
+        """This moment."""
         return Moment.at(running())
 
     @staticmethod

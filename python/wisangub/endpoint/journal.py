@@ -69,6 +69,7 @@ class Journal:
         """A new journal in the place of an old one, which is put aside under a name with the date."""
 
         def begun(file: int) -> None:
+            """The new file has the journal's first records."""
             new = Journal(path + NEW, head)
             new.file = file
             new.begin()

@@ -146,6 +146,7 @@ class Head:
     rules: int = RULES
 
     def line(self) -> bytes:
+        """The line of the first record, as docs/JOURNAL.md has it."""
         words = f"journal {self.form} {self.end} rules {self.rules} description {self.digest}"
         return (words if self.first is None else f"{words} first {self.first}").encode()
 

@@ -59,6 +59,7 @@ def _is_same(one: str, other: str) -> bool:
 
 
 def log_of(asked: argparse.Namespace) -> Log | None:
+    """The log that is asked for; raises Refusal where it cannot be written."""
     return Log(asked.log, asked.json) if asked.log else None
 
 

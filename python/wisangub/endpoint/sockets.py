@@ -147,6 +147,7 @@ class Waiting:
             signal.signal(number, stop)
 
     def stop(self, *_: Any) -> None:
+        """An interrupt or a SIGTERM came: the next one ends the process at once."""
         self.is_stopped = True
         for number in (signal.SIGINT, signal.SIGTERM):
             signal.signal(number, signal.SIG_DFL)

@@ -52,6 +52,7 @@ def ended(mib: Mib, line: str) -> str:
     causes, rows = mib.words.get("dmsActivateMsgError", {}), mib.words.get("dmsMessageStatus", {})
 
     def worded(found: re.Match[str]) -> str:
+        """The number with its word behind it."""
         number = int(found[2])
         word = (
             causes.get(number)
