@@ -26,7 +26,6 @@ passed=0
 failed=0
 port=$((20000 + RANDOM % 20000))
 export LC_ALL=C SNMP_PERSISTENT_DIR=$folder/snmp
-(cd "$top" && python3 -c 'import sys; from model.text import BENCH; sys.stdout.buffer.write(BENCH)') > "$folder/bench.sign"
 mkdir -p "$SNMP_PERSISTENT_DIR/mib_indexes" "$SNMP_PERSISTENT_DIR/cert_indexes"
 
 # is NAME FOUND WANTED
@@ -43,7 +42,7 @@ is() {
 door() {
     port=$((port + 1))
     if [ -n "$signd" ]; then
-        local sign=$folder/bench.sign ticks=
+        local sign=$top/signs/bench.sign ticks=
         [ "${1:-}" = --sign ] && sign=$2
         [ "${1:-}" = --no-ticks ] && ticks=--no-ticks
         "$signd" --port $port $ticks "$sign" > "$folder/door.$port" 2>&1 &

@@ -7,7 +7,6 @@ import signal
 import time
 
 from model import wire
-from model.text import BENCH
 from trials.doors.disks import Mounted
 
 from . import records
@@ -120,7 +119,6 @@ def silent(trial: Trial, mounted: Mounted, path: pathlib.Path) -> None:
 
 
 def run(trial: Trial) -> None:
-    (trial.folder / "bench.sign").write_bytes(BENCH)
     mounted = Mounted(trial.folder / "mounted")
     try:
         if not mounted.is_there:

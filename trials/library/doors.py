@@ -31,7 +31,7 @@ class Door:
         host: str = "127.0.0.1",
         waits: bool = True,
     ) -> None:
-        sign = str(trial.folder / "bench.sign")
+        sign = str(TOP / "signs/bench.sign")
         kept = ["--journal", str(journal)] if journal else []
         if kind == "signd":
             command = [*trial.called(trial.way, "signd"), "--port", "0", "--host", host, *kept, *words, sign]

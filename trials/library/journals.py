@@ -117,7 +117,6 @@ def _killed_anew(trial: Trial) -> None:
 
 
 def run(trial: Trial) -> None:
-    (trial.folder / "bench.sign").write_bytes(BENCH)
     _turns(trial, ("signd", "signd"), False)
     _turns(trial, ("signd", "signd", "signd"), True)
     _refusals(trial)

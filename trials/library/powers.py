@@ -7,7 +7,6 @@ import pathlib
 import signal
 import time
 
-from model.text import BENCH
 from wisangub.endpoint.records import FORM
 
 from . import records
@@ -74,6 +73,5 @@ def _once(trial: Trial) -> None:
 
 
 def run(trial: Trial) -> None:
-    (trial.folder / "bench.sign").write_bytes(BENCH)
     lost(trial)
     _once(trial)

@@ -6,7 +6,6 @@ import pathlib
 import time
 
 from model import text, wire
-from model.text import BENCH
 
 from . import records
 from .doors import MOST_REPLY, Door
@@ -105,7 +104,6 @@ def _elsewhere(trial: Trial) -> None:
 
 
 def run(trial: Trial) -> None:
-    (trial.folder / "bench.sign").write_bytes(BENCH)
     _unrecorded(trial)
     _measured(trial)
     _elsewhere(trial)
