@@ -1,5 +1,6 @@
 """UDP addresses of either family, and sockets over them."""
 
+import contextlib
 import re
 import select
 import signal
@@ -82,13 +83,10 @@ class Strays:
         self.socket = socket.socket(door.family, socket.SOCK_DGRAM)
         for one in (door, self.socket):  # for this moment alone: nobody else may take the port
             one.setsockopt(socket.SOL_SOCKET, socket.SO_REUSEADDR, 1)
-        try:
+        with contextlib.suppress(OSError):  # a system that has no such socket tells of no stray
             self.socket.bind(door.getsockname())
-        except OSError as fault:
-            raise Refusal(f"{named(door.getsockname())}: {fault.strerror}") from fault
-        finally:
-            for one in (door, self.socket):
-                one.setsockopt(socket.SOL_SOCKET, socket.SO_REUSEADDR, 0)
+        for one in (door, self.socket):
+            one.setsockopt(socket.SOL_SOCKET, socket.SO_REUSEADDR, 0)
 
     def senders(self) -> list[Address]:
         """Where replies came from since the last call, at most a few at once, each sender once."""
