@@ -60,7 +60,7 @@ class Smtp(socketserver.StreamRequestHandler):
 class Hook(http.server.BaseHTTPRequestHandler):
     """Takes a POST, and answers as the server is to."""
 
-    server: Server  # type: ignore[assignment]
+    server: Server
 
     def do_POST(self) -> None:
         self.server.heard.append((self.path, json.loads(self.rfile.read(int(self.headers["Content-Length"])))))
