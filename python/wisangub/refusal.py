@@ -4,9 +4,7 @@ import os
 import sys
 from typing import Callable
 
-from wisangub.output import LOG, print_line
-
-say, tell = LOG.info, print_line  # what the control room calls them
+from wisangub.output import LOG
 
 
 class Refusal(Exception):
