@@ -200,11 +200,11 @@ class Session:
         self.pair.is_dirty = True
         if self.differs_in_part(result, block) or self.is_told(result, self.rule_of(block, run), run):
             return
-        seen = run.exchange
+        seen, whole = run.exchange, [*run.steps[: len(run.steps) - len(steps)], *block.steps]
         is_shrunk = sum(held.is_shrunk for held in result.differences) < MOST_SHRUNK
         run, is_repeated = self.made_small(run, steps, is_shrunk)
         if not is_repeated and (self.is_loss(run) or self._may_be_late(seen)):
-            result.left.append(replace(block, steps=run.steps, is_fresh=True))
+            result.left.append(replace(block, steps=whole, is_fresh=True))
             return
         rule = self.rule_of(block, run, is_repeated and is_shrunk)
         found = Difference.of(rule, result.chapter.name, run.exchange, run.steps, run.sent)
