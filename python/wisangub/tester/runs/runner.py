@@ -77,6 +77,8 @@ class Runner:
         self.runs += 1
         for left in range(_TRIES, 0, -1):
             try:
+                if self.pair.port.way.is_in_doubt() and self.reset.ask_height() is not None:
+                    self.pair.is_dirty = True  # a sign that does not answer one request is no silent sign
                 self.reset.reach_or_end(_is_timed(steps), is_alike)
                 self.pair.begin()
                 if after_a_tick and _is_timed(steps):

@@ -136,6 +136,10 @@ class Way:
         if least > self.wait:
             raise Stopped(f"four replies of five take {least:.1f} s or longer, and --wait is {self.wait:g}")
 
+    def is_in_doubt(self) -> bool:
+        """Whether there was no reply for so long that the sign may be gone, or leaves one request alone unanswered."""
+        return self._silent_since is not None and self.clock.now() - self._silent_since >= _PATIENCE / 3
+
     def begin_anew(self) -> None:
         """What was silent is no reason to stop any more: once more is tried, with no deadline."""
         self.deadline, self._silent_since, self._in_a_row = math.inf, None, 0
