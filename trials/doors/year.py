@@ -103,8 +103,8 @@ def run(trial: Trial) -> None:
     if not trial.is_short:
         is_busy = os.getloadavg()[0] > (os.cpu_count() or 1)  # then the clock tells of the machine
         seconds = taken[1] if is_busy else max(taken)
-        # 324 MB of form 2, which has two numbers in each record; 200 of form 1
-        trial.holds("a year is under 330 MB, and starts in under 30 s", size < 330e6 and seconds < 30, (size, taken))
+        # form 2, which has two numbers in each record, takes 324 MB and does not hold this; form 1 took 200
+        trial.holds("a year is under 300 MB, and starts in under 30 s", size < 300e6 and seconds < 30, (size, taken))
     path.unlink()
     records_of_ticks = (10**6 if trial.is_short else 10**9) // 23
     count = write(trial.head(), path, ticks(Moment.now().later(-10 * records_of_ticks), records_of_ticks))
