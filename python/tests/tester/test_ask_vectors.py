@@ -79,6 +79,27 @@ def test_what_comes_from_elsewhere_is_not_taken_and_the_report_says_what_failed(
     assert (suite.get("tests"), suite.get("failures")) == ("3", "3")
 
 
+def test_a_stranger_that_goes_on_sending_gives_a_silent_sign_no_more_time() -> None:
+    with socket.socket(socket.AF_INET, socket.SOCK_DGRAM) as door, socket.socket(
+        socket.AF_INET, socket.SOCK_DGRAM
+    ) as other:
+        door.bind(("127.0.0.1", 0))
+        door.settimeout(20)
+        over = threading.Event()
+
+        def flood() -> None:
+            _, asker = door.recvfrom(2048)
+            while not over.wait(0.02):
+                other.sendto(b"\0", asker)
+
+        thread = threading.Thread(target=flood, daemon=True)
+        thread.start()
+        ended = asked(door.getsockname()[1])
+        over.set()
+        thread.join(20)
+    assert ended.returncode == 2 and "3 requests one after the other without a reply: stopped" in ended.stderr
+
+
 def test_refuses_what_is_no_address() -> None:
     words = [*CALL, "--to", "nobody"]
     ended = subprocess.run(words, capture_output=True, text=True, timeout=60, check=False)

@@ -12,6 +12,7 @@ import json
 import pathlib
 import socket
 import sys
+import time
 from typing import Any
 
 from wisangub import junit
@@ -26,16 +27,21 @@ def _cases(path: pathlib.Path) -> list[dict[str, Any]]:
 
 
 def _asked(door: socket.socket, to: tuple[str, int], request: str) -> str | None:
-    """The reply to a request, in hexadecimal digits; None where none comes. What comes from elsewhere is not taken, and
-    is said."""
+    """The reply to a request, in hexadecimal digits; None where none comes. Of what comes from elsewhere, which is not
+    taken, the first is said; it gives the sign no more time."""
     door.sendto(bytes.fromhex(request), to)
+    begun, told = time.monotonic(), False
     try:
-        octets, sender = door.recvfrom(65535)
-        while sender != to:
-            where = f"{sender[0]}:{sender[1]}"
-            print(f"a reply came from {where}; is the sign behind an address translation?", file=sys.stderr)
+        while True:
             octets, sender = door.recvfrom(65535)
-        return octets.hex()
+            if sender == to:
+                return octets.hex()
+            if not told:
+                where = f"{sender[0]}:{sender[1]}"
+                print(f"a reply came from {where}; is the sign behind an address translation?", file=sys.stderr)
+                told = True
+            if time.monotonic() - begun > (door.gettimeout() or 0):
+                return None
     except (TimeoutError, ConnectionRefusedError):
         return None
 
