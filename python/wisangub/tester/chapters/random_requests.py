@@ -15,11 +15,14 @@ _LENGTH = 60  # requests of a sequence
 _MOST_OCTETS = 4096  # of a hostile datagram
 
 
-class Requests(Values):
-    """Random requests about few rows, which know what they last wrote."""
+class Requests:
+    """Random requests about few rows, of names and values that know what was last written."""
+
+    def __init__(self, values: Values) -> None:
+        self.values, self.chance, self.rows = values, values.chance, values.rows
 
     def read(self) -> Ask:
-        names = [self.name() for _ in range(self.chance.choice([1, 1, 1, 2, 3, 10]))]
+        names = [self.values.name() for _ in range(self.chance.choice([1, 1, 1, 2, 3, 10]))]
         kind = self.chance.choice([wire.GET, wire.GET, wire.GET_NEXT])
         return Ask(kind, tuple((name, NULL) for name in names), self.chance.random() < 0.7)
 
@@ -32,30 +35,30 @@ class Requests(Values):
     def binding(self) -> Binding:
         draw = self.chance.random()
         if draw < 0.35 and self.rows:
-            return self.field(self.chance.choice(self.rows))
+            return self.values.field(self.chance.choice(self.rows))
         if draw < 0.65 and self.rows:
             return self.chance.choice(self.rows).status(
                 self.chance.choice([6, 6, 6, 7, 7, 8, self.chance.choice([5, 9])])
             )
         if draw < 0.80:
-            return scalar("dmsActivateMessage"), octets(self.code())
+            return scalar("dmsActivateMessage"), octets(self.values.code())
         if draw < 0.84:
             return scalar("dmsMessageTimeRemaining"), integer(self.chance.choice([0, 1, 2, 65535, 65536]))
         if draw < 0.97:
-            return self.setting()
-        return self.name(), self.wild()
+            return self.values.setting()
+        return self.values.name(), self.values.wild()
 
     def hostile(self) -> Raw:
         """Octets of python/wisangub/tester/requests/hostile_datagrams.py, with a request number of this run."""
-        state = self.chance.randrange(2**32)
+        state, maker = self.chance.randrange(2**32), self.values.maker
 
         def make(number: int, _communities: tuple[bytes, bytes]) -> bytes:
             made: bytes
-            self.maker.random.seed(state)
-            self.maker.rate = self.maker.one([0.0, 0.005, 0.02, 0.1])
-            made = self.maker.message(self.maker.one([wire.GET, wire.GET, wire.GET_NEXT, wire.SET]), number)
-            for _ in range(self.maker.one([0, 0, 1, 1, 2])):
-                made = self.maker.changed(made)
+            maker.random.seed(state)
+            maker.rate = maker.one([0.0, 0.005, 0.02, 0.1])
+            made = maker.message(maker.one([wire.GET, wire.GET, wire.GET_NEXT, wire.SET]), number)
+            for _ in range(maker.one([0, 0, 1, 1, 2])):
+                made = maker.changed(made)
             return made[:_MOST_OCTETS]
 
         return Raw(make)
@@ -74,11 +77,14 @@ class Requests(Values):
         """A message that is written, validated and activated."""
         if not self.rows:
             return []
-        row, text = self.chance.choice(self.rows), self.chance.choice(self.texts)
+        row, text = self.chance.choice(self.rows), self.chance.choice(self.values.texts)
         beacon, priority = self.chance.choice([0, 0, 1]), self.chance.choice([1, 100, 255])
-        self.held[row] = (text, beacon, 0)
-        code = self.context.code(
-            row, self.context.crc(text, beacon, 0), self.chance.choice([255, 100]), self.chance.choice([65535, 0, 1])
+        self.values.held[row] = (text, beacon, 0)
+        code = self.values.context.code(
+            row,
+            self.values.context.crc(text, beacon, 0),
+            self.chance.choice([255, 100]),
+            self.chance.choice([65535, 0, 1]),
         )
         return [
             Ask(wire.SET, (row.status(RowStatus.MODIFY_REQ),)),
@@ -100,7 +106,7 @@ class Requests(Values):
 def _blocks(context: Context) -> Iterator[Block]:
     done, number = 0, 0
     while done < context.requests:
-        requests = Requests(context, context.seed * 1_000_003 + number)
+        requests = Requests(Values(context, context.seed * 1_000_003 + number))
         steps = requests.sequence(min(_LENGTH, context.requests - done))
         done += sum(not isinstance(step, Wait) for step in steps)
         number += 1
