@@ -132,6 +132,41 @@ def test_nobody_waits_for_what_others_fail(where: str) -> None:
     assert logins.attempt(held, "reader", "192.0.2.2") == 0 == logins.attempt(held, "operator", "192.0.2.1")
 
 
+STRANGER, SAME_NET, NEIGHBOUR = "2001:db8:1:2::1", "2001:db8:1:2:ffff::9", "2001:db8:1:3::1"
+
+
+def test_who_fails_under_many_names_waits_whatever_name_comes_next(where: str, monkeypatch: pytest.MonkeyPatch) -> None:
+    held = database.opened(where)
+    monkeypatch.setattr(passwords, "COST", 2**4)
+    for name in ("ann", "bob", "eve"):
+        users.add(held, name, Role.OPERATOR, PASSWORD, "a test")
+    assert logins.attempt(held, "ann", STRANGER) == 0
+    logins.begin(held, "ann", STRANGER)
+    waits = []
+    for at in range(logins.FREE_NAMES + 8):
+        waits.append(logins.attempt(held, f"guess{at}", STRANGER if at % 2 else SAME_NET))
+        held.run("UPDATE failed_logins SET at = at - ?", 2 * waits[-1])
+        assert not waits[-1] or logins.attempt(held, f"guess{at}", STRANGER) == 0, "the wait is over by itself"
+    later_ones = [round(wait) for wait in waits[logins.FREE_NAMES :]]
+    assert not any(waits[: logins.FREE_NAMES]) and later_ones == sorted(later_ones) and later_ones[-1] == 60
+    assert 50 < logins.attempt(held, "bob", STRANGER) <= 60, "whoever it is, and no longer than a minute"
+    assert logins.attempt(held, "ann", STRANGER) == 0, "but for who logged in from there before"
+    assert logins.attempt(held, "bob", NEIGHBOUR) == 0 == logins.attempt(held, "bob", "192.0.2.1")
+    logins.unlock(held, "bob", "a test")
+    assert logins.attempt(held, "bob", STRANGER) == 0 < logins.attempt(held, "eve", STRANGER), "let in on the machine"
+    refused = held.run("SELECT who, what FROM audit WHERE what LIKE 'a log-in is refused%' ORDER BY id")
+    assert {row[0] for row in refused} <= {logins.NOBODY, "bob", "eve"} and " names failed, from 2001:" in str(refused)
+
+
+def test_failed_log_ins_are_so_many_and_no_more(where: str, monkeypatch: pytest.MonkeyPatch) -> None:
+    held = database.opened(where)
+    monkeypatch.setattr(logins, "MOST_FAILED", 20)
+    for at in range(50):
+        assert logins.attempt(held, f"guess{at}", f"192.0.2.{at}") == 0
+    assert held.run("SELECT count(*) FROM failed_logins") == [(20,)]
+    assert logins.network_of("::ffff:192.0.2.1") == "192.0.2.1" and logins.network_of("-") == "-"
+
+
 def test_an_administrator_lets_somebody_in_from_the_machine(
     where: str, monkeypatch: pytest.MonkeyPatch, capsys: pytest.CaptureFixture[str]
 ) -> None:

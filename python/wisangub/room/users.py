@@ -5,7 +5,7 @@
     role NAME ROLE      another role
     disable NAME        may no more log in; enable NAME undoes it
     one-factor NAME     no code is asked for any more at a log-in; with his password the user may have another one
-    unlock NAME         failed log-ins are forgotten, so that nobody waits any more who logs in as NAME
+    unlock NAME         failed log-ins are forgotten, so that who logs in as NAME waits no more, wherever others failed
     list                the users
 
 A change ends what the user is logged in with, and stands in the audit.

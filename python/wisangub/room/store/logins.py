@@ -1,6 +1,7 @@
 """Log-ins in the database: how long one waits after those that failed, which stand, and when they end."""
 
 import hashlib
+import ipaddress
 import secrets
 from dataclasses import dataclass
 
@@ -17,8 +18,13 @@ _LOOK = 60.0  # seconds within which it is not written down again that something
 KEY = 16  # digits of what names a log-in on a page
 FREE = 3  # log-ins that may fail before the next one has to wait
 _FIRST_WAIT, _MOST_WAIT = 2.0, 300.0  # seconds, doubled by each further one that fails
+FREE_NAMES = 10  # names that may fail from one address before others wait there too
+_MOST_WAIT_THERE = 60.0  # seconds of that at most: who shares an address with a stranger gets in
+_KNOWN = 30 * 86_400  # seconds that who logged in from an address waits for no other name there
+_LET_IN = 3600.0  # seconds that who was let in by an administrator does so
 NOBODY = "-"  # in the audit, of a name that is no user's
 _KEPT = 86_400  # seconds that a failed log-in is kept
+MOST_FAILED = 10_000  # failed log-ins that are kept, whatever strangers do
 
 
 @dataclass(frozen=True)
@@ -49,25 +55,85 @@ def wait_after(failed: int) -> float:
     return 0.0 if failed < FREE else min(_MOST_WAIT, _FIRST_WAIT * 2.0 ** min(failed - FREE, 16))
 
 
+def wait_there(names: int) -> float:
+    """Seconds from a failed log-in to the next one that is looked at, where so many names failed from one address."""
+    return 0.0 if names < FREE_NAMES else min(_MOST_WAIT_THERE, _FIRST_WAIT * 2.0 ** min(names - FREE_NAMES, 16))
+
+
+def network_of(address: str) -> str:
+    """What is one machine's: its address, or of IPv6 the 64 bits that it can choose the rest of."""
+    try:
+        found = ipaddress.ip_address(address.partition("%")[0])
+    except ValueError:
+        return address
+    if isinstance(found, ipaddress.IPv4Address):
+        return str(found)
+    return str(found.ipv4_mapped or ipaddress.IPv6Network((found, 64), strict=False))
+
+
 def attempt(database: Database, name: str, address: str) -> float:
     """Seconds to wait before a password is looked at; 0 where it may be, and then the attempt counts as failed until a
     log-in begins. Each is counted before its password is looked at, so that many at once are no way around. The first
     refusal after one that failed stands in the audit."""
-    who = (_hidden(name), address)
     with database.transaction(is_alone=True):
         database.run(
-            "DELETE FROM failed_logins WHERE at < {clock} - ? OR at > {clock} + ?", _KEPT, SLACK
-        )  # the clock jumped
-        rows = database.run(
-            "SELECT count(*), max(at), max(id), {clock} FROM failed_logins WHERE name = ? AND address = ?", *who
+            "DELETE FROM failed_logins WHERE at < {clock} - ? OR at > {clock} + ?"  # the clock jumped
+            " OR id <= (SELECT max(id) FROM failed_logins) - ?",
+            _KEPT,
+            SLACK,
+            MOST_FAILED - 1,
         )
-        failed, last, newest, now = rows[0]
-        left = 0.0 if last is None else time_of(last) + wait_after(whole(failed)) - time_of(now)
-        if left > 0:
-            _refuse(database, name, whole(newest), f"{whole(failed)} failed, from {address}")
+        if left := _left_of_name(database, name, address) or _left_of_address(database, name, address):
             return left
-        database.run("INSERT INTO failed_logins (at, name, address) VALUES ({clock}, ?, ?)", *who)
+        database.run(
+            "INSERT INTO failed_logins (at, name, address, network) VALUES ({clock}, ?, ?, ?)",
+            _hidden(name),
+            address,
+            network_of(address),
+        )
         return 0.0
+
+
+def _left_of_name(database: Database, name: str, address: str) -> float:
+    """Seconds that this name still waits at this address, since it failed there."""
+    failed, last, newest, now = database.run(
+        "SELECT count(*), max(at), max(id), {clock} FROM failed_logins WHERE name = ? AND address = ?",
+        _hidden(name),
+        address,
+    )[0]
+    left = 0.0 if last is None else time_of(last) + wait_after(whole(failed)) - time_of(now)
+    if left > 0:
+        _refuse(database, name, whole(newest), f"{whole(failed)} failed, from {address}")
+    return max(0.0, left)
+
+
+def _left_of_address(database: Database, name: str, address: str) -> float:
+    """Seconds that all still wait at this address, since many names failed there; but for those who logged in from
+    it before, or whom an administrator let in."""
+    names, last, newest, now = database.run(
+        "SELECT count(DISTINCT name), max(at), max(id), {clock} FROM failed_logins WHERE network = ?",
+        network_of(address),
+    )[0]
+    left = 0.0 if last is None else time_of(last) + wait_there(whole(names)) - time_of(now)
+    if left <= 0 or _is_known(database, name, address):
+        return 0.0
+    _refuse(database, name, whole(newest), f"{whole(names)} names failed, from {address}")
+    return left
+
+
+def _is_known(database: Database, name: str, address: str) -> bool:
+    """Whether somebody of this name logged in from this address not long ago, or was let in on the machine."""
+    lately = "BETWEEN {clock} - ? AND {clock} + ?"
+    return bool(
+        database.run(
+            f"SELECT 1 FROM logins WHERE name = ? AND address = ? AND begun {lately} LIMIT 1",
+            name,
+            address,
+            _KNOWN,
+            SLACK,
+        )
+        or database.run(f"SELECT 1 FROM users WHERE name = ? AND unlocked {lately}", name, _LET_IN, SLACK)
+    )
 
 
 def _refuse(database: Database, name: str, newest: int, words: str) -> None:
@@ -93,9 +159,10 @@ def forgive(database: Database, name: str, address: str | None = None) -> None:
 
 
 def unlock(database: Database, name: str, who: str) -> None:
-    """Has nobody wait any more who logs in under this name; it stands in the audit."""
+    """Has nobody wait any more who logs in under this name, for a while not even where other names failed; it stands
+    in the audit."""
     with database.transaction():
-        if not _is_user(database, name):
+        if not database.run("UPDATE users SET unlocked = {clock} WHERE name = ? RETURNING name", name):
             raise Refusal(f"there is no user {name}")
         forgive(database, name)
         note(database, who, f"failed log-ins of user {name} are forgotten")
