@@ -1,4 +1,4 @@
-/* What a door has to know of a datagram before the sign hears it. */
+/* What a front end has to know of a datagram before the sign hears it. */
 #ifndef DATAGRAMS_H
 #define DATAGRAMS_H
 

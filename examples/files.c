@@ -50,7 +50,7 @@ int file_stands(int file, const char *path, off_t size)
     return is_named(file, path, &found) && found == size;
 }
 
-/* Takes the file for this door alone. */
+/* Takes the file for this front end alone. */
 static void lock(int file, const char *path)
 {
     struct stat found;
@@ -62,7 +62,7 @@ static void lock(int file, const char *path)
     }
     if (flock(file, LOCK_EX | LOCK_NB) != 0) {
         if (errno == EWOULDBLOCK) {
-            refuse(path, ": another door holds this journal");
+            refuse(path, ": another front end holds this journal");
         }
         refuse_error(path);
     }

@@ -1,4 +1,4 @@
-/* The files of a journal: one door a file, mode 0600, and names that outlive a crash. What fails is in errno. */
+/* The files of a journal: one front end a file, mode 0600, and names that outlive a crash. What fails is in errno. */
 #ifndef FILES_H
 #define FILES_H
 

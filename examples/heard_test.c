@@ -1,5 +1,5 @@
 /*
- * What a door does not record: heard_test DESCRIPTION COUNT SEED [FILE], with datagrams as digits on standard input, a
+ * What a front end does not record: heard_test DESCRIPTION COUNT SEED [FILE], with datagrams as digits on standard input, a
  * line each. Of two signs one hears so many mutated datagrams, and the other what is recorded of them: no datagram that
  * no sign answers, `heard` for one that changes nothing but the silence, and each other one. Both are the same after
  * every datagram by what they show, and now and then by all their objects. What the first one was handed is written to

@@ -1,4 +1,4 @@
-/* The journal of a sign's door (docs/JOURNAL.md): what the sign was handed, kept over the end of the process. */
+/* The journal of a sign's front end (docs/JOURNAL.md): what the sign was handed, kept over the end of the process. */
 #ifndef JOURNAL_H
 #define JOURNAL_H
 

@@ -33,7 +33,7 @@ static int is_journal(const char *text, size_t size)
     return begins(text, size, "journal ") || record_behind(text, size, 0, &found) || older_newline(text, size, 0, 0) < size;
 }
 
-/* Whether a door was killed, or lost its power, at the first record. */
+/* Whether a front end was killed, or lost its power, at the first record. */
 static int is_new(const char *text, size_t size, const char *digest)
 {
     char head[HEAD_MOST], record[HEAD_MOST + RECORD_ROOM];
@@ -98,11 +98,11 @@ static void compare(const struct journal_asked *asked, const char *text, size_t 
         refuse(asked->path, " is no journal");
     }
     if (strcmp(end, "sign") != 0) {
-        snprintf(why, sizeof why, ": its end is %s, and this door's sign", end);
+        snprintf(why, sizeof why, ": its end is %s, and this front end's sign", end);
     } else if (form != 2 && form != 1) {
-        snprintf(why, sizeof why, ": its form is %u, and this door's 2", form);
+        snprintf(why, sizeof why, ": its form is %u, and this front end's 2", form);
     } else if (rules != 1) {
-        snprintf(why, sizeof why, ": its rules is %u, and this door's 1", rules);
+        snprintf(why, sizeof why, ": its rules is %u, and this front end's 1", rules);
     } else {
         snprintf(why, sizeof why, " is the journal of another description");
     }

@@ -30,7 +30,7 @@
 /* The descriptors that are waited on. */
 enum { SOCKET, TIMER, SIGNALS, WAITED };
 
-struct door {
+struct front_end {
     struct wisangub_sign sign;
     struct communities communities;
     struct journal *journal; /* null where nothing is kept */
@@ -103,18 +103,18 @@ static void keep(struct journal *journal, struct heard *heard, size_t count)
 }
 
 /* Hands datagrams over, what changes the sign once it is recorded, and sends the replies. */
-static void answer(struct door *door, struct heard *heard, size_t count)
+static void answer(struct front_end *front_end, struct heard *heard, size_t count)
 {
     static struct replies replies;
     int by_kept = 0;
     replies.count = 0;
-    if (door->journal != NULL) {
-        keep(door->journal, heard, count);
+    if (front_end->journal != NULL) {
+        keep(front_end->journal, heard, count);
     }
     for (struct heard *one = heard; one < heard + count; one++) {
         size_t made = replies.count;
         if (one->size == LOST
-            || wisangub_sign_receive(&door->sign, one->octets, one->size, replies.octets[made], DATAGRAM_MOST,
+            || wisangub_sign_receive(&front_end->sign, one->octets, one->size, replies.octets[made], DATAGRAM_MOST,
                                      &replies.sizes[made]) != WISANGUB_DONE) {
             continue;
         }
@@ -122,122 +122,124 @@ static void answer(struct door *door, struct heard *heard, size_t count)
         replies.count++;
         by_kept |= one->kind == DATAGRAM_SETS;
     }
-    send_all(door->socket, &replies);
-    if (door->journal != NULL && replies.count > 0) {
-        int is_asked = !by_kept && door->journal->refused != 0;
-        journal_heard(door->journal, by_kept, is_asked ? silence_limit(&door->sign, &door->communities) : 0);
+    send_all(front_end->socket, &replies);
+    if (front_end->journal != NULL && replies.count > 0) {
+        int is_asked = !by_kept && front_end->journal->refused != 0;
+        journal_heard(front_end->journal, by_kept,
+                      is_asked ? silence_limit(&front_end->sign, &front_end->communities) : 0);
     }
 }
 
 /* Answers what waits at the socket; where more changes the sign than is recorded in a second it waits on. */
-static void hear(struct door *door)
+static void hear(struct front_end *front_end)
 {
     static struct heard heard[AT_ONCE];
-    size_t count = received(door->socket, heard);
+    size_t count = received(front_end->socket, heard);
     for (struct heard *one = heard; one < heard + count; one++) {
-        one->kind = one->size == LOST ? DATAGRAM_UNHEARD : datagram_kind(one->octets, one->size, &door->communities);
-        if (door->journal != NULL && one->kind == DATAGRAM_SETS
-            && (door->writes.count > 0 || !writes_take(&door->writes, running()))) {
-            writes_wait(&door->writes, one);
+        one->kind = one->size == LOST ? DATAGRAM_UNHEARD
+                                      : datagram_kind(one->octets, one->size, &front_end->communities);
+        if (front_end->journal != NULL && one->kind == DATAGRAM_SETS
+            && (front_end->writes.count > 0 || !writes_take(&front_end->writes, running()))) {
+            writes_wait(&front_end->writes, one);
             one->size = LOST;
         }
     }
-    answer(door, heard, count);
+    answer(front_end, heard, count);
 }
 
 /* Answers what has waited and may be recorded now. */
-static void hear_waiting(struct door *door)
+static void hear_waiting(struct front_end *front_end)
 {
     static struct heard heard[AT_ONCE];
     const struct heard *next = NULL;
     size_t count = 0;
-    while (count < AT_ONCE && (next = writes_next(&door->writes, running())) != NULL) {
+    while (count < AT_ONCE && (next = writes_next(&front_end->writes, running())) != NULL) {
         heard[count++] = *next;
     }
     if (count > 0) {
-        answer(door, heard, count);
+        answer(front_end, heard, count);
     }
 }
 
 /* ---- seconds and power */
 
 /* Hands the sign the seconds that have passed. The clock counts them; the timer only ends the waiting for one. */
-static void pass(struct door *door)
+static void pass(struct front_end *front_end)
 {
-    double passed = door->timer >= 0 ? running() - door->up : 0;
+    double passed = front_end->timer >= 0 ? running() - front_end->up : 0;
     uint64_t seconds = passed >= 1 ? (uint64_t)passed : 0, expired;
     if (seconds == 0) {
         return;
     }
     for (uint64_t second = 0; second < seconds; second++) {
-        wisangub_sign_tick(&door->sign);
+        wisangub_sign_tick(&front_end->sign);
     }
-    (void)!read(door->timer, &expired, sizeof expired);
-    door->up += (double)seconds;
-    if (door->journal != NULL) {
-        journal_tick(door->journal, seconds, door->up);
-        writes_tell(&door->writes, door->up, 0);
+    (void)!read(front_end->timer, &expired, sizeof expired);
+    front_end->up += (double)seconds;
+    if (front_end->journal != NULL) {
+        journal_tick(front_end->journal, seconds, front_end->up);
+        writes_tell(&front_end->writes, front_end->up, 0);
     }
 }
 
 /* Takes the power away, or gives it back, once that is recorded. A sign without power cannot lose it. */
-static void switch_power(struct door *door, int is_lost)
+static void switch_power(struct front_end *front_end, int is_lost)
 {
     char line[32] = "power-lost\n";
     struct moment now = moment_at(running());
-    if (is_lost == door->power.is_off) {
+    if (is_lost == front_end->power.is_off) {
         return;
     }
-    uint32_t seconds = is_lost ? 0 : seconds_between(&door->power.lost, &now);
+    uint32_t seconds = is_lost ? 0 : seconds_between(&front_end->power.lost, &now);
     if (!is_lost) {
         snprintf(line, sizeof line, "power-back %u\n", (unsigned)seconds);
     }
-    if (door->journal != NULL && !journal_keep(door->journal, line, strlen(line))) {
+    if (front_end->journal != NULL && !journal_keep(front_end->journal, line, strlen(line))) {
         fputs("the power stays as it is, since its change cannot be recorded\n", stderr);
         return;
     }
-    door->power = (struct power){is_lost, now};
+    front_end->power = (struct power){is_lost, now};
     if (is_lost) {
-        wisangub_sign_power_lost(&door->sign);
+        wisangub_sign_power_lost(&front_end->sign);
     } else {
-        wisangub_sign_power_back(&door->sign, seconds);
+        wisangub_sign_power_back(&front_end->sign, seconds);
     }
 }
 
 /* Does what a signal asks: 0 where it asks to end. */
-static int heed(struct door *door, int from)
+static int heed(struct front_end *front_end, int from)
 {
     struct signalfd_siginfo told;
     if (read(from, &told, sizeof told) != (ssize_t)sizeof told) {
         return 1;
     }
     if (told.ssi_signo == SIGUSR1 || told.ssi_signo == SIGUSR2) {
-        switch_power(door, told.ssi_signo == SIGUSR1);
+        switch_power(front_end, told.ssi_signo == SIGUSR1);
         return 1;
     }
     return 0;
 }
 
-static void serve(struct door *door, int signals)
+static void serve(struct front_end *front_end, int signals)
 {
-    struct pollfd waited[WAITED] = {[SOCKET] = {.fd = door->socket, .events = POLLIN},
-                                    [TIMER] = {.fd = door->timer, .events = POLLIN},
+    struct pollfd waited[WAITED] = {[SOCKET] = {.fd = front_end->socket, .events = POLLIN},
+                                    [TIMER] = {.fd = front_end->timer, .events = POLLIN},
                                     [SIGNALS] = {.fd = signals, .events = POLLIN}};
     int goes_on = 1;
     while (goes_on) {
-        int pause = writes_pause(&door->writes, running());
+        int pause = writes_pause(&front_end->writes, running());
         had(poll(waited, WAITED, pause) < 0 && errno != EINTR ? -1 : 0, "poll");
         /* Seconds that passed come before the datagrams that came meanwhile. */
-        pass(door);
+        pass(front_end);
         if (waited[SIGNALS].revents != 0) {
-            goes_on = heed(door, signals);
+            goes_on = heed(front_end, signals);
         }
-        hear_waiting(door);
+        hear_waiting(front_end);
         if (waited[SOCKET].revents != 0) {
-            hear(door);
+            hear(front_end);
         }
     }
-    pass(door);
+    pass(front_end);
 }
 
 /* ---- the command line */
@@ -308,22 +310,22 @@ static struct asked asked_for(int count, char **words)
 }
 
 /* The sign where its journal left it. */
-static void open_journal(struct door *door, struct journal *journal, struct journal_asked asked)
+static void open_journal(struct front_end *front_end, struct journal *journal, struct journal_asked asked)
 {
     if (asked.path == NULL) {
         fputs("nothing is kept: no --journal\n", stderr);
         return;
     }
-    journal_open(journal, asked, door->up, (struct handing){hand_line, &door->sign}, &door->power);
-    door->journal = journal;
+    journal_open(journal, asked, front_end->up, (struct handing){hand_line, &front_end->sign}, &front_end->power);
+    front_end->journal = journal;
 }
 
 /* Ends the journal: whether all is recorded. */
-static int close_journal(struct door *door, double up)
+static int close_journal(struct front_end *front_end, double up)
 {
-    writes_tell(&door->writes, up, 1);
-    writes_end(&door->writes);
-    return door->journal == NULL || journal_end(door->journal, up);
+    writes_tell(&front_end->writes, up, 1);
+    writes_end(&front_end->writes);
+    return front_end->journal == NULL || journal_end(front_end->journal, up);
 }
 
 int main(int count, char **words)
@@ -332,22 +334,22 @@ int main(int count, char **words)
     struct asked asked = asked_for(count, words);
     char digest[65];
     keep_standard_files();
-    struct door door = {.socket = bound(asked.host, asked.port), .timer = -1};
-    make_sign(&door.sign, asked.description, digest);
-    door.communities = communities_of(&door.sign);
-    writes_begin(&door.writes, (size_t)asked.most);
-    door.up = running();
+    struct front_end front_end = {.socket = bound(asked.host, asked.port), .timer = -1};
+    make_sign(&front_end.sign, asked.description, digest);
+    front_end.communities = communities_of(&front_end.sign);
+    writes_begin(&front_end.writes, (size_t)asked.most);
+    front_end.up = running();
     asked.journal.digest = digest;
-    open_journal(&door, &journal, asked.journal);
+    open_journal(&front_end, &journal, asked.journal);
     if (asked.has_ticks) {
-        door.timer = seconds_after(door.up);
+        front_end.timer = seconds_after(front_end.up);
     }
     int waited = signals();
     if (!asked.is_quiet) {
-        announce(door.socket);
+        announce(front_end.socket);
     }
-    serve(&door, waited);
-    int is_kept = close_journal(&door, asked.has_ticks ? door.up : running());
-    wisangub_sign_free(&door.sign);
+    serve(&front_end, waited);
+    int is_kept = close_journal(&front_end, asked.has_ticks ? front_end.up : running());
+    wisangub_sign_free(&front_end.sign);
     return is_kept ? 0 : 1;
 }

@@ -17,7 +17,7 @@ enum tail tail_of(const char *text, size_t size, size_t at, uint64_t missing);
 /* Of form 1, where a sum tells nothing of what stands behind a hole: what has the shape of a record counts as one. */
 enum tail older_tail(const char *text, size_t size, size_t at);
 
-/* Whether a file is what a door leaves that was killed at the first record, which would have these octets. */
+/* Whether a file is what a front end leaves that was killed at the first record, which would have these octets. */
 int is_begun(const char *text, size_t size, const char *record, size_t made);
 
 #endif

@@ -4,7 +4,7 @@
 Each block of `sh` that begins with `./signtool` or `cp` is run at a copy of signs/ and the built program, line by line
 (a here-document is one line). The block of the SNMP tools is run whole, without its `apt-get` and on a port that is
 free, where they are installed, and else skipped, which is said; with --short it is left out. With --signtool, another
-program that answers the lines of doors, such as model/signtool, it is the one block that is run. A block without a
+program that answers the lines of front ends, such as model/signtool, it is the one block that is run. A block without a
 language right after it is what its last command, or the whole block, prints. The two commands that prove,
 `tools/build.py` and the gate, are left to the gate. With --rattle nothing of this is run but the block of `rust`, which
 `rt try` compiles and runs in a crate of a copy, in some minutes; where no kit is here it is skipped.
@@ -47,9 +47,9 @@ def commands(block: str) -> Iterator[str]:
 
 def _free_port() -> int:
     """A UDP port that nobody has now."""
-    with socket.socket(socket.AF_INET, socket.SOCK_DGRAM) as door:
-        door.bind(("127.0.0.1", 0))
-        port: int = door.getsockname()[1]
+    with socket.socket(socket.AF_INET, socket.SOCK_DGRAM) as udp_socket:
+        udp_socket.bind(("127.0.0.1", 0))
+        port: int = udp_socket.getsockname()[1]
         return port
 
 
@@ -133,7 +133,9 @@ def main() -> int:
         default=str(SIGNTOOL) if SIGNTOOL.is_file() else None,
         help="the program signtool, as tools/build.py makes it",
     )
-    words.add_argument("--signtool", type=program, help="the program behind the doors, for the block of the SNMP tools")
+    words.add_argument(
+        "--signtool", type=program, help="the program behind the front ends, for the block of the SNMP tools"
+    )
     words.add_argument("--short", action="store_true", help="without the block of the SNMP tools")
     words.add_argument("--rattle", action="store_true", help="the block of Rattle alone")
     asked = words.parse_args()

@@ -4,9 +4,9 @@
     tools/test.py [--program crates/signtool/out/signtool] [--list] [--without-crates] [STEP..]
 
 It runs those steps of tools/after_gate.py that take seconds, side by side, the program beside the model for 40 seconds,
-and the tests of Python but those that take a minute by themselves or have a server. Without a built program the doors
-run with the model, and what compares the program is skipped. What lacks pytest, mypy, the SNMP tools or the kit is
-skipped by name.
+and the tests of Python but those that take a minute by themselves or have a server. Without a built program the
+front ends run with the model, and what compares the program is skipped. What lacks pytest, mypy, the SNMP tools or
+the kit is skipped by name.
 
 Last, one at a time, `rt check` proves each crate that changed: one of which a file of src/, specs/ or proofs/ is not as
 in the last commit that main has too (of origin/main where there is one; on main without a remote, the last commit),

@@ -1,7 +1,7 @@
 """Puts hostile datagrams through `signtool replay`, at both ends, and looks that nothing was harmed.
 
     python3 -m trials.hostile [--count 20000] [--seed 1] [--program crates/signtool/out/signtool] [--print | --udp
-        [--door PATH]]
+        [--front-end PATH]]
 
 A publication to the bench sign is carried out datagram by datagram, and before each of its events a share of hostile
 datagrams is handed to the sign and to the centre: requests and replies whose fields are changed (forms of lengths, tag
@@ -13,8 +13,8 @@ waits for. A script holds at most 1,048,576 octets, so as many scripts are run a
 line is foretold, the number of the sign's replies too, by the reader of model.
 
 It prints what each script took, and last `N passed, M failed`. With --print it prints the first script alone. With
---udp the datagrams to the sign, and those that are left out too, go to a sign's door over UDP, wisangub-sign or that of
---door (examples/signd.c), and each reply has to be the model's.
+--udp the datagrams to the sign, and those that are left out too, go to a sign's front end over UDP, wisangub-sign or
+that of --front-end (examples/signd.c), and each reply has to be the model's.
 """
 
 import argparse
@@ -29,10 +29,10 @@ import time
 from collections.abc import Iterable, Iterator
 from typing import Protocol
 
-from trials.doors.bench import Trial
+from trials.front_ends.bench import Trial
 from wisangub.tester.requests.hostile_datagrams import Datagram, Maker, all_to_sign, is_answered, near, random_ones
 
-from .doors import hostile_udp
+from .front_ends import hostile_udp
 
 _MOST_INPUT = 1_048_576
 
@@ -149,10 +149,10 @@ def _random_scripts(maker: Maker, count: int) -> Iterator[_Script]:
 
 
 def _over_udp(asked: argparse.Namespace, maker: Maker) -> int:
-    """To a sign's door."""
+    """To a sign's front end."""
     with tempfile.TemporaryDirectory() as folder:
         trial = Trial(os.path.abspath(asked.program), False, maker.random, pathlib.Path(folder))
-        trial.other = os.path.abspath(asked.door) if asked.door else None
+        trial.other = os.path.abspath(asked.front_end) if asked.front_end else None
         try:
             hostile_udp.run(trial, all_to_sign(maker, asked.count))
         finally:
@@ -178,8 +178,8 @@ def main() -> int:
         help="the program signtool, as tools/build.py makes it",
     )
     words.add_argument("--print", action="store_true", help="prints a script of so many, and runs nothing")
-    words.add_argument("--udp", action="store_true", help="to a sign's door")
-    words.add_argument("--door", metavar="PATH", help="another sign's door, such as examples/out/signd")
+    words.add_argument("--udp", action="store_true", help="to a sign's front end")
+    words.add_argument("--front-end", metavar="PATH", help="another sign's front end, such as examples/out/signd")
     asked = words.parse_args()
     maker = Maker(asked.seed)
     if asked.print:
@@ -188,7 +188,7 @@ def main() -> int:
     if not os.access(asked.program, os.X_OK):
         print(f"no program at {asked.program}: tools/build.py builds it", file=sys.stderr)
         return 2
-    if asked.udp or asked.door:
+    if asked.udp or asked.front_end:
         return _over_udp(asked, maker)
     passed = failed = 0
     for text, done, report in itertools.chain(_near_scripts(), _random_scripts(maker, asked.count)):

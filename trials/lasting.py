@@ -1,13 +1,13 @@
-"""Ends that outlive their process: doors that are killed, disks that refuse, journals that are changed.
+"""Ends that outlive their process: front ends that are killed, disks that refuse, journals that are changed.
 
-    python3 -m trials.lasting [--short] [--seed 1] [--only WORD] [--door PATH] [PROGRAM]
+    python3 -m trials.lasting [--short] [--seed 1] [--only WORD] [--front-end PATH] [PROGRAM]
 
-The program is signtool, or another that answers the same lines: model/signtool. With --door the sign's door is
-that program, examples/signd.c's, in place of wisangub-sign, and what is of our doors alone is left out. The short
-form takes at most two minutes. It prints what does not hold, a line when a kind of trial is over, and last `N passed,
-N failed`, with `, N skipped` where something cannot be tried here. How long anything is waited for goes by what a
-door's start takes on this machine; a kind of trial that hangs is ended and counts as failed, with where it stood, and
-the others go on. It needs no network but loopback, and leaves no process and no file.
+The program is signtool, or another that answers the same lines: model/signtool. With --front-end the sign's front
+end is that program, examples/signd.c's, in place of wisangub-sign, and what is of our front ends alone is left out.
+The short form takes at most two minutes. It prints what does not hold, a line when a kind of trial is over, and last
+`N passed, N failed`, with `, N skipped` where something cannot be tried here. How long anything is waited for goes
+by what a front end's start takes on this machine; a kind of trial that hangs is ended and counts as failed, with
+where it stood, and the others go on. It needs no network but loopback, and leaves no process and no file.
 """
 
 import argparse
@@ -22,11 +22,11 @@ import traceback
 from dataclasses import dataclass
 from typing import Callable
 
-from trials.doors.bench import Trial
-from trials.doors.patience import PACE, Hangs, watched
+from trials.front_ends.bench import Trial
+from trials.front_ends.patience import PACE, Hangs, watched
 from wisangub.process.places import SIGNTOOL
 
-from .doors import (
+from .front_ends import (
     bits,
     centres,
     disks,
@@ -60,7 +60,7 @@ class _Kind:
 
     run: Callable[[Trial], None]
     share: float = 5.0
-    is_ours: bool = False  # it is of the parts of our doors, or of a centre's door
+    is_ours: bool = False  # it is of the parts of our front ends, or of a centre's front end
 
 
 _KINDS = {
@@ -106,7 +106,7 @@ def _all_tried(trial: Trial, only: str | None) -> None:
     enough = time.monotonic() + _ENOUGH
     PACE.most = _MOST_PATIENCE if trial.is_short else PACE.most
     trial.measure()
-    print(f"a door starts in {PACE.start():.2f} s: waits of at most {PACE.patience():.0f} s", flush=True)
+    print(f"a front end starts in {PACE.start():.2f} s: waits of at most {PACE.patience():.0f} s", flush=True)
     kinds = [(name, kind) for name, kind in _KINDS.items() if only in (None, name)]
     for at, (name, kind) in enumerate(kinds):
         if kind.is_ours and not trial.is_ours(name):
@@ -120,13 +120,15 @@ def _all_tried(trial: Trial, only: str | None) -> None:
 
 
 def main() -> int:
-    options = argparse.ArgumentParser(description="doors that are killed, disks that refuse, journals that are changed")
+    options = argparse.ArgumentParser(
+        description="front ends that are killed, disks that refuse, journals that are changed"
+    )
     options.add_argument(
         "program", nargs="?", default=str(SIGNTOOL), help="signtool, or another that answers the same lines"
     )
     options.add_argument("--short", action="store_true", help="at most two minutes")
     options.add_argument("--seed", type=int, default=1, help="of all that is random: the same again gives the same")
-    options.add_argument("--door", metavar="PATH", help="another sign's door, such as examples/out/signd")
+    options.add_argument("--front-end", metavar="PATH", help="another sign's front end, such as examples/out/signd")
     options.add_argument("--only", choices=sorted(_KINDS), help="one kind of trial alone")
     asked = options.parse_args()
     if not os.access(asked.program, os.X_OK):
@@ -136,7 +138,7 @@ def main() -> int:
         faulthandler.dump_traceback_later(_MOST_IN_ALL, exit=True)
     with tempfile.TemporaryDirectory() as folder:
         trial = Trial(os.path.abspath(asked.program), asked.short, random.Random(asked.seed), pathlib.Path(folder))
-        trial.other = os.path.abspath(asked.door) if asked.door else None
+        trial.other = os.path.abspath(asked.front_end) if asked.front_end else None
         try:
             _all_tried(trial, asked.only)
         finally:

@@ -1,16 +1,16 @@
 #!/usr/bin/env bash
-# SNMP programs of others talk to a sign over UDP: `trials/real_clients.sh [--door PATH] [CO-PROCESS]` prints `N passed,
+# SNMP programs of others talk to a sign over UDP: `trials/real_clients.sh [--front-end PATH] [CO-PROCESS]` prints `N passed,
 # N failed`.
 #
 # Needed are Debian's snmp, smitools, tshark and python3-pysnmp4. The co-process is signtool, or another that answers the
 # same lines: model/signtool. One datagram in five is lost where a centre of ours publishes to the sign. With
-# --door the sign's door is that program, examples/signd.c's, which loses none and does not tell what it accepts.
+# --front-end the sign's front end is that program, examples/signd.c's, which loses none and does not tell what it accepts.
 set -u
 case " $* " in *" --help "*) sed -n '2,/^[^#]/s/^# \{0,1\}//p' "$0"; exit ;; esac
 top=$(cd "$(dirname "$0")/.." && pwd)
 signd=
-if [ "${1:-}" = --door ]; then
-    signd=${2:?--door PATH}
+if [ "${1:-}" = --front-end ]; then
+    signd=${2:?--front-end PATH}
     shift 2
     [ -x "$signd" ] || { echo "no program at $signd" >&2; exit 2; }
 fi
@@ -20,8 +20,8 @@ for needed in snmpget snmpgetnext snmpset snmpwalk smilint tshark; do
 done
 [ -x "$program" ] || { echo "no program at $program" >&2; exit 2; }
 folder=$(mktemp -d)
-doors=()
-trap 'kill "${doors[@]}" 2> /dev/null; rm -rf "$folder"' EXIT
+front_ends=()
+trap 'kill "${front_ends[@]}" 2> /dev/null; rm -rf "$folder"' EXIT
 passed=0
 failed=0
 port=$((20000 + RANDOM % 20000))
@@ -38,23 +38,23 @@ is() {
     fi
 }
 
-# door WORDS..: a new sign at a port of its own
-door() {
+# start_front_end WORDS..: a new sign at a port of its own
+start_front_end() {
     port=$((port + 1))
     if [ -n "$signd" ]; then
         local sign=$top/signs/bench.sign ticks=
         [ "${1:-}" = --sign ] && sign=$2
         [ "${1:-}" = --no-ticks ] && ticks=--no-ticks
-        "$signd" --port $port $ticks "$sign" > "$folder/door.$port" 2>&1 &
+        "$signd" --port $port $ticks "$sign" > "$folder/front_end.$port" 2>&1 &
     else
-        "$top/bin/wisangub-sign" --port $port --signtool "$program" "$@" > "$folder/door.$port" 2>&1 &
+        "$top/bin/wisangub-sign" --port $port --signtool "$program" "$@" > "$folder/front_end.$port" 2>&1 &
     fi
-    doors+=($!)
+    front_ends+=($!)
     for _ in $(seq 300); do
-        grep -q "a sign at" "$folder/door.$port" && return
+        grep -q "a sign at" "$folder/front_end.$port" && return
         sleep 0.1
     done
-    echo "no door at $port: $(cat "$folder/door.$port")" >&2
+    echo "no front end at $port: $(cat "$folder/front_end.$port")" >&2
     exit 2
 }
 
@@ -66,10 +66,10 @@ reason() { grep -o 'Reason: .*' | sed 's/Reason: //; s/(//; s/[ )].*//' | head -
 is "the MIB" "$(SMIPATH=$top/mibs smilint -l 3 "$top/mibs/DMS-PROFILE-MIB" 2>&1)" ""
 
 # --- a walk is what Gets give -------------------------------------------------------------------------------------------
-door --no-ticks
+start_front_end --no-ticks
 if tshark -D 2> /dev/null | grep -q '\blo\b\|Loopback'; then
     tshark -i lo -f "udp port $port" -w "$folder/wire.pcap" > /dev/null 2>&1 &
-    doors+=($!)
+    front_ends+=($!)
     sleep 2
 fi
 snmp snmpwalk -c public -On -Oq "127.0.0.1:$port" .1.3.6.1.4.1.1206.4.2.3 > "$folder/walk"
@@ -117,7 +117,7 @@ is "a value of another type" "$(snmp snmpset -c admin -Ir "127.0.0.1:$port" "$(r
 is "an object that is only read" "$(snmp snmpset -c admin "127.0.0.1:$port" "$(raw 2.3.0)" i 3 | reason)" noSuchName
 
 # --- a publication by snmpset alone ---------------------------------------------------------------------------------------
-door
+start_front_end
 is "modify" "$(writes dmsMessageStatus.3.1 i modifyReq)" modifyReq
 is "now it is being modified" "$(reads dmsMessageStatus.3.1)" modifying
 writes dmsMessageMultiString.3.1 s 'A[nl0]' dmsMessageOwner.3.1 s me dmsMessageBeacon.3.1 i 0 dmsMessagePixelService.3.1 i 0 dmsMessageRunTimePriority.3.1 i 100 > "$folder/set"
@@ -133,7 +133,7 @@ writes dmsActivateMessage.0 x FFFFFF0300019A667F000001 > "$folder/set"
 is "activated" "$(reads dmsActivateMsgError.0)" none
 is "the text that is shown" "$(reads dmsMessageMultiString.5.1)" '"A"'
 is "who activated it" "$(reads dmsMsgRequesterID.0)" 127.0.0.1
-[ -n "$signd" ] || is "the door says so" "$(grep -c 'accepted ffffff0300019a667f000001' "$folder/door.$port")" 1
+[ -n "$signd" ] || is "the front end says so" "$(grep -c 'accepted ffffff0300019a667f000001' "$folder/front_end.$port")" 1
 
 # --- by pysnmp --------------------------------------------------------------------------------------------------------------
 if python3 -c 'import pysnmp' 2> /dev/null; then clients=python3; else clients=/usr/bin/python3; fi
@@ -159,7 +159,7 @@ PYTHON
 0 0"
 
 # --- our centre, one datagram in five lost ------------------------------------------------------------------------------------
-door --sign "$top/signs/roadside.sign" --lose 5
+start_front_end --sign "$top/signs/roadside.sign" --lose 5
 text=$(printf 'LANE CLOSED[nl]1 KM' | od -An -tx1 | tr -d ' \n')
 printf 'publish 3 1 %s - 0 0 100 65535 255 127.0.0.1\n' "$text" |
     timeout 100 "$top/bin/wisangub-centre" --to "127.0.0.1:$port" --signtool "$program" --sign "$top/signs/roadside.sign" > "$folder/centre" 2>&1

@@ -161,7 +161,7 @@ is "journals stay after it" test -s "$root/var/lib/signs/sign.journal" -a -s "$r
 tar -xzf "$(grep tar.gz "$room/made")" -C "$root/opt"
 is "the tar's program" inside "/opt/wisangub-$version/bin/wisangub-signtool" check A
 is "the tar's tester" inside env PYTHONDONTWRITEBYTECODE=1 "/opt/wisangub-$version/bin/wisangub-conform" --help
-is "the tar's doors" sh -c "echo status | chroot '$root' env PYTHONDONTWRITEBYTECODE=1 \
+is "the tar's front ends" sh -c "echo status | chroot '$root' env PYTHONDONTWRITEBYTECODE=1 \
     /opt/wisangub-$version/bin/wisangub-centre --to 127.0.0.1:9 | grep -q '^last none'"
 
 echo "$passed passed, $failed failed"

@@ -8,7 +8,7 @@ from wisangub.output import LOG
 
 
 class Refusal(Exception):
-    """Why a door does not go on, in words. Status 2: what it was given is not in order; 1: something failed."""
+    """Why a front end does not go on, in words. Status 2: what it was given is not in order; 1: something failed."""
 
     def __init__(self, words: str, status: int = 2) -> None:
         super().__init__(words)
@@ -22,7 +22,7 @@ def reason(fault: OSError) -> str:
 
 
 def _keep_standard_files() -> None:
-    """The files 0, 1 and 2 are open, so that nothing that a door opens has their numbers."""
+    """The files 0, 1 and 2 are open, so that nothing that a front end opens has their numbers."""
     while (file := os.open(os.devnull, os.O_RDWR)) < 3:
         pass
     os.close(file)
@@ -37,11 +37,11 @@ def _flushed() -> None:
         os.dup2(os.open(os.devnull, os.O_WRONLY), 1)
 
 
-def status_of(door: Callable[[], int]) -> int:
-    """The exit status of a door, its refusals in words on standard error."""
+def status_of(front_end: Callable[[], int]) -> int:
+    """The exit status of a front end, its refusals in words on standard error."""
     _keep_standard_files()
     try:
-        return door()
+        return front_end()
     except Refusal as refused:
         LOG.error(str(refused))
         return refused.status

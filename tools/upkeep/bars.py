@@ -33,7 +33,7 @@ BARS = (
     Bar("sizes of crates", crates.large),
     Bar("examples of crates", crates.examples),
     Bar("public functions", crates.unsaid),
-    Bar("one door to each name", crates.doors),
+    Bar("one path to each name", crates.paths),
     Bar("wrong bodies are kept", wrong.listed),
     Bar("a wrong body of each crate", wrong.owed),
     Bar("wrong bodies apply", wrong.applied),

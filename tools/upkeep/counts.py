@@ -13,7 +13,7 @@ _OFF = 0.1  # of the number, and no more
 _OWN = r"crates/(?!\w+_tests/|dms_measures/)\w+/src/.*\.rt"  # what is neither a test nor a measure
 _FUNCTION = r'(?m)^\s*(?:pub(?:\([\w ]+\))? )?(?:const )?(?:extern "C" )?fn '
 _TEST = r"(?m)^def test_"
-_OF_DOORS = r"(?:process|endpoint(?:/\w+)?)"
+_OF_FRONT_ENDS = r"(?:process|endpoint(?:/\w+)?)"
 
 
 @dataclass(frozen=True)
@@ -38,7 +38,7 @@ COUNTS = (
     _Count("cases of vectors", r"vectors/\w+\.jsonl", r"(?m)^."),
     _Count("wrong signs", r"trials/wrong_signs/\w+\.txt", r"(?m)^rule: "),
     _Count("kinds of trial", r"trials/lasting\.py", r'": _?Kind\('),
-    _Count("tests of tools", rf"(?:(?:tools/\w+|measures|model)/tests|python/tests/{_OF_DOORS})/\w+\.py", _TEST),
+    _Count("tests of tools", rf"(?:(?:tools/\w+|measures|model)/tests|python/tests/{_OF_FRONT_ENDS})/\w+\.py", _TEST),
     _Count("tests of the tester", r"python/tests/tester/\w+\.py", _TEST),
     _Count("tests of the control room", r"python/tests/room/\w+\.py", _TEST),
     _Count("bars", r"tools/upkeep/bars\.py", r"(?m)^    Bar\("),

@@ -136,7 +136,7 @@ def unsaid(tree: Tree) -> list[str]:
     return found
 
 
-def doors(tree: Tree) -> list[str]:
+def paths(tree: Tree) -> list[str]:
     """Public modules whose names the crate's first page hands out too, but for the paths that a page says are kept."""
     kept, found = tree.text(_REASONS), []
     for crate in names(tree):

@@ -7,10 +7,10 @@ import signal
 import time
 
 from model import wire
-from trials.doors.disks import Mounted
+from trials.front_ends.disks import Mounted
 
 from . import records
-from .doors import MOST_REPLY, Door
+from .front_ends import MOST_REPLY, FrontEnd
 from .journals import MOMENT, head
 from .strangers import SIGN, WAIT, request
 from .trial import Trial
@@ -23,31 +23,31 @@ _TIME_COMM_LOSS = (*_CONTROL, 13, 0)
 NAMES = [(*_CONTROL, number, 0) for number in (7, 5, 13, 17)]
 
 
-def _sets(trial: Trial, name: str, door: Door, is_answered: bool) -> None:
+def _sets(trial: Trial, name: str, front_end: FrontEnd, is_answered: bool) -> None:
     """A Get is answered, and a SET only where the disk takes it."""
-    door.socket.settimeout(MOST_REPLY)
-    trial.check(f"{name}: a Get is answered", bool(door.ask(request(wire.GET, SIGN.reader, 1).hex())))
-    door.socket.settimeout(MOST_REPLY if is_answered else WAIT)
-    found = [bool(door.ask(request(wire.SET, SIGN.writer, number).hex())) for number in range(2, 5)]
+    front_end.socket.settimeout(MOST_REPLY)
+    trial.check(f"{name}: a Get is answered", bool(front_end.ask(request(wire.GET, SIGN.reader, 1).hex())))
+    front_end.socket.settimeout(MOST_REPLY if is_answered else WAIT)
+    found = [bool(front_end.ask(request(wire.SET, SIGN.writer, number).hex())) for number in range(2, 5)]
     trial.same(f"{name}: SETs are answered", found, [is_answered] * 3)
 
 
-def refusing(trial: Trial, name: str, door: Door, why: str, is_kept: bool) -> None:
+def refusing(trial: Trial, name: str, front_end: FrontEnd, why: str, is_kept: bool) -> None:
     """The disk refuses: Gets alone are answered, and what is lost is said."""
-    if not trial.check(f"{name}: it starts", bool(door.said), door.end()[1] if not door.said else ""):
+    if not trial.check(f"{name}: it starts", bool(front_end.said), front_end.end()[1] if not front_end.said else ""):
         return
-    _sets(trial, name, door, False)
+    _sets(trial, name, front_end, False)
     if not is_kept:
         time.sleep(1.2)
-        status, faults = door.end()
+        status, faults = front_end.end()
         trial.check(f"{name}: its status", status == 1, f"exit {status}: {faults}")
         trial.check(f"{name}: why is said", why in faults and "will be lost at the next start" in faults, faults)
 
 
-def again(trial: Trial, name: str, door: Door, path: pathlib.Path) -> None:
+def again(trial: Trial, name: str, front_end: FrontEnd, path: pathlib.Path) -> None:
     """The disk takes records again."""
-    _sets(trial, name, door, True)
-    status, faults = door.end()
+    _sets(trial, name, front_end, True)
+    status, faults = front_end.end()
     trial.check(f"{name}: it ends", status == 0 and "written again" in faults, f"exit {status}: {faults}")
     lines = records.lines_of(path.read_bytes())
     trial.check(f"{name}: it is recorded", sum(line.startswith(b"datagram ") for line in lines) >= 3, lines)
@@ -66,13 +66,13 @@ def _full(trial: Trial, mounted: Mounted, path: pathlib.Path) -> None:
     for name, octets in (("a new journal on a full disk", b""), ("a journal on a full disk", _padded())):
         path.write_bytes(octets)
         filler = mounted.fill()
-        refusing(trial, name, Door(trial, "signd", path), "No space left on device", False)
-        status, faults = Door(trial, "signd", path, "--need-journal").end()
+        refusing(trial, name, FrontEnd(trial, "signd", path), "No space left on device", False)
+        status, faults = FrontEnd(trial, "signd", path, "--need-journal").end()
         trial.check(f"{name}: needed", status == 1 and "No space left" in faults, f"exit {status}: {faults}")
-        door = Door(trial, "signd", path)
-        refusing(trial, f"{name}, for a while", door, "", True)
+        front_end = FrontEnd(trial, "signd", path)
+        refusing(trial, f"{name}, for a while", front_end, "", True)
         filler.unlink()
-        again(trial, f"{name}, with room again", door, path)
+        again(trial, f"{name}, with room again", front_end, path)
 
 
 def _read_only(trial: Trial, mounted: Mounted, path: pathlib.Path) -> None:
@@ -81,11 +81,11 @@ def _read_only(trial: Trial, mounted: Mounted, path: pathlib.Path) -> None:
         if not mounted.remount("ro"):
             trial.skip(name, "it cannot be mounted so")
             return
-        refusing(trial, name, Door(trial, "signd", place), "Read-only file system", False)
-        door = Door(trial, "signd", place)
-        refusing(trial, f"{name}, for a while", door, "", True)
+        refusing(trial, name, FrontEnd(trial, "signd", place), "Read-only file system", False)
+        front_end = FrontEnd(trial, "signd", place)
+        refusing(trial, f"{name}, for a while", front_end, "", True)
         mounted.remount("rw")
-        again(trial, f"{name}, and written again", door, place)
+        again(trial, f"{name}, and written again", front_end, place)
 
 
 def silent(trial: Trial, mounted: Mounted, path: pathlib.Path) -> None:
@@ -93,29 +93,29 @@ def silent(trial: Trial, mounted: Mounted, path: pathlib.Path) -> None:
     if trial.is_short():
         trial.skip("a silence on a full disk", "it takes longer than a minute")
         return
-    door = Door(trial, "signd", path)
+    front_end = FrontEnd(trial, "signd", path)
     minute = wire.Message(wire.SET, SIGN.writer, 1, 0, 0, [(_TIME_COMM_LOSS, (wire.INTEGER, 1))])
-    trial.check("a silence: its time is set", bool(door.ask(wire.written(minute).hex())))
+    trial.check("a silence: its time is set", bool(front_end.ask(wire.written(minute).hex())))
     filler = mounted.fill()
-    door.socket.settimeout(WAIT)
-    while door.ask(request(wire.SET, SIGN.writer, 2).hex()):
+    front_end.socket.settimeout(WAIT)
+    while front_end.ask(request(wire.SET, SIGN.writer, 2).hex()):
         pass
     time.sleep(_MINUTE)
     for number in range(5):
         time.sleep(1)
-        door.ask(request(wire.GET, SIGN.reader, number).hex())
+        front_end.ask(request(wire.GET, SIGN.reader, number).hex())
     filler.unlink()
-    _sets(trial, "a silence on a full disk", door, True)
+    _sets(trial, "a silence on a full disk", front_end, True)
     gets = [wire.written(wire.Message(wire.GET, SIGN.reader, 1, 0, 0, [(name, (wire.NULL, b""))])) for name in NAMES]
-    before = [door.ask(octets.hex()) for octets in gets]
+    before = [front_end.ask(octets.hex()) for octets in gets]
     trial.check("a silence on a full disk: the sign acted", before[0].endswith("02010c"), before)
-    door.end(signal.SIGKILL)
+    front_end.end(signal.SIGKILL)
     lines = records.lines_of(path.read_bytes())
     long = [line for line in lines if line.startswith(b"ticks ") and int(line[6:]) >= 60]
     trial.check("a silence is recorded", len(long) == 1, lines)
-    door = Door(trial, "signd", path)
-    trial.same("a silence on a full disk: what is read", [door.ask(octets.hex()) for octets in gets], before)
-    door.end()
+    front_end = FrontEnd(trial, "signd", path)
+    trial.same("a silence on a full disk: what is read", [front_end.ask(octets.hex()) for octets in gets], before)
+    front_end.end()
 
 
 def run(trial: Trial) -> None:

@@ -1,4 +1,4 @@
-"""A sign of examples/signd.c and the door wisangub-sign go on from each other's journals."""
+"""A sign of examples/signd.c and the front end wisangub-sign go on from each other's journals."""
 
 from __future__ import annotations
 
@@ -11,7 +11,7 @@ from model.text import BENCH
 from wisangub.endpoint.records import FORM
 
 from . import records
-from .doors import Door, settings
+from .front_ends import FrontEnd, settings
 from .trial import Trial
 
 LONG = 20000  # records
@@ -20,21 +20,23 @@ MOMENT = [b"start - 1795543676 1", b"clock 1795543676 1"]
 
 
 def _turns(trial: Trial, kinds: tuple[str, ...], is_killed: bool) -> None:
-    """Doors one after the other over a journal answer as one that was never ended."""
+    """Front ends one after the other over a journal answer as one that was never ended."""
     name = " then ".join(kinds) + (", killed" if is_killed else "")
     journal = trial.folder / f"{len(list(trial.folder.iterdir()))}.journal"
     sets, gets = settings()
     before: list[str] = []
     for turn, kind in enumerate(kinds):
-        door = Door(trial, kind, journal)
-        if not trial.check(f"journal, {name}: {kind} starts", bool(door.said), door.end()[1] if not door.said else ""):
+        front_end = FrontEnd(trial, kind, journal)
+        if not trial.check(
+            f"journal, {name}: {kind} starts", bool(front_end.said), front_end.end()[1] if not front_end.said else ""
+        ):
             return
         if turn:
-            trial.same(f"journal, {name}: what {kind} reads", [door.ask(octets) for octets in gets], before)
+            trial.same(f"journal, {name}: what {kind} reads", [front_end.ask(octets) for octets in gets], before)
         for octets in sets[turn * 8 : turn * 8 + 8]:
-            door.ask(octets)
-        before = [door.ask(octets) for octets in gets]
-        status, faults = door.end(signal.SIGKILL if is_killed else signal.SIGTERM)
+            front_end.ask(octets)
+        before = [front_end.ask(octets) for octets in gets]
+        status, faults = front_end.end(signal.SIGKILL if is_killed else signal.SIGTERM)
         trial.check(f"journal, {name}: {kind} ends", status == (-9 if is_killed else 0), f"exit {status}: {faults}")
     trial.check(f"journal, {name}: replies", all(before), before)
 
@@ -51,7 +53,7 @@ def head(form: int = 2) -> bytes:
 def _refusals(trial: Trial) -> None:
     """What is no journal of this sign, or is damaged, is refused; a torn end is put aside."""
     journal = trial.folder / "refused.journal"
-    Door(trial, "signd", journal).end()
+    FrontEnd(trial, "signd", journal).end()
     whole = journal.read_bytes()
     first = whole.index(b"\n") + 1
     trial.check("journal: its records", records.lines_of(whole)[0] == head(), whole[:200])
@@ -69,9 +71,9 @@ def _refusals(trial: Trial) -> None:
         ("a part of the first record", whole[:20], True),
     ):
         journal.write_bytes(octets)
-        door = Door(trial, "signd", journal)
-        status, faults = door.end()
-        is_so = bool(door.said) == is_taken and (status == 0) == is_taken
+        front_end = FrontEnd(trial, "signd", journal)
+        status, faults = front_end.end()
+        is_so = bool(front_end.said) == is_taken and (status == 0) == is_taken
         trial.check(f"journal, {name}", is_so, f"exit {status}: {faults}")
     aside = [path.read_bytes() for path in sorted(trial.folder.glob("refused.journal.cut-*"))]
     trial.check("journal: what is torn is put aside", b"datagram 30" in aside and len(aside) == 3, aside)
@@ -83,11 +85,11 @@ def accepted(trial: Trial) -> None:
     journal = trial.folder / "accepted.journal"
     octets = records.journal([head(), *MOMENT, b"ticks 5", b"ticks 6", b"ticks 7"]).replace(b"ticks 6", b"ticks 4")
     journal.write_bytes(octets)
-    status, faults = Door(trial, "signd", journal).end()
+    status, faults = FrontEnd(trial, "signd", journal).end()
     place = f"octet {octets.index(b'ticks 4')},"
     trial.check("damage is told by its octet", status == 2 and place in faults and "--accept-damage" in faults, faults)
-    door = Door(trial, "signd", journal, "--accept-damage")
-    trial.check("damage is accepted", bool(door.said) and door.end()[0] == 0, door.said)
+    front_end = FrontEnd(trial, "signd", journal, "--accept-damage")
+    trial.check("damage is accepted", bool(front_end.said) and front_end.end()[0] == 0, front_end.said)
     aside = [path.read_bytes() for path in trial.folder.glob("accepted.journal.cut-*")]
     trial.same("damage is put aside", aside, [octets[octets.index(b"ticks 4") :]])
     lines = records.lines_of(journal.read_bytes())
@@ -95,7 +97,7 @@ def accepted(trial: Trial) -> None:
 
 
 def _killed_anew(trial: Trial) -> None:
-    """A journal of form 1 is written anew by doors that are killed at any moment: it is whole in one form, and all
+    """A journal of form 1 is written anew by front ends that are killed at any moment: it is whole in one form, and all
     lines are there. The old file is kept once."""
     journal, older = trial.folder / "anew.journal", trial.folder / "anew.journal.form1"
     lines = [head(1), *MOMENT, *(b"ticks %d" % (1 + number % 7) for number in range(LONG))]
@@ -103,16 +105,16 @@ def _killed_anew(trial: Trial) -> None:
     journal.write_bytes(octets)
     kills = 0
     while kills < _MOST_KILLS and journal.read_bytes() == octets:
-        door = Door(trial, "signd", journal, waits=False)
+        front_end = FrontEnd(trial, "signd", journal, waits=False)
         time.sleep(trial.chance.random() * 0.02 * (1 + kills / 5))
-        door.end(signal.SIGKILL)
+        front_end.end(signal.SIGKILL)
         kills += 1
     found = records.lines_of(journal.read_bytes())
     trial.same("form 1, killed: its lines", found[1 : len(lines)], lines[1:])
     kept = list(trial.folder.glob("anew.journal.form1*"))
     trial.check("form 1, killed: the old file", kept == [older] and older.read_bytes() == octets, kept)
     print(f"a journal of form 1 was written anew after {kills} kills", flush=True)
-    status, faults = Door(trial, "signd", journal).end()
+    status, faults = FrontEnd(trial, "signd", journal).end()
     trial.check("form 1, killed: it goes on", status == 0, faults)
 
 
@@ -123,13 +125,13 @@ def run(trial: Trial) -> None:
     accepted(trial)
     _killed_anew(trial)
     if not os.access(trial.program, os.X_OK):
-        trial.skip("journals with the door", f"there is no program at {trial.program}")
+        trial.skip("journals with the front end", f"there is no program at {trial.program}")
         return
-    _turns(trial, ("door", "signd", "signd"), False)
-    _turns(trial, ("door", "signd"), True)
+    _turns(trial, ("front end", "signd", "signd"), False)
+    _turns(trial, ("front end", "signd"), True)
     if FORM < 2:
-        trial.skip("journals of signd with the door", f"it writes and reads form {FORM}")
+        trial.skip("journals of signd with the front end", f"it writes and reads form {FORM}")
         return
-    _turns(trial, ("signd", "door", "signd"), False)
-    _turns(trial, ("door", "signd", "door"), False)
-    _turns(trial, ("signd", "door", "signd", "door"), True)
+    _turns(trial, ("signd", "front end", "signd"), False)
+    _turns(trial, ("front end", "signd", "front end"), False)
+    _turns(trial, ("signd", "front end", "signd", "front end"), True)

@@ -10,7 +10,7 @@ import time
 from wisangub.endpoint.records import FORM
 
 from . import records
-from .doors import MOST_REPLY, Door, settings
+from .front_ends import MOST_REPLY, FrontEnd, settings
 from .trial import Trial
 
 _WAIT = 0.3  # seconds for a reply that does not come
@@ -21,8 +21,8 @@ def told(path: pathlib.Path) -> list[bytes]:
     return [line for line in records.lines_of(path.read_bytes()) if line.startswith(b"power-")]
 
 
-def _signalled(door: Door, number: signal.Signals, seconds: float = 0.2) -> None:
-    door.process.send_signal(number)
+def _signalled(front_end: FrontEnd, number: signal.Signals, seconds: float = 0.2) -> None:
+    front_end.process.send_signal(number)
     time.sleep(seconds)
 
 
@@ -30,44 +30,44 @@ def lost(trial: Trial) -> None:
     """Without power nothing is answered; whoever goes on from the journal has the same."""
     journal = trial.folder / "power.journal"
     sets, gets = settings()
-    door = Door(trial, "signd", journal)
+    front_end = FrontEnd(trial, "signd", journal)
     for octets in sets[:8]:
-        door.ask(octets)
-    _signalled(door, signal.SIGUSR1)
-    door.socket.settimeout(_WAIT)
-    trial.same("power: without it nothing is answered", door.ask(gets[0]), "")
-    _signalled(door, signal.SIGUSR2)
-    door.socket.settimeout(MOST_REPLY)
-    before = [door.ask(octets) for octets in gets]
+        front_end.ask(octets)
+    _signalled(front_end, signal.SIGUSR1)
+    front_end.socket.settimeout(_WAIT)
+    trial.same("power: without it nothing is answered", front_end.ask(gets[0]), "")
+    _signalled(front_end, signal.SIGUSR2)
+    front_end.socket.settimeout(MOST_REPLY)
+    before = [front_end.ask(octets) for octets in gets]
     trial.check("power: it is back", all(before), before)
-    trial.same("power: signd ends", door.end()[0], 0)
+    trial.same("power: signd ends", front_end.end()[0], 0)
     lines = told(journal)
     trial.check("power: it is recorded", lines in ([b"power-lost", b"power-back %d" % some] for some in (0, 1)), lines)
-    has_door = os.access(trial.program, os.X_OK) and FORM >= 2
-    for kind in ("signd", "door") if has_door else ("signd",):
-        door = Door(trial, kind, journal)
-        trial.same(f"power: what {kind} reads", [door.ask(octets) for octets in gets], before)
-        door.end()
+    has_front_end = os.access(trial.program, os.X_OK) and FORM >= 2
+    for kind in ("signd", "front end") if has_front_end else ("signd",):
+        front_end = FrontEnd(trial, kind, journal)
+        trial.same(f"power: what {kind} reads", [front_end.ask(octets) for octets in gets], before)
+        front_end.end()
 
 
 def _once(trial: Trial) -> None:
     """A loss is one however often it is told, and across a kill; what is not lost does not come back."""
     journal = trial.folder / "once.journal"
-    door = Door(trial, "signd", journal)
-    _signalled(door, signal.SIGUSR2)
-    _signalled(door, signal.SIGUSR1, 2.2)
-    _signalled(door, signal.SIGUSR1)
-    _signalled(door, signal.SIGUSR2)
-    _signalled(door, signal.SIGUSR1, 2.2)
-    door.end(signal.SIGKILL)
+    front_end = FrontEnd(trial, "signd", journal)
+    _signalled(front_end, signal.SIGUSR2)
+    _signalled(front_end, signal.SIGUSR1, 2.2)
+    _signalled(front_end, signal.SIGUSR1)
+    _signalled(front_end, signal.SIGUSR2)
+    _signalled(front_end, signal.SIGUSR1, 2.2)
+    front_end.end(signal.SIGKILL)
     lines = told(journal)
     is_so = lines[:1] + lines[2:] == [b"power-lost"] * 2 and lines[1] in (b"power-back 2", b"power-back 3")
     trial.check("power: a second SIGUSR1 begins no loss", is_so, lines)
-    door = Door(trial, "signd", journal)
-    door.socket.settimeout(_WAIT)
-    trial.same("power: after a kill there is none", door.ask(settings()[1][0]), "")
-    _signalled(door, signal.SIGUSR2)
-    trial.same("power: signd ends after a kill", door.end()[0], 0)
+    front_end = FrontEnd(trial, "signd", journal)
+    front_end.socket.settimeout(_WAIT)
+    trial.same("power: after a kill there is none", front_end.ask(settings()[1][0]), "")
+    _signalled(front_end, signal.SIGUSR2)
+    trial.same("power: signd ends after a kill", front_end.end()[0], 0)
     back = told(journal)[3:]
     trial.check("power: a loss across a kill", back in ([b"power-back %d" % some] for some in range(2, 60)), back)
 

@@ -8,7 +8,7 @@ import time
 from model import text, wire
 
 from . import records
-from .doors import MOST_REPLY, Door
+from .front_ends import MOST_REPLY, FrontEnd
 from .trial import Trial
 
 _ROW = (1, 3, 6, 1, 4, 1, 1206, 4, 2, 3, 5, 8, 1, 9, 3, 1)
@@ -55,52 +55,52 @@ def _unheard() -> dict[str, bytes]:
 def _unrecorded(trial: Trial) -> None:
     """What no sign answers is not recorded, and a SET of the reading community as `heard`."""
     journal = trial.folder / "strangers.journal"
-    door = Door(trial, "signd", journal, "--no-ticks")
+    front_end = FrontEnd(trial, "signd", journal, "--no-ticks")
     before = journal.read_bytes()
-    door.socket.settimeout(WAIT)
+    front_end.socket.settimeout(WAIT)
     for name, octets in _unheard().items():
-        trial.same(f"strangers, {name}: answered", door.ask(octets.hex()), "")
+        trial.same(f"strangers, {name}: answered", front_end.ask(octets.hex()), "")
         trial.same(f"strangers, {name}: recorded", journal.read_bytes() == before, True)
-    door.socket.settimeout(MOST_REPLY)
-    trial.check("a SET of the reading community", bool(door.ask(request(wire.SET, SIGN.reader, 2).hex())))
-    door.ask(request(wire.GET, SIGN.reader, 2).hex())  # the record is written once the reply is out
+    front_end.socket.settimeout(MOST_REPLY)
+    trial.check("a SET of the reading community", bool(front_end.ask(request(wire.SET, SIGN.reader, 2).hex())))
+    front_end.ask(request(wire.GET, SIGN.reader, 2).hex())  # the record is written once the reply is out
     trial.same("is recorded", records.lines_of(journal.read_bytes())[-1], b"heard")
-    trial.check("a SET of the writing community", bool(door.ask(request(wire.SET, SIGN.writer, 3).hex())))
+    trial.check("a SET of the writing community", bool(front_end.ask(request(wire.SET, SIGN.writer, 3).hex())))
     trial.same("is recorded", _datagrams_of(journal), 1)
-    trial.same("strangers: signd ends", door.end()[0], 0)
+    trial.same("strangers: signd ends", front_end.end()[0], 0)
 
 
 def _measured(trial: Trial) -> None:
     """At most 50 a second are recorded, 64 more wait, and the rest is dropped and counted."""
     journal = trial.folder / "measured.journal"
-    door = Door(trial, "signd", journal)
-    trial.check("at a measure: it begins", bool(door.ask(request(wire.GET, SIGN.reader, 1).hex())))
+    front_end = FrontEnd(trial, "signd", journal)
+    trial.check("at a measure: it begins", bool(front_end.ask(request(wire.GET, SIGN.reader, 1).hex())))
     begun = time.monotonic()
     for number in range(200):
-        door.socket.send(request(wire.SET, SIGN.writer, number))
+        front_end.socket.send(request(wire.SET, SIGN.writer, number))
     recorded = _datagrams_of(journal)
     is_early = time.monotonic() < begun + 0.9
-    answered = len(door.replies(2.0))
+    answered = len(front_end.replies(2.0))
     trial.check("at a measure: in the first second", recorded <= 50 or not is_early, recorded)
     trial.check("at a measure: answered", 100 <= answered <= 200 and _datagrams_of(journal) == answered, answered)
     trial.check("at a measure: no faster", time.monotonic() - begun > (answered - 1) // 50, answered)
-    _, faults = door.end()
+    _, faults = front_end.end()
     trial.check("at a measure: the rest is counted", f"{200 - answered} datagrams" in faults or answered == 200, faults)
-    door = Door(trial, "signd", journal, "--most-recorded", "1000")
+    front_end = FrontEnd(trial, "signd", journal, "--most-recorded", "1000")
     for number in range(200):
-        door.socket.send(request(wire.SET, SIGN.writer, number))
-    found = len(door.replies(0.9))
+        front_end.socket.send(request(wire.SET, SIGN.writer, number))
+    found = len(front_end.replies(0.9))
     trial.check("at another measure", found == 200, found)
-    door.end()
+    front_end.end()
 
 
 def _elsewhere(trial: Trial) -> None:
     """IPv6; and no journal."""
-    door = Door(trial, "signd", None, host="::1")
-    trial.check("IPv6", door.said.startswith("a sign at [::1]:"), door.said)
-    if door.said:
-        trial.check("IPv6: answered", bool(door.ask(request(wire.GET, SIGN.reader, 1).hex())))
-    trial.same("no journal is told", door.end(), (0, "nothing is kept: no --journal\n"))
+    front_end = FrontEnd(trial, "signd", None, host="::1")
+    trial.check("IPv6", front_end.said.startswith("a sign at [::1]:"), front_end.said)
+    if front_end.said:
+        trial.check("IPv6: answered", bool(front_end.ask(request(wire.GET, SIGN.reader, 1).hex())))
+    trial.same("no journal is told", front_end.end(), (0, "nothing is kept: no --journal\n"))
 
 
 def run(trial: Trial) -> None:

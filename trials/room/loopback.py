@@ -39,7 +39,7 @@ class LoopbackSign:
 
     name: str
     process: CoProcess
-    door: socket.socket
+    udp_socket: socket.socket
     requests: list[bytes] = field(default_factory=list)
     peers: list[Address] = field(default_factory=list)
     accepted: list[tuple[int, str]] = field(default_factory=list)
@@ -47,7 +47,7 @@ class LoopbackSign:
 
     @property
     def port(self) -> int:
-        return int(self.door.getsockname()[1])
+        return int(self.udp_socket.getsockname()[1])
 
 
 class Loopback(threading.Thread):
@@ -60,27 +60,27 @@ class Loopback(threading.Thread):
         self.late: list[tuple[float, int, LoopbackSign, bytes, Address, bool]] = []
         self.count = 0
         self.signs = [self.made(program, name, text) for name, text in texts.items()]
-        self.doors = {sign.door.fileno(): sign for sign in self.signs}
+        self.udp_sockets = {sign.udp_socket.fileno(): sign for sign in self.signs}
 
     @staticmethod
     def made(program: str, name: str, text: bytes) -> LoopbackSign:
         """A sign on a port that the system chooses."""
         process = CoProcess(program, ["sign"], text)
         process.begin(b"state", name)
-        door = socket.socket(socket.AF_INET, socket.SOCK_DGRAM)
-        door.bind(("127.0.0.1", 0))
-        return LoopbackSign(name, process, door)
+        udp_socket = socket.socket(socket.AF_INET, socket.SOCK_DGRAM)
+        udp_socket.bind(("127.0.0.1", 0))
+        return LoopbackSign(name, process, udp_socket)
 
     def run(self) -> None:
         """Until it is done."""
         due = time.monotonic() + self.every
         ready = select.poll()
-        for file in self.doors:
+        for file in self.udp_sockets:
             ready.register(file, select.POLLIN)
         while not self.is_done:
             until = min(due, self.late[0][0] if self.late else due, time.monotonic() + 0.1)
             for file, _ in ready.poll(max(0.0, 1000 * (until - time.monotonic()))):
-                self.heard(self.doors[file])
+                self.heard(self.udp_sockets[file])
             now = time.monotonic()
             while self.late and self.late[0][0] <= now:
                 _, _, sign, octets, peer, is_request = heapq.heappop(self.late)
@@ -98,7 +98,7 @@ class Loopback(threading.Thread):
 
     def heard(self, sign: LoopbackSign) -> None:
         """What waits at a sign's socket was on the wire."""
-        while (heard := received(sign.door)) is not None:
+        while (heard := received(sign.udp_socket)) is not None:
             sign.peers.append(heard[1])
             sign.requests.append(heard[0])
             self.under_way(sign, heard[0], heard[1], is_request=True)
@@ -117,7 +117,7 @@ class Loopback(threading.Thread):
     def arrives(self, sign: LoopbackSign, octets: bytes, peer: Address, is_request: bool) -> None:
         """A request at the sign, or a reply at the centre."""
         if not is_request:
-            sign.door.sendto(octets, peer)
+            sign.udp_socket.sendto(octets, peer)
             return
         word, *rest = sign.process.hand([b"datagram " + octets.hex().encode()])[0].split(b" ")
         if word == b"accepted":
@@ -133,4 +133,4 @@ class Loopback(threading.Thread):
         self.join()
         for sign in self.signs:
             sign.process.end()
-            sign.door.close()
+            sign.udp_socket.close()

@@ -1,4 +1,4 @@
-"""Journals of form 1, as doors wrote them before form 2."""
+"""Journals of form 1, as front ends wrote them before form 2."""
 
 import zlib
 

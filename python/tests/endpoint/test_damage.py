@@ -19,8 +19,8 @@ def datagram(chance: random.Random, least: int = 10, most: int = 40) -> bytes:
 
 
 class Written:
-    """A journal as a door writes it: several records with one sync, some without any. `writes` are where each write
-    begins, with the number of its first record and whether a sync came after it."""
+    """A journal as a front end writes it: several records with one sync, some without any. `writes` are where each
+    write begins, with the number of its first record and whether a sync came after it."""
 
     def __init__(self, chance: random.Random, writes: int, is_synced_last: bool = True) -> None:
         self.text, self.number, self.since = b"", 1, 1

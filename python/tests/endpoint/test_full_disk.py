@@ -1,4 +1,4 @@
-"""A disk that is full, or can only be read, at a start and while a door runs."""
+"""A disk that is full, or can only be read, at a start and while a front end runs."""
 
 import errno
 import os

@@ -190,7 +190,7 @@ def test_a_journal_of_form_1_that_is_damaged_is_refused() -> None:
 
 
 class Killed(BaseException):
-    """The door was killed at a call."""
+    """The front end was killed at a call."""
 
 
 def test_killed_at_each_call_of_writing_anew_there_is_one_whole_journal() -> None:
@@ -202,7 +202,8 @@ def test_killed_at_each_call_of_writing_anew_there_is_one_whole_journal() -> Non
 
 
 def killed_at(text: bytes, name: str, at: int) -> bool:
-    """Whether a door made so many of these calls before it was killed at the last of them; what it leaves is whole."""
+    """Whether a front end made so many of these calls before it was killed at the last of them; what it leaves is
+    whole."""
     call, count = getattr(os, name), [0]
 
     def counted(*words: object, **more: object) -> object:
@@ -255,7 +256,7 @@ def test_what_differs_is_named() -> None:
     with tempfile.TemporaryDirectory() as folder:
         path = pathlib.Path(folder, "journal")
         path.write_bytes(records.records([replace(HEAD, form=3).line()]))
-        assert "its form is 3, and this door's 2" in refused(lambda: kept(str(path)))
+        assert "its form is 3, and this front end's 2" in refused(lambda: kept(str(path)))
         path.unlink()
         made(str(path))
         for head, words in rows:
@@ -263,10 +264,10 @@ def test_what_differs_is_named() -> None:
         assert kept(f"{folder}/journal") == LINES
 
 
-def test_one_door_a_journal() -> None:
+def test_one_front_end_a_journal() -> None:
     with tempfile.TemporaryDirectory() as folder:
         file = opened(f"{folder}/journal")
-        assert "another door holds" in refused(lambda: opened(f"{folder}/journal"))
+        assert "another front end holds" in refused(lambda: opened(f"{folder}/journal"))
         assert os.fstat(file).st_mode & 0o777 == 0o600
         os.close(file)
 

@@ -6,7 +6,7 @@ import time
 from typing import Callable
 from unittest import mock
 
-from trials.doors.patience import LEAST, TIMES, Hangs, Pace, watched
+from trials.front_ends.patience import LEAST, TIMES, Hangs, Pace, watched
 
 
 def read_for_ever() -> None:
@@ -40,7 +40,7 @@ def is_ended(does: Callable[[], object], seconds: float) -> bool:
 
 def test_what_hangs_is_ended() -> None:
     hanging: list[Callable[[], object]] = [read_for_ever, swallowed, threading.Event().wait, lambda: time.sleep(60)]
-    with mock.patch("trials.doors.patience.RINGS_AGAIN", 1.0):
+    with mock.patch("trials.front_ends.patience.RINGS_AGAIN", 1.0):
         for does in hanging:
             assert is_ended(does, 0.05), does
 

@@ -14,7 +14,7 @@ HEAD = Head("sign", "bench")
 
 
 def written(chance: random.Random, form: int) -> tuple[bytes, list[bytes]]:
-    """A journal of this form, and its lines but for the door's own."""
+    """A journal of this form, and its lines but for the front end's own."""
     lines = [b"start b 1795543676 5", b"clock 1795543676 5"]
     for _ in range(chance.randrange(25)):
         more = b"datagram " + chance.randbytes(chance.randint(1, 200)).hex().encode()

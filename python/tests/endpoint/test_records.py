@@ -88,7 +88,7 @@ def test_many_chunks_are_whole_and_give_their_lines() -> None:
     assert whole(text[:at] + b"x" + text[at + 1 :]).size == text.rfind(b"\n", 0, at) + 1
 
 
-def test_records_of_the_door_are_not_handed_over() -> None:
+def test_records_of_the_front_end_are_not_handed_over() -> None:
     assert [line for some in lines_of(TEXT, 0, len(TEXT)) for line in some] == LINES[3:]
 
 

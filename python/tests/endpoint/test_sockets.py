@@ -24,8 +24,8 @@ class Unreachable:
 
 def test_the_fault_of_an_earlier_datagram_loses_no_other_one() -> None:
     for earlier in (errno.ECONNREFUSED, errno.EHOSTUNREACH, errno.ENETUNREACH, errno.EPROTO):
-        door = Unreachable(earlier)
-        assert sent(cast(socket.socket, door), b"a") is None and door.out == [b"a"]
+        front_end = Unreachable(earlier)
+        assert sent(cast(socket.socket, front_end), b"a") is None and front_end.out == [b"a"]
 
 
 def test_a_datagram_that_is_lost_is_told() -> None:
@@ -37,11 +37,11 @@ def test_a_port_that_opens_again_gets_the_next_datagram() -> None:
     peer = bound("127.0.0.1", 0)
     port = int(peer.getsockname()[1])
     peer.close()
-    with connected("127.0.0.1", port) as door:
-        assert sent(door, b"lost") is None
+    with connected("127.0.0.1", port) as front_end:
+        assert sent(front_end, b"lost") is None
         time.sleep(0.05)
         with bound("127.0.0.1", port) as again:
-            assert sent(door, b"heard") is None
+            assert sent(front_end, b"heard") is None
             again.settimeout(5)
             assert again.recv(10) == b"heard"
             again.settimeout(0.1)

@@ -1,4 +1,4 @@
-"""A description as a door hands it over: up to its line `end`, its digest, and the number that it begins with."""
+"""A description as a front end hands it over: up to its line `end`, its digest, and the number that it begins with."""
 
 import hashlib
 import pathlib

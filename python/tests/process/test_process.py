@@ -71,9 +71,9 @@ def test_a_machine_that_is_off_is_no_datagram() -> None:
     assert received(one) == (b"30", ("127.0.0.1", 1))
     other: Any = Faulty(MOST_FAULTS)
     assert received(other) is None
-    with socket.socket(socket.AF_INET, socket.SOCK_DGRAM) as door:
-        door.bind(("127.0.0.1", 0))
-        assert received(door) is None
+    with socket.socket(socket.AF_INET, socket.SOCK_DGRAM) as udp_socket:
+        udp_socket.bind(("127.0.0.1", 0))
+        assert received(udp_socket) is None
 
 
 class Always:

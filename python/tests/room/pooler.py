@@ -8,20 +8,20 @@ import threading
 from typing import Iterator
 
 
-def startup(door: socket.socket) -> bytes:
+def startup(connection: socket.socket) -> bytes:
     """The message that a connection begins with, without its options."""
-    size = struct.unpack("!I", received(door, 4))[0]
-    body = received(door, size - 4)
+    size = struct.unpack("!I", received(connection, 4))[0]
+    body = received(connection, size - 4)
     words = body[4:].rstrip(b"\0").split(b"\0")
     kept = [word for pair in zip(words[::2], words[1::2]) if pair[0] != b"options" for word in pair]
     made = body[:4] + b"".join(word + b"\0" for word in kept) + b"\0"
     return struct.pack("!I", len(made) + 4) + made
 
 
-def received(door: socket.socket, size: int) -> bytes:
+def received(connection: socket.socket, size: int) -> bytes:
     found = b""
     while len(found) < size:
-        more = door.recv(size - len(found))
+        more = connection.recv(size - len(found))
         if not more:
             raise EOFError
         found += more
@@ -41,11 +41,11 @@ def served(listener: socket.socket, port: int) -> None:
     """Connections, until nobody listens any more."""
     with contextlib.suppress(OSError):
         while True:
-            door = listener.accept()[0]
+            connection = listener.accept()[0]
             server = socket.create_connection(("127.0.0.1", port))
             with contextlib.suppress(EOFError, OSError):
-                server.sendall(startup(door))
-                for pair in ((door, server), (server, door)):
+                server.sendall(startup(connection))
+                for pair in ((connection, server), (server, connection)):
                     threading.Thread(target=pumped, args=pair, daemon=True).start()
 
 

@@ -42,11 +42,11 @@ def pages(folder: pathlib.Path, **settings: Any) -> Iterator[Pages]:
 
 def said(port: int, octets: bytes) -> bytes:
     """All that comes back until the connection ends."""
-    with socket.create_connection(("127.0.0.1", port), LATE) as door:
-        door.sendall(octets)
+    with socket.create_connection(("127.0.0.1", port), LATE) as connection:
+        connection.sendall(octets)
         found = b""
         with contextlib.suppress(ConnectionError):
-            while more := door.recv(65536):
+            while more := connection.recv(65536):
                 found += more
     return found
 
@@ -75,11 +75,13 @@ def test_who_is_slow_is_let_go(
 def test_one_that_waits_gives_way(tmp_path: pathlib.Path, monkeypatch: pytest.MonkeyPatch) -> None:
     monkeypatch.setattr(passwords, "COST", 2**4)
     with pages(tmp_path, patience=Patience(most=8, most_of_address=4)) as standing, contextlib.ExitStack() as stack:
-        doors = [stack.enter_context(socket.create_connection(("127.0.0.1", standing.port), LATE)) for _ in range(6)]
-        for door in doors[:2]:
-            assert door.recv(1) == b"", "those that have waited longest"
-        doors[-1].sendall(HEAD + b"\r\n")
-        assert doors[-1].recv(12) == b"HTTP/1.1 200"
+        connections = [
+            stack.enter_context(socket.create_connection(("127.0.0.1", standing.port), LATE)) for _ in range(6)
+        ]
+        for connection in connections[:2]:
+            assert connection.recv(1) == b"", "those that have waited longest"
+        connections[-1].sendall(HEAD + b"\r\n")
+        assert connections[-1].recv(12) == b"HTTP/1.1 200"
 
 
 def test_half_open_requests_leave_pages_and_worker_at_work(tmp_path: pathlib.Path) -> None:
@@ -89,8 +91,8 @@ def test_half_open_requests_leave_pages_and_worker_at_work(tmp_path: pathlib.Pat
         stack.callback(service.kill)
         service.start()
         for _ in range(HALF_OPEN):
-            door = stack.enter_context(socket.create_connection(("127.0.0.1", service.port), LATE))
-            door.sendall(HEAD)
+            connection = stack.enter_context(socket.create_connection(("127.0.0.1", service.port), LATE))
+            connection.sendall(HEAD)
         begun = time.monotonic()
         assert is_there(service.address) and time.monotonic() - begun < LATE
         command = at.ask(HELLO)

@@ -239,7 +239,7 @@ def test_the_file_of_who_is_told(tmp_path: pathlib.Path) -> None:
 
 def test_nothing_of_this_machine_is_asked_for_by_a_name_alone() -> None:
     """A port that nobody listens at is a fault like others."""
-    with socket.create_server(("127.0.0.1", 0)) as door:
-        port = door.getsockname()[1]
+    with socket.create_server(("127.0.0.1", 0)) as connection:
+        port = connection.getsockname()[1]
     with pytest.raises(OSError):
         Webhook(f"http://127.0.0.1:{port}/").tell([])

@@ -129,7 +129,7 @@ def carried_on(found: Session, steps: int) -> bool:
     ends = time.monotonic() + 60
     begun = found.number
     while found.is_busy and found.number - begun < steps and time.monotonic() < ends:
-        is_heard = bool(select.select([found.door], [], [], 3 * PACE.tick)[0])
+        is_heard = bool(select.select([found.front_end], [], [], 3 * PACE.tick)[0])
         carried(found, found.offer(not is_heard))
     return found.is_busy
 

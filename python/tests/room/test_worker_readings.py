@@ -34,7 +34,7 @@ def test_a_reading_has_a_socket_of_its_own(tmp_path: pathlib.Path, where: str) -
         at.ask(HELLO)
         found, worker = at.session("first"), at.worker()
         begin(found)
-        own = found.door.getsockname()[1]
+        own = found.udp_socket.getsockname()[1]
         ports: dict[bool, set[int]] = {}
         ends = time.monotonic() + 30
         while set(ports) != {False, True} and time.monotonic() < ends:

@@ -1,1 +1,1 @@
-"""Tests of the doors' parts: `pytest python/tests/endpoint`, or `python3 -m trials.lasting --only parts`."""
+"""Tests of the front ends' parts: `pytest python/tests/endpoint`, or `python3 -m trials.lasting --only parts`."""

@@ -17,62 +17,62 @@ def asked(port: int, *more: str) -> subprocess.CompletedProcess[str]:
     return subprocess.run(words, capture_output=True, text=True, timeout=120, check=False)
 
 
-def received(door: socket.socket) -> int:
+def received(udp_socket: socket.socket) -> int:
     """How many datagrams wait."""
     count = 0
-    door.setblocking(False)
+    udp_socket.setblocking(False)
     while True:
         try:
-            door.recv(2048)
+            udp_socket.recv(2048)
         except BlockingIOError:
             return count
         count += 1
 
 
 def test_stops_after_three_silent_requests() -> None:
-    with socket.socket(socket.AF_INET, socket.SOCK_DGRAM) as door:
-        door.bind(("127.0.0.1", 0))
-        ended = asked(door.getsockname()[1])
+    with socket.socket(socket.AF_INET, socket.SOCK_DGRAM) as udp_socket:
+        udp_socket.bind(("127.0.0.1", 0))
+        ended = asked(udp_socket.getsockname()[1])
         assert ended.returncode == 2
-        assert received(door) == 3
+        assert received(udp_socket) == 3
         assert "3 requests one after the other without a reply: stopped" in ended.stderr
 
 
 def test_goes_on_where_replies_are_wrong() -> None:
-    with socket.socket(socket.AF_INET, socket.SOCK_DGRAM) as door:
-        door.bind(("127.0.0.1", 0))
-        door.settimeout(20)
+    with socket.socket(socket.AF_INET, socket.SOCK_DGRAM) as udp_socket:
+        udp_socket.bind(("127.0.0.1", 0))
+        udp_socket.settimeout(20)
 
         def answer() -> None:
             try:
-                while octets := door.recvfrom(2048):
-                    door.sendto(b"\0", octets[1])
+                while octets := udp_socket.recvfrom(2048):
+                    udp_socket.sendto(b"\0", octets[1])
             except OSError:
                 pass
 
         thread = threading.Thread(target=answer, daemon=True)
         thread.start()
-        ended = asked(door.getsockname()[1])
+        ended = asked(udp_socket.getsockname()[1])
     assert ended.returncode == 1
     assert ended.stdout.splitlines()[-1].startswith("0 passed, ")
 
 
 def test_what_comes_from_elsewhere_is_not_taken_and_the_report_says_what_failed() -> None:
-    with socket.socket(socket.AF_INET, socket.SOCK_DGRAM) as door, socket.socket(
+    with socket.socket(socket.AF_INET, socket.SOCK_DGRAM) as udp_socket, socket.socket(
         socket.AF_INET, socket.SOCK_DGRAM
     ) as other, tempfile.TemporaryDirectory() as folder:
-        door.bind(("127.0.0.1", 0))
+        udp_socket.bind(("127.0.0.1", 0))
         other.bind(("127.0.0.1", 0))
 
         def answer() -> None:
             for _ in range(3):
-                _, sender = door.recvfrom(2048)
+                _, sender = udp_socket.recvfrom(2048)
                 other.sendto(b"\0", sender)
 
         thread = threading.Thread(target=answer, daemon=True)
         thread.start()
         report = pathlib.Path(folder, "report.xml")
-        ended = asked(door.getsockname()[1], "--junit", str(report))
+        ended = asked(udp_socket.getsockname()[1], "--junit", str(report))
         thread.join(20)
         suite = ET.fromstring(report.read_bytes())
     assert ended.returncode == 2 and ended.stderr.count("a reply came from 127.0.0.1:") == 3
@@ -80,21 +80,21 @@ def test_what_comes_from_elsewhere_is_not_taken_and_the_report_says_what_failed(
 
 
 def test_a_stranger_that_goes_on_sending_gives_a_silent_sign_no_more_time() -> None:
-    with socket.socket(socket.AF_INET, socket.SOCK_DGRAM) as door, socket.socket(
+    with socket.socket(socket.AF_INET, socket.SOCK_DGRAM) as udp_socket, socket.socket(
         socket.AF_INET, socket.SOCK_DGRAM
     ) as other:
-        door.bind(("127.0.0.1", 0))
-        door.settimeout(20)
+        udp_socket.bind(("127.0.0.1", 0))
+        udp_socket.settimeout(20)
         over = threading.Event()
 
         def flood() -> None:
-            _, asker = door.recvfrom(2048)
+            _, asker = udp_socket.recvfrom(2048)
             while not over.wait(0.02):
                 other.sendto(b"\0", asker)
 
         thread = threading.Thread(target=flood, daemon=True)
         thread.start()
-        ended = asked(door.getsockname()[1])
+        ended = asked(udp_socket.getsockname()[1])
         over.set()
         thread.join(20)
     assert ended.returncode == 2 and "3 requests one after the other without a reply: stopped" in ended.stderr

@@ -40,7 +40,7 @@ def free_port() -> int:
 
 
 @contextlib.contextmanager
-def door(*words: str) -> Iterator[None]:
+def front_end(*words: str) -> Iterator[None]:
     """A sign on a port, which is gone afterwards."""
     with subprocess.Popen([sys.executable, *words], cwd=TOP, stdout=subprocess.PIPE, stderr=subprocess.DEVNULL) as sign:
         try:
@@ -69,7 +69,7 @@ def test_a_right_sign_over_udp() -> None:
         described, port = pathlib.Path(folder) / "bench.sign", free_port()
         described.write_bytes(text.BENCH)
         right = ("bin/wisangub-sign", "--signtool", str(TOP / "model/signtool"))
-        with in_real_time(), door(*right, "--port", str(port), "--sign", str(described)):
+        with in_real_time(), front_end(*right, "--port", str(port), "--sign", str(described)):
             ended = conform(port, described, "--only", "communities", "--only", "priorities", "--wait", "5")
             assert is_good(ended), ended
 
@@ -78,8 +78,8 @@ def test_a_wrong_sign_over_udp_and_its_command() -> None:
     with tempfile.TemporaryDirectory() as folder:
         described, port, report = pathlib.Path(folder) / "bench.sign", free_port(), pathlib.Path(folder) / "report.json"
         described.write_bytes(text.BENCH)
-        wrong = ("-m", "trials.wrong_signs.door", "--port", str(port), "--sign", str(described), "the_reader_writes")
-        with in_real_time(), door(*wrong):
+        wrong = ("-m", "trials.wrong_signs.serve", "--port", str(port), "--sign", str(described), "the_reader_writes")
+        with in_real_time(), front_end(*wrong):
             ended = conform(port, described, "--only", "communities", "--json", str(report), "--wait", "5")
             assert ended.returncode == 1, ended
             held = json.loads(report.read_text(encoding="utf-8"))["differences"][0]
@@ -122,7 +122,7 @@ def test_interrupts_put_the_sign_back_and_write_the_report() -> None:
         right = ("bin/wisangub-sign", "--signtool", str(TOP / "model/signtool"))
         call = [sys.executable, "-m", "wisangub.tester", "--to", f"127.0.0.1:{port}", "--sign", str(described)]
         call += ["--signtool", "model", "--json", str(report), "--wait", "5"]
-        with in_real_time(), door(*right, "--port", str(port), "--sign", str(described)):
+        with in_real_time(), front_end(*right, "--port", str(port), "--sign", str(described)):
             with subprocess.Popen(call, cwd=TOP, stdout=subprocess.PIPE) as tester:
                 assert tester.stdout is not None
                 assert b"without --slow" in tester.stdout.readline() and b"BER forms" in tester.stdout.readline()

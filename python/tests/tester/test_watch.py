@@ -217,17 +217,17 @@ def test_it_answers_on_a_port_and_tells_at_its_end() -> None:
         ]
         with subprocess.Popen(call, cwd=TOP, stdout=subprocess.PIPE) as sign, socket.socket(
             socket.AF_INET, socket.SOCK_DGRAM
-        ) as door:
+        ) as udp_socket:
             try:
                 assert sign.stdout is not None
                 port = int(sign.stdout.readline().split(b":")[-1])
-                door.settimeout(5)
-                door.sendto(
+                udp_socket.settimeout(5)
+                udp_socket.sendto(
                     put((scalar("defaultPageOnTime"), integer(3))).octets(9, CONTEXT.communities), ("127.0.0.1", port)
                 )
-                assert door.recv(2000)
-                door.sendto(get(scalar("defaultPageOnTime")).octets(9, CONTEXT.communities), ("127.0.0.1", port))
-                assert door.recv(2000)
+                assert udp_socket.recv(2000)
+                udp_socket.sendto(get(scalar("defaultPageOnTime")).octets(9, CONTEXT.communities), ("127.0.0.1", port))
+                assert udp_socket.recv(2000)
                 sign.send_signal(signal.SIGTERM)
                 said = sign.stdout.read().decode()
                 assert sign.wait(10) == 1 and "used again for another request: 1" in said, said

@@ -1,4 +1,4 @@
-"""A centre over UDP: a door between a socket and `signtool centre`.
+"""A centre over UDP: a front end between a socket and `signtool centre`.
 
     wisangub-centre --to HOST:PORT [--signtool PATH] [--sign FILE] [--journal FILE [--fresh] [--need-journal]]
         [--first N] [--log FILE|- [--json]] [--tick SECONDS] [--wait SECONDS]
@@ -25,7 +25,7 @@ from wisangub.process import description
 from wisangub.refusal import Refusal, status_of
 
 from . import commands
-from .centre_door import CentreDoor, last_command
+from .centre_front_end import CentreFrontEnd, last_command
 from .questions import Questions
 from .records import Head
 from .setting import MOST_NUMBER, begun, checked, journal_of, log_of, options
@@ -78,7 +78,7 @@ def main() -> int:
                 LOG.info(f"{asked.journal}: a new journal, whose request numbers begin at {first}")
         centre = begun(asked, "centre", description.with_first(text, first), journal)
         questions = Questions(asked.signtool, text)
-        operator = CentreDoor(centre, socket, journal, log, asked.tick, asked.wait, questions)
+        operator = CentreFrontEnd(centre, socket, journal, log, asked.tick, asked.wait, questions)
         if operator.is_busy and journal:
             operator.line = last_command(journal.lines())
         is_well = operator.finish([], asked.wait) if operator.is_busy else True

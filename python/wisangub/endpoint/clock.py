@@ -60,7 +60,7 @@ class Moment:
             return Moment(start.split(b" ")[1].decode(), wall, up)
         except ValueError as fault:
             told = f"{start[:80]!r} and {clock[:80]!r}"
-            raise Refusal(f"{told} tell no moment: they were not written by a door") from fault
+            raise Refusal(f"{told} tell no moment: they were not written by a front end") from fault
 
 
 def by_the_wall(last: Moment, now: Moment) -> int:

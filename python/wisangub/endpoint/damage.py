@@ -8,7 +8,7 @@ from typing import Iterator
 from . import older
 from .records import SECTOR, SUM, Extent, Octets, parts_of
 
-MOST_TORN = 1 << 20  # octets of one write at most: more than a door writes in an hour without a sync
+MOST_TORN = 1 << 20  # octets of one write at most: more than a front end writes in an hour without a sync
 _MOST_RECORD = (1 << 16) + 64  # octets of the longest line that is handed over, and of what stands after it
 TAIL = re.compile(rb" #([1-9][0-9]*) ([1-9][0-9]*) ([0-9a-f]{8})")
 _MOST_TAIL = 64

@@ -1,4 +1,4 @@
-"""Files of a door's own: one door a file, mode 0600, and names that outlive a crash."""
+"""Files of a front end's own: one front end a file, mode 0600, and names that outlive a crash."""
 
 import errno
 import fcntl
@@ -47,19 +47,19 @@ def opened_to_read(path: str) -> int:
 
 
 def _lock(file: int, path: str) -> None:
-    """Takes the file for this door alone."""
+    """Takes the file for this front end alone."""
     if not stat.S_ISREG(os.fstat(file).st_mode):
         raise Refusal(f"{path} is no plain file")
     try:
         fcntl.flock(file, fcntl.LOCK_EX | fcntl.LOCK_NB)
     except BlockingIOError:
-        raise Refusal(f"{path}: another door holds this journal") from None
+        raise Refusal(f"{path}: another front end holds this journal") from None
     except OSError as fault:
         raise Refusal(f"{path}: {reason(fault)}") from fault
 
 
 def own(file: int, path: str) -> None:
-    """A file that is known to be a door's is its owner's alone."""
+    """A file that is known to be a front end's is its owner's alone."""
     try:
         if os.fstat(file).st_mode & 0o077:
             os.fchmod(file, MODE)
@@ -68,7 +68,7 @@ def own(file: int, path: str) -> None:
 
 
 def _is_named(file: int, path: str) -> bool:
-    """Whether the name still stands for the open file: another door may have put it aside."""
+    """Whether the name still stands for the open file: another front end may have put it aside."""
     try:
         return os.path.samestat(os.fstat(file), os.stat(path))
     except FileNotFoundError:
@@ -85,7 +85,7 @@ def stands(file: int, path: str, size: int) -> bool:
 
 
 def cut(file: int, size: int, path: str) -> None:
-    """Shortens the file to its whole records; a failure ends the door."""
+    """Shortens the file to its whole records; a failure ends the front end."""
     try:
         os.ftruncate(file, size)
         os.fsync(file)

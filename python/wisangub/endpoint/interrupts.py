@@ -1,4 +1,4 @@
-"""Imported before all else: until a door waits for an interrupt, one ends it at once, and without a traceback."""
+"""Imported before all else: until a front end waits for an interrupt, one ends it at once, and without a traceback."""
 
 import signal
 

@@ -263,7 +263,7 @@ def written(file: int, octets: bytes) -> None:
 
 
 def _sync(file: int, path: str) -> None:
-    """What was written is on the disk; a failure ends the door, since what is there is not known."""
+    """What was written is on the disk; a failure ends the front end, since what is there is not known."""
     try:
         os.fdatasync(file)
     except OSError as fault:

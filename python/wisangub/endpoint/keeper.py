@@ -1,4 +1,4 @@
-"""What a sign's door records, and when: datagrams before they are handed over, seconds and polls after."""
+"""What a sign's front end records, and when: datagrams before they are handed over, seconds and polls after."""
 
 from wisangub.output import LOG
 
@@ -52,7 +52,7 @@ class Keeper:
             self._log_lost()
 
     def _log_lost(self) -> None:
-        """What is lost if the door ends now."""
+        """What is lost if the front end ends now."""
         LOG.info(f"{self.journal.refused}: {self.lost} seconds are not recorded, and will be lost at the next start")
 
     def count(self) -> None:

@@ -1,5 +1,5 @@
-"""The lines that an end of a journal knows: a whole record with another one was written by another hand, or by a door
-of a later form."""
+"""The lines that an end of a journal knows: a whole record with another one was written by another hand, or by a
+front end of a later form."""
 
 import re
 from typing import Callable

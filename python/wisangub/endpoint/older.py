@@ -72,7 +72,7 @@ def is_whole_with_newline(text: Octets, at: int) -> bool:
 
 
 def every_line(text: Octets, size: int) -> Iterator[list[bytes]]:
-    """The lines of all whole records, the door's own too, many at a time."""
+    """The lines of all whole records, the front end's own too, many at a time."""
     at = 0
     while at < size:
         end = text.rfind(b"\n", at, min(at + CHUNK, size)) + 1

@@ -1,4 +1,4 @@
-"""The questions of a centre's door to a sign, which are no part of the centre's conversation."""
+"""The questions of a centre's front end to a sign, which are no part of the centre's conversation."""
 
 from wisangub.process.description import communities_of
 from wisangub.snmp.mib import Mib

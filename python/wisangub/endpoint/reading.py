@@ -46,7 +46,7 @@ def read(path: str, text: Octets, wanted: Head, accepts: bool) -> Found | None:
     if end is End.DAMAGED and (not accepts or head.end == "centre"):
         how = _ABOVE if head.end == "centre" else _ACCEPT
         raise Refusal(
-            f"{path}: damaged at octet {extent.size}: what stands there is no record as a door wrote it ({how})"
+            f"{path}: damaged at octet {extent.size}: what stands there is no record as a front end wrote it ({how})"
         )
     kept, last = _started(text, extent.size)
     number = records.number_at(text, kept) if kept < extent.size and head.form == FORM else extent.number
@@ -63,7 +63,7 @@ def first_of(text: Octets) -> bytes | None:
 
 
 def _is_begun(text: Octets, wanted: Head) -> bool:
-    """Whether a file without a whole record is what a door leaves that was killed at the first one."""
+    """Whether a file without a whole record is what a front end leaves that was killed at the first one."""
     octets = text[:SECTOR].rstrip(b"\0")
     begun = [records.record(replace(wanted, form=FORM).line(), 1, 1), replace(wanted, form=1).line() + b" #"]
     is_like = begun[0].startswith(octets) or begun[1].startswith(octets) or octets.startswith(begun[1])
@@ -76,13 +76,13 @@ def _compared(path: str, first: bytes | None, wanted: Head) -> Head:
     if found is None:
         raise Refusal(f"{path} is no journal: its first record is not whole")
     if found.end != wanted.end:
-        raise Refusal(f"{path}: its end is {found.end}, and this door's {wanted.end}")
+        raise Refusal(f"{path}: its end is {found.end}, and this front end's {wanted.end}")
     for name, has, asked in (
         ("form", found.form, found.form if found.form == 1 else FORM),
         ("rules", found.rules, wanted.rules),
     ):
         if has != asked:
-            raise Refusal(f"{path}: its {name} is {has}, and this door's {asked} ({_ANEW})")
+            raise Refusal(f"{path}: its {name} is {has}, and this front end's {asked} ({_ANEW})")
     if found.digest != wanted.digest:
         raise Refusal(f"{path} is the journal of another description ({_ANEW})")
     return found

@@ -11,7 +11,7 @@ CHUNK = 1 << 20
 SECTOR = 512
 _MOST_DIGITS = 20  # of a number of the first record
 SHORTEST = 15  # octets of the shortest record that is handed over, `tick` of form 1; in form 2 it has 19
-OWN = (b"journal ", b"start ", b"clock ")  # records of the door's own; all others are lines that are handed over
+OWN = (b"journal ", b"start ", b"clock ")  # records of the front end's own; all others are lines that are handed over
 
 
 class Octets(Protocol):

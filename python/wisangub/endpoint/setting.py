@@ -1,5 +1,5 @@
-"""What both doors do on their way: options, a journal of a description, and a co-process that is where the journal left
-it."""
+"""What both front ends do on their way: options, a journal of a description, and a co-process that is where the
+journal left it."""
 
 import argparse
 import dataclasses
@@ -20,7 +20,7 @@ MOST_NUMBER = 2**31 - 1  # of a request
 
 
 def options(about: str | None, command: str) -> argparse.ArgumentParser:
-    """The options that both doors have."""
+    """The options that both front ends have."""
     words = argparse.ArgumentParser(description=about, formatter_class=argparse.RawDescriptionHelpFormatter)
     add_version(words, command)
     words.add_argument("--signtool", default=str(SIGNTOOL), metavar="PATH", help="the program that answers lines")

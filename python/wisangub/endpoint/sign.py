@@ -1,4 +1,4 @@
-"""A sign on a UDP port: a door between a socket and `signtool sign`.
+"""A sign on a UDP port: a front end between a socket and `signtool sign`.
 
     wisangub-sign [--port 1161] [--host 127.0.0.1 | --listen HOST:PORT] [--signtool PATH] [--sign FILE]
         [--journal FILE [--fresh] [--accept-damage] [--need-journal] [--down power|process] [--most-recorded N]]
@@ -31,7 +31,7 @@ from .limit import MOST_RECORDED, Limit
 from .page.start import copy_of, watched
 from .records import Head
 from .setting import MOST_NUMBER, begun, checked, journal_of, log_of, options
-from .sign_door import Heard, SignDoor
+from .sign_front_end import Heard, SignFrontEnd
 from .sockets import Waiting, bound, host_and_port, named
 
 PAGE = 8161  # the port of a page
@@ -75,7 +75,7 @@ def has_power(sign: CoProcess) -> bool:
 def main() -> int:
     asked = _asked_for()
     log, text = log_of(asked), description.read(asked.sign)
-    with bound(asked.host, asked.port) as door:
+    with bound(asked.host, asked.port) as udp_socket:
         journal = journal_of(asked, Head("sign", description.digest(text))) if asked.journal else None
         sign = begun(asked, "sign", text, journal)
         copy, keeper = copy_of(asked, text, journal), Keeper(journal) if journal else None
@@ -84,7 +84,7 @@ def main() -> int:
             lines = keeper.start(Moment.at(up), asked.down, not asked.need_journal, has_power(sign))
         if lines:
             sign.hand(lines)
-        at, waiting = door.getsockname(), Waiting()
+        at, waiting = udp_socket.getsockname(), Waiting()
         if log:
             log.event("start", at, {"down": b", ".join(lines).decode()} if lines else {})
         who, limit = description.communities_of(text), Limit[Heard](asked.most_recorded)
@@ -93,7 +93,7 @@ def main() -> int:
                 print_line(f"a sign at {named(at if ':' in at[0] else (asked.host, at[1]))}")
             if page and not asked.quiet:
                 print_line(f"a page at {page}")
-            served = SignDoor(sign, door, keeper, log, up, asked.lose, asked.quiet, who, limit, watcher)
+            served = SignFrontEnd(sign, udp_socket, keeper, log, up, asked.lose, asked.quiet, who, limit, watcher)
             is_kept = served.serve(waiting, not asked.no_ticks)
     sign.end()
     if log:

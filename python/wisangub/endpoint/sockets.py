@@ -78,14 +78,14 @@ class Strays:
     """What comes to a connected socket's port from elsewhere, which that socket does not take. Of each sender it is
     known once that a reply came from there."""
 
-    def __init__(self, door: socket.socket) -> None:
+    def __init__(self, udp_socket: socket.socket) -> None:
         self._known: set[Address] = set()
-        self.socket = socket.socket(door.family, socket.SOCK_DGRAM)
-        for one in (door, self.socket):  # for this moment alone: nobody else may take the port
+        self.socket = socket.socket(udp_socket.family, socket.SOCK_DGRAM)
+        for one in (udp_socket, self.socket):  # for this moment alone: nobody else may take the port
             one.setsockopt(socket.SOL_SOCKET, socket.SO_REUSEADDR, 1)
         with contextlib.suppress(OSError):  # a system that has no such socket tells of no stray
-            self.socket.bind(door.getsockname())
-        for one in (door, self.socket):
+            self.socket.bind(udp_socket.getsockname())
+        for one in (udp_socket, self.socket):
             one.setsockopt(socket.SOL_SOCKET, socket.SO_REUSEADDR, 0)
 
     def senders(self) -> list[Address]:
@@ -103,12 +103,12 @@ class Strays:
         return found
 
 
-def received(door: socket.socket) -> tuple[bytes, Address] | None:
+def received(udp_socket: socket.socket) -> tuple[bytes, Address] | None:
     """A datagram that waits, with its sender; None where none does. What an earlier datagram met on its way, such as a
     machine that is off, is no datagram."""
     for _ in range(MOST_FAULTS):
         try:
-            return door.recvfrom(MOST_DATAGRAM + 1, socket.MSG_DONTWAIT)
+            return udp_socket.recvfrom(MOST_DATAGRAM + 1, socket.MSG_DONTWAIT)
         except (BlockingIOError, TimeoutError):
             return None
         except OSError:
@@ -116,13 +116,13 @@ def received(door: socket.socket) -> tuple[bytes, Address] | None:
     return None
 
 
-def sent(door: socket.socket, octets: bytes) -> OSError | None:
+def sent(udp_socket: socket.socket, octets: bytes) -> OSError | None:
     """Sends a datagram to the socket's peer: why it is lost, or None. What an earlier datagram met on its way is told
     by the first call after it, and is no fault of this one."""
     fault: OSError | None = None
     for _ in range(2):
         try:
-            door.send(octets)
+            udp_socket.send(octets)
             return None
         except OSError as found:
             fault = found

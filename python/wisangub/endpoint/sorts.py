@@ -1,5 +1,5 @@
-"""What a datagram can do to a sign, by the datagram alone: what a door has to know before it records one. It is read as
-docs/PROFILE.md has it, since one that is taken for none that a sign answers is in no journal."""
+"""What a datagram can do to a sign, by the datagram alone: what a front end has to know before it records one. It is
+read as docs/PROFILE.md has it, since one that is taken for none that a sign answers is in no journal."""
 
 import enum
 

@@ -1,22 +1,23 @@
-"""Who watches a sign's door: nobody, where no page is asked for."""
+"""Who watches a sign's front end: nobody, where no page is asked for."""
 
 from __future__ import annotations
 
 from typing import TYPE_CHECKING
 
 if TYPE_CHECKING:
-    from .sign_door import Heard, SignDoor
+    from .sign_front_end import Heard, SignFrontEnd
 
 
 class Watcher:
-    """Is told by the door what passes there, in the door's thread and in its order, and sees and loses nothing."""
+    """Is told by the front end what passes there, in the front end's thread and in its order, and sees and loses
+    nothing."""
 
     def files(self) -> list[int]:
-        """What wakes the door, as a datagram does."""
+        """What wakes the front end, as a datagram does."""
         return []
 
     def wait(self, now: float) -> float | None:
-        """The seconds until the door has to come by; None where that need not be."""
+        """The seconds until the front end has to come by; None where that need not be."""
         return None
 
     def loses(self) -> bool:
@@ -39,5 +40,5 @@ class Watcher:
     def after_power(self) -> None:
         """The power went or came back."""
 
-    def turn(self, door: SignDoor) -> None:
-        """The door is between two steps."""
+    def turn(self, front_end: SignFrontEnd) -> None:
+        """The front end is between two steps."""

@@ -1,4 +1,4 @@
-"""The description of a sign, as a door hands it to a co-process."""
+"""The description of a sign, as a front end hands it to a co-process."""
 
 import hashlib
 import re

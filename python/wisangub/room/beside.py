@@ -22,7 +22,7 @@ _PATIENCE = 30.0  # seconds in which the other process ends
 class Other:
     """The process that began this one."""
 
-    door: socket.socket
+    connection: socket.socket
 
     @staticmethod
     def of(file: int) -> "Other":
@@ -33,13 +33,13 @@ class Other:
 
     def _watch(self) -> None:
         with contextlib.suppress(OSError):
-            self.door.recv(1)
+            self.connection.recv(1)
         os._exit(1)
 
     def stands(self) -> None:
         """Tells the other one that this one does what it is for."""
         with contextlib.suppress(OSError):
-            self.door.send(_STANDS)
+            self.connection.send(_STANDS)
 
 
 @dataclass
@@ -47,15 +47,15 @@ class Begun:
     """A process that this one began."""
 
     process: subprocess.Popen[bytes]
-    door: socket.socket
+    connection: socket.socket
     is_lost: bool = False  # it ended before it was told to
 
     def is_standing(self, waiting: Waiting) -> bool:
         """Waits until it stands: False where it ended before, or this one was stopped. Where it ends later, this one is
         stopped as by a SIGTERM."""
         while not waiting.is_stopped:
-            if waiting.until([self.door.fileno()], None):
-                if self.door.recv(1) != _STANDS:
+            if waiting.until([self.connection.fileno()], None):
+                if self.connection.recv(1) != _STANDS:
                     break
                 threading.Thread(target=self._watch, args=(waiting,), name="beside", daemon=True).start()
                 return True
@@ -82,7 +82,7 @@ class Begun:
         except subprocess.TimeoutExpired:
             self.process.kill()
             self.process.wait()
-        self.door.close()
+        self.connection.close()
 
 
 @contextlib.contextmanager

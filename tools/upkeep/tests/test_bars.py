@@ -95,13 +95,13 @@ def test_what_crates_owe(made: MakesTree) -> None:
     assert crates.unsaid(tree) == ["crates/two/src/lib.rt: nothing uses, names or documents unsaid"]
 
 
-def test_doors(made: MakesTree) -> None:
+def test_paths(made: MakesTree) -> None:
     modules = "pub mod meant;\npub mod kept;\npub mod open;\nmod shut;\n"
     page = f"{modules}\npub use kept::A;\npub use open::{{B, C}};\npub use shut::D;\n"
     tree = made(
         crates_txt="one:\n", crates__one__src__lib_rt=page, docs__DECISIONS_md="Two paths lead to `one::kept`.\n"
     )
-    assert crates.doors(tree) == [
+    assert crates.paths(tree) == [
         "crates/one/src/lib.rt: two paths lead to the names of open, and docs/DECISIONS.md does not say why"
     ]
 

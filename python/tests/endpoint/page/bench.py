@@ -1,4 +1,4 @@
-"""A sign's door with its page, as it is run, for tests that ask both: over the program, or the model where none is
+"""A sign's front end with its page, as it is run, for tests that ask both: over the program, or the model where none is
 built."""
 
 import contextlib
@@ -38,7 +38,7 @@ def until(is_so: Callable[[], object], what: str) -> None:
 
 @dataclass
 class Bench:
-    """The door's process, its two ports, and a manager's socket."""
+    """The front end's process, its two ports, and a manager's socket."""
 
     process: subprocess.Popen[bytes]
     port: int
@@ -149,7 +149,7 @@ class Bench:
 
 @contextlib.contextmanager
 def bench(*words: str, program: str = PROGRAM, ticks: bool = False) -> Iterator[Bench]:
-    """A door; no second passes but by a button, where nothing else is said."""
+    """A front end; no second passes but by a button, where nothing else is said."""
     call = [sys.executable, "-m", "wisangub.endpoint.sign", "--sign", SIGN, "--port", "0", "--page", "0"]
     call += ["--signtool", program, *([] if ticks else ["--no-ticks"]), *words]
     process = subprocess.Popen(call, cwd=TOP, env=environment(), stdout=subprocess.PIPE, stdin=subprocess.DEVNULL)
@@ -159,7 +159,7 @@ def bench(*words: str, program: str = PROGRAM, ticks: bool = False) -> Iterator[
         with socket.socket(socket.AF_INET, socket.SOCK_DGRAM) as manager:
             yield Bench(process, ports[0], ports[1], manager)
         process.terminate()
-        assert process.wait(PATIENCE) == 0, "the door ends in order"
+        assert process.wait(PATIENCE) == 0, "the front end ends in order"
     finally:
         process.kill()
         process.wait()

@@ -6,7 +6,7 @@ import xml.etree.ElementTree
 import pytest
 
 from wisangub.endpoint.page.lamps import SHADES, Lamps, by_lines, pages_of, with_defaults
-from wisangub.endpoint.sign_door import line_of
+from wisangub.endpoint.sign_front_end import line_of
 from wisangub.process import description
 from wisangub.process.coprocess import CoProcess
 from wisangub.process.places import SIGNTOOL, TOP

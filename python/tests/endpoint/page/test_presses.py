@@ -83,7 +83,7 @@ def test_of_a_lost_reply_the_sign_has_done_its_part(tmp_path: pathlib.Path) -> N
         assert one.get(SHORT) == 5
 
 
-def test_a_sign_whose_door_ended_while_its_power_was_off_has_it_again(tmp_path: pathlib.Path) -> None:
+def test_a_sign_whose_front_end_ended_while_its_power_was_off_has_it_again(tmp_path: pathlib.Path) -> None:
     journal = tmp_path / "journal"
     with bench("--journal", str(journal)) as one:
         assert one.press("power-lost") == 200

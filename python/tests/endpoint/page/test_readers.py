@@ -17,7 +17,7 @@ WIDTH = scalar("vmsSignWidthPixels")
 
 
 def processor(one: Bench) -> float:
-    """Seconds of a processor that all threads of the door have had, those that are over left out."""
+    """Seconds of a processor that all threads of the front end have had, those that are over left out."""
     tasks = pathlib.Path(f"/proc/{one.process.pid}/task").iterdir()
     return sum(int((task / "schedstat").read_text(encoding="ascii").split()[0]) for task in tasks) / 1e9
 

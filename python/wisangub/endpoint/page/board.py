@@ -1,4 +1,4 @@
-"""What the page shows, gathered in the door's thread; a page's threads read it whole, as it was last put there."""
+"""What the page shows, gathered in the front end's thread; a page's threads read it whole, as it was last put there."""
 
 import time
 from dataclasses import dataclass, replace
@@ -13,7 +13,7 @@ from .presses import Presses
 from .readings import Asker, Reading
 
 if TYPE_CHECKING:
-    from wisangub.endpoint.sign_door import Communities, Heard, SignDoor
+    from wisangub.endpoint.sign_front_end import Communities, Heard, SignFrontEnd
 
 LOOK = 0.2  # seconds from one look at the sign to the next
 POWER_LOSS = 13  # of dmsMsgSourceMode: a sign has it as long as its power is off, and never else
@@ -81,7 +81,7 @@ class Board(Watcher):
         self.view = View(shown, lamps, reading, time.time(), False, shown if reading else None, defaults)
         self.look()
 
-    # --- what the door asks and tells ---------------------------------------------------------------------------------
+    # --- what the front end asks and tells ----------------------------------------------------------------------------
 
     def files(self) -> list[int]:
         return [self.presses.file]
@@ -120,8 +120,8 @@ class Board(Watcher):
     def after_power(self) -> None:
         self.look()
 
-    def turn(self, door: "SignDoor") -> None:
-        pressed = self.presses.done_by(door)
+    def turn(self, front_end: "SignFrontEnd") -> None:
+        pressed = self.presses.done_by(front_end)
         if pressed or self.wait(running()) == 0.0:
             self.look()
         for one in pressed:

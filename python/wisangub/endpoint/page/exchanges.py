@@ -1,10 +1,10 @@
-"""The last datagrams at the sign's door with their replies, and what is said of them."""
+"""The last datagrams at the sign's front end with their replies, and what is said of them."""
 
 import collections
 import threading
 from typing import NamedTuple
 
-from wisangub.endpoint.sign_door import Heard
+from wisangub.endpoint.sign_front_end import Heard
 from wisangub.endpoint.sockets import named
 from wisangub.snmp.datagrams import fields_of
 from wisangub.snmp.mib import Mib
@@ -24,7 +24,7 @@ class Exchange(NamedTuple):
 
 
 class Exchanges:
-    """The last fifty. The door adds them, and a page's thread has them said; what was said is kept as long as they
+    """The last fifty. The front end adds them, and a page's thread has them said; what was said is kept as long as they
     are."""
 
     def __init__(self, reader: bytes, writer: bytes) -> None:
@@ -35,7 +35,7 @@ class Exchanges:
         self.lock, self.said = threading.Lock(), dict[int, Said]()
 
     def add(self, time: float, heard: Heard, reply: bytes, fate: str) -> None:
-        """One more, in the door's thread."""
+        """One more, in the front end's thread."""
         self.count += 1
         self.held.append(Exchange(self.count, time, heard, reply, fate))
 
@@ -47,7 +47,7 @@ class Exchanges:
             return [self.said[one.number] for one in reversed(held)]
 
     def snapshot(self) -> list[Exchange]:
-        """Those that are there now, though the door adds more meanwhile."""
+        """Those that are there now, though the front end adds more meanwhile."""
         while True:
             try:
                 return list(self.held)

@@ -8,7 +8,7 @@ record in a journal.
 from collections.abc import Iterator, Sequence
 from dataclasses import dataclass
 
-from wisangub.endpoint.sign_door import line_of
+from wisangub.endpoint.sign_front_end import line_of
 from wisangub.process.coprocess import CoProcess
 from wisangub.snmp import wire
 from wisangub.snmp.names import DMS, Memory, Name, RowStatus, cell, scalar

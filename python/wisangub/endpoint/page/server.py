@@ -1,5 +1,5 @@
 """The page over HTTP, on loopback: a thread a request, of which a few are there at once. None of them touches the sign:
-they read what the door's thread left for them, and hand it presses."""
+they read what the front end's thread left for them, and hand it presses."""
 
 import http.server
 import pathlib

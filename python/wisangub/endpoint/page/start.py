@@ -1,4 +1,4 @@
-"""The page of a sign's door, for as long as the door is there."""
+"""The page of a sign's front end, for as long as the front end is there."""
 
 import argparse
 import contextlib
@@ -26,8 +26,8 @@ def copy_of(asked: argparse.Namespace, text: bytes | None, journal: Journal | No
 def watched(
     asked: argparse.Namespace, text: bytes | None, sign: CoProcess, copy: CoProcess | None, lines: list[bytes]
 ) -> Iterator[tuple[Watcher, str]]:
-    """Who watches the door, and where a browser finds the page: nobody and nowhere, where none is asked for. `lines`
-    told the sign what the time without a process was."""
+    """Who watches the front end, and where a browser finds the page: nobody and nowhere, where none is asked for.
+    `lines` told the sign what the time without a process was."""
     if asked.page is None:
         yield Watcher(), ""
         return

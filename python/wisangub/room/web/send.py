@@ -25,8 +25,8 @@ _NOWHERE = "0.0.0.0"
 def _own_address(sign: Sign) -> str:
     """This machine's address towards a sign, as an activation names it; 0.0.0.0 where it is of IPv6."""
     try:
-        with connected(sign.host, sign.port) as door:
-            return str(door.getsockname()[0]) if door.family == socket.AF_INET else _NOWHERE
+        with connected(sign.host, sign.port) as udp_socket:
+            return str(udp_socket.getsockname()[0]) if udp_socket.family == socket.AF_INET else _NOWHERE
     except (Refusal, OSError):
         return _NOWHERE
 

@@ -19,17 +19,17 @@ class Get:
     def __init__(self, sign: Sign, number: int, asked: list[Name], end: Callable[[Values | str], None]) -> None:
         self.sign, self.number, self.asked, self.end = sign, number, asked, end
         self.octets = wire.get(sign.reader, number, asked)
-        self.door: socket.socket = connected(sign.host, sign.port)
+        self.udp_socket: socket.socket = connected(sign.host, sign.port)
         self.sends, self.due = 0, 0.0
 
     def send(self, now: float) -> None:
         """The same octets each time; one that is lost is sent again later."""
         self.sends, self.due = self.sends + 1, now + _PATIENCE
-        sent(self.door, self.octets)
+        sent(self.udp_socket, self.octets)
 
     def heard(self) -> Values | str | None:
         """What the Response says, where one waits."""
-        while (heard := received(self.door)) is not None:
+        while (heard := received(self.udp_socket)) is not None:
             found = said(heard[0], self.sign.reader, self.number, self.asked)
             if found is not None:
                 return found
@@ -50,7 +50,7 @@ class Gets:
             end(reason(fault) if isinstance(fault, OSError) else str(fault))
             return
         get.send(time.monotonic())
-        self.waiting[get.door.fileno()] = get
+        self.waiting[get.udp_socket.fileno()] = get
 
     def heard(self, file: int) -> None:
         """Takes the Response, where what waits is one."""
@@ -72,11 +72,11 @@ class Gets:
     def end(self, file: int, found: Values | str) -> None:
         """Lets a Get go, and tells what came of it."""
         get = self.waiting.pop(file)
-        get.door.close()
+        get.udp_socket.close()
         get.end(found)
 
     def close(self) -> None:
         """Lets all go."""
         for get in self.waiting.values():
-            get.door.close()
+            get.udp_socket.close()
         self.waiting.clear()

@@ -118,15 +118,17 @@ class Worker:
     def wait(self) -> None:
         """Until something is due or heard."""
         now = time.monotonic()
-        doors = [
-            session.door.fileno() for session in self.sessions.values() if session.is_busy and session.ready_at <= now
+        udp_sockets = [
+            session.udp_socket.fileno()
+            for session in self.sessions.values()
+            if session.is_busy and session.ready_at <= now
         ]
         due = [self.next_look, self.next_renewal]
         for sign_id, session in self.sessions.items():
             if session.ready_at > now or not session.is_busy:
                 due.append(session.ready_at)
             due.append(max(self.ticks[sign_id], session.ready_at))
-        for file in self.waiting.until([*doors, *self.gets.waiting], max(0.0, min(due) - now)):
+        for file in self.waiting.until([*udp_sockets, *self.gets.waiting], max(0.0, min(due) - now)):
             if file in self.gets.waiting:
                 self.gets.heard(file)
 

@@ -4,7 +4,7 @@ import dataclasses
 import socket
 import time
 
-from wisangub.endpoint.centre_door import COMMANDS
+from wisangub.endpoint.centre_front_end import COMMANDS
 from wisangub.endpoint.commands import MOST_LINE
 from wisangub.endpoint.endings import is_in_error
 from wisangub.endpoint.records import Head
@@ -61,7 +61,7 @@ class Session:
         self.number, self.count = begun_at + 1 + len(lines), len(lines)
         self.process = self.started()
         try:
-            self.door = connected(sign.host, sign.port)
+            self.udp_socket = connected(sign.host, sign.port)
             self.go_on(lines)
         except BaseException:
             self.close()
@@ -125,7 +125,7 @@ class Session:
         that is slow takes no reply for a silence."""
         if not self.is_busy:
             return self._beginning()
-        heard = received(self.door) if self.is_ticked or not is_due else None
+        heard = received(self.udp_socket) if self.is_ticked or not is_due else None
         self.is_ticked = heard is None and is_due
         if heard is not None:
             return Line(self.sign_id, self.number, b"datagram " + (heard[0].hex().encode() or b"-"))
@@ -143,7 +143,7 @@ class Session:
             head = dataclasses.replace(self.head, first=above(self.head, self.count))
             return Line(self.sign_id, self.number, head.line(), is_first=True)
         for _ in range(_MOST_LATE):  # what comes while no job is under way answers nothing
-            if received(self.door) is None:
+            if received(self.udp_socket) is None:
                 break
         self.command = command
         return Line(self.sign_id, self.number, command.line.encode(), command.id)
@@ -198,13 +198,13 @@ class Session:
     def send(self) -> None:
         """What goes out for the last line, to the sign."""
         octets, self.out = self.out, None
-        fault = None if octets is None else sent(self.door, octets)
+        fault = None if octets is None else sent(self.udp_socket, octets)
         if fault is not None:
             LOG.warning(f"{self.sign.name}: a request is lost: {reason(fault)}")
 
     def close(self) -> None:
         """Ends the co-process. The lines stay."""
         self.process.end()
-        door: socket.socket | None = getattr(self, "door", None)
-        if door is not None:
-            door.close()
+        udp_socket: socket.socket | None = getattr(self, "front end", None)
+        if udp_socket is not None:
+            udp_socket.close()

@@ -47,7 +47,7 @@ class Stopped(Exception):
     """It is time to tell what was seen."""
 
 
-def serve(door: socket.socket, sign: Answering, clock: Clock, watch: Watch, seconds: float | None) -> None:
+def serve(udp_socket: socket.socket, sign: Answering, clock: Clock, watch: Watch, seconds: float | None) -> None:
     """Answers until it is stopped or so many seconds are over; the sign ticks also under many datagrams."""
     begun = clock.now()
     due = begun + 1
@@ -57,9 +57,9 @@ def serve(door: socket.socket, sign: Answering, clock: Clock, watch: Watch, seco
             sign.tick()
             watch.ticked()
             due += 1
-        elif select.select([door], [], [], left)[0]:
+        elif select.select([udp_socket], [], [], left)[0]:
             try:
-                octets, sender = door.recvfrom(_MOST_RECEIVED)
+                octets, sender = udp_socket.recvfrom(_MOST_RECEIVED)
             except ConnectionRefusedError:  # of a reply that nobody waits for
                 continue
             for row in watch.rows_asked(octets):
@@ -67,7 +67,7 @@ def serve(door: socket.socket, sign: Answering, clock: Clock, watch: Watch, seco
             reply = sign.datagram(octets)
             watch.heard(clock.now() - begun, octets, reply)
             if reply is not None:
-                door.sendto(reply, sender)
+                udp_socket.sendto(reply, sender)
 
 
 def _owner(sign: Answering, reader: bytes, row: Row) -> bytes:
@@ -138,10 +138,10 @@ def main() -> int:
         signal.signal(number, stop)
     family = socket.AF_INET6 if ":" in asked.host else socket.AF_INET
     try:
-        with socket.socket(family, socket.SOCK_DGRAM) as door:
-            door.bind((asked.host, asked.port))
-            print(f"a sign that watches at {asked.host}:{door.getsockname()[1]}", flush=True)
-            serve(door, sign, RealClock(), watch, asked.seconds)
+        with socket.socket(family, socket.SOCK_DGRAM) as udp_socket:
+            udp_socket.bind((asked.host, asked.port))
+            print(f"a sign that watches at {asked.host}:{udp_socket.getsockname()[1]}", flush=True)
+            serve(udp_socket, sign, RealClock(), watch, asked.seconds)
     except Stopped:
         pass
     except OSError as fault:

@@ -26,31 +26,33 @@ def _cases(path: pathlib.Path) -> list[dict[str, Any]]:
     return [json.loads(line) for line in path.read_text(encoding="ascii").splitlines()]
 
 
-def _asked(door: socket.socket, to: tuple[str, int], request: str) -> str | None:
+def _asked(udp_socket: socket.socket, to: tuple[str, int], request: str) -> str | None:
     """The reply to a request, in hexadecimal digits; None where none comes. Of what comes from elsewhere, which is not
     taken, the first is said; it gives the sign no more time."""
-    door.sendto(bytes.fromhex(request), to)
+    udp_socket.sendto(bytes.fromhex(request), to)
     begun, told = time.monotonic(), False
     try:
         while True:
-            octets, sender = door.recvfrom(65535)
+            octets, sender = udp_socket.recvfrom(65535)
             if sender == to:
                 return octets.hex()
             if not told:
                 where = f"{sender[0]}:{sender[1]}"
                 print(f"a reply came from {where}; is the sign behind an address translation?", file=sys.stderr)
                 told = True
-            if time.monotonic() - begun > (door.gettimeout() or 0):
+            if time.monotonic() - begun > (udp_socket.gettimeout() or 0):
                 return None
     except (TimeoutError, ConnectionRefusedError):
         return None
 
 
-def _compare(door: socket.socket, to: tuple[str, int], wanted: list[dict[str, Any]]) -> tuple[list[junit.Case], bool]:
+def _compare(
+    udp_socket: socket.socket, to: tuple[str, int], wanted: list[dict[str, Any]]
+) -> tuple[list[junit.Case], bool]:
     """What came of each request; the last is whether the sign is silent, so that the rest was not asked."""
     tried, silent = [], 0
     for case in wanted:
-        reply = _asked(door, to, case["request"])
+        reply = _asked(udp_socket, to, case["request"])
         fault = "" if reply == case["reply"] else f"replied {reply}, wanted {case['reply']}"
         tried.append(junit.Case("requests", case["name"], fault))
         if fault:
@@ -78,9 +80,9 @@ def main() -> int:
         parser.error(f"--to wants HOST:PORT, not {options.to}")
     every = _cases(TOP / "vectors/requests.jsonl")
     wanted = [case for case in every if not case["changes"]]
-    with socket.socket(socket.AF_INET, socket.SOCK_DGRAM) as door:
-        door.settimeout(options.wait)
-        tried, is_silent = _compare(door, (socket.gethostbyname(host), int(port)), wanted)
+    with socket.socket(socket.AF_INET, socket.SOCK_DGRAM) as udp_socket:
+        udp_socket.settimeout(options.wait)
+        tried, is_silent = _compare(udp_socket, (socket.gethostbyname(host), int(port)), wanted)
     if options.junit:
         junit.write(options.junit, "vectors", tried)
     if is_silent:

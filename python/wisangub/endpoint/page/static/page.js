@@ -1,5 +1,5 @@
 "use strict";
-// Shows what the sign's door says as it changes, and presses buttons. Nothing is written as markup: all words are text.
+// Shows what the sign's front end says as it changes, and presses buttons. Nothing is written as markup: all words are text.
 
 const at = (id) => document.getElementById(id);
 const token = document.querySelector("meta[name=token]").content;

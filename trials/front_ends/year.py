@@ -21,7 +21,7 @@ _BATCH = 20_000  # lines that are made at once
 
 
 def _minute(at: int, now: Moment) -> Iterator[bytes]:
-    """What a door records in a minute: ten Gets each ten seconds, a SET, each second, the clock."""
+    """What a front end records in a minute: ten Gets each ten seconds, a SET, each second, the clock."""
     for poll in range(6):
         if poll == 3:
             bindings = [(DMS + (6, 10, 0), (wire.INTEGER, at % 65_536))]
@@ -71,19 +71,21 @@ def write(head: Head, path: pathlib.Path, lines: Iterator[bytes]) -> int:
 def start(trial: Trial, name: str, path: pathlib.Path, count: int, counter: int) -> tuple[float, float]:
     """The seconds that a start over a journal takes by the clock, and of processors."""
     begun = time.monotonic()
-    door = trial.door("wisangub-sign", "--port", "0", "--journal", str(path), "--down", "process", "--no-ticks")
-    while not door.port and door.process.poll() is None and time.monotonic() < begun + 600:
-        door.wait_for_port()
-    seconds, processor = time.monotonic() - begun, door.processor_time()
+    front_end = trial.front_end(
+        "wisangub-sign", "--port", "0", "--journal", str(path), "--down", "process", "--no-ticks"
+    )
+    while not front_end.port and front_end.process.poll() is None and time.monotonic() < begun + 600:
+        front_end.wait_for_port()
+    seconds, processor = time.monotonic() - begun, front_end.processor_time()
     size = path.stat().st_size
-    if trial.holds(f"{name}: a door starts", door.port != 0, door.errors.decode()):
-        manager = Manager(door.port)
+    if trial.holds(f"{name}: a front end starts", front_end.port != 0, front_end.errors.decode()):
+        manager = Manager(front_end.port)
         found = manager.get([DMS + (6, 10, 0)])
         trial.holds(
             f"{name}: it is where the journal ends", bool(found) and found[0][1] == (wire.INTEGER, counter), found
         )
         manager.close()
-    trial.holds(f"{name}: and ends", door.stop() == 0, door.errors.decode())
+    trial.holds(f"{name}: and ends", front_end.stop() == 0, front_end.errors.decode())
     print(
         f"{name}: {count} lines, {size / 1e6:.1f} MB, a start in {seconds:.1f} s by the clock and {processor:.1f} s of "
         f"processors, at most {resource.getrusage(resource.RUSAGE_CHILDREN).ru_maxrss // 1024} MiB, load "

@@ -1,4 +1,4 @@
-"""The tests of the doors' parts, which pytest runs too, and alone those that it hands something."""
+"""The tests of the front ends' parts, which pytest runs too, and alone those that it hands something."""
 
 import contextlib
 import importlib

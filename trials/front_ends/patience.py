@@ -6,14 +6,14 @@ import signal
 import time
 from typing import Any, Iterator
 
-TIMES = 60  # of what a door's start takes: after so long a wait is given up
+TIMES = 60  # of what a front end's start takes: after so long a wait is given up
 LEAST, _MOST = 30.0, 600.0  # seconds
 RINGS_AGAIN = 5.0  # seconds, should what is ended go on waiting
 
 
 class Pace:
-    """What the last starts of a door took on this machine, so that one that is busy has longer for all that is waited
-    for, and what hangs is seen soon on one that is not."""
+    """What the last starts of a front end took on this machine, so that one that is busy has longer for all that is
+    waited for, and what hangs is seen soon on one that is not."""
 
     def __init__(self) -> None:
         self.starts: collections.deque[float] = collections.deque(maxlen=20)

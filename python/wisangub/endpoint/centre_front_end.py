@@ -31,25 +31,25 @@ def last_command(chunks: Iterable[list[bytes]]) -> str:
     return found.decode("latin-1")
 
 
-class CentreDoor:
+class CentreFrontEnd:
     """`tick` is the time from tick to tick, `wait` how long a command may take, in seconds. `questions` are those to a
     sign that found a row in error."""
 
     def __init__(
         self,
         centre: CoProcess,
-        door: socket.socket,
+        udp_socket: socket.socket,
         journal: Journal | None,
         log: Log | None,
         tick: float,
         wait: float,
         questions: Questions | None = None,
     ) -> None:
-        self.centre, self.door, self.journal, self.log = centre, door, journal, log
+        self.centre, self.udp_socket, self.journal, self.log = centre, udp_socket, journal, log
         self.every, self.wait, self.mib = tick, wait, Mib.read()
-        self.to: Address = door.getpeername()
+        self.to: Address = udp_socket.getpeername()
         self.waiting, self.questions = Waiting(), questions
-        self.strays = Strays(door)
+        self.strays = Strays(udp_socket)
         self.line, self.heard = "", b""  # the last command, and the last datagram that was handed over
         self.is_busy = self.has_job()
 
@@ -75,7 +75,7 @@ class CentreDoor:
 
     def send(self, octets: bytes) -> None:
         """Sends a datagram."""
-        fault = sent(self.door, octets)
+        fault = sent(self.udp_socket, octets)
         if fault is not None:
             LOG.info(f"a request is lost: {reason(fault)}")
         if self.log:
@@ -100,9 +100,9 @@ class CentreDoor:
         if now >= due:
             self.hand(b"tick")
             return due + self.every
-        self.waiting.until([self.door.fileno(), self.strays.socket.fileno()], min(due, ends) - now)
+        self.waiting.until([self.udp_socket.fileno(), self.strays.socket.fileno()], min(due, ends) - now)
         self.log_strays()
-        heard = received(self.door)
+        heard = received(self.udp_socket)
         if heard is not None:
             if self.log:
                 self.log.datagram("in", self.to, heard[0])
@@ -183,7 +183,7 @@ class CentreDoor:
     def late(self) -> None:
         """What comes while no job is under way answers nothing, and is let go."""
         for _ in range(_MOST_LATE):
-            heard = received(self.door)
+            heard = received(self.udp_socket)
             if heard is None:
                 break
             if self.log:

@@ -43,9 +43,9 @@ def _life(trial: Trial, name: str, last: Moment, wanted: list[bytes], *words: st
     path, begun = trial.new_folder() / "journal", time.monotonic()
     path.write_bytes(records.records(lines(trial.head(form=records.FORM), last)))
     before = len(lines_of(path.read_bytes()))
-    door = trial.sign("--journal", str(path), "--no-ticks", *words)
+    front_end = trial.sign("--journal", str(path), "--no-ticks", *words)
     took = int(time.monotonic() - begun) + 2
-    if trial.holds(f"{name}: a door starts", door.port != 0, door.errors.decode()):
+    if trial.holds(f"{name}: a front end starts", front_end.port != 0, front_end.errors.decode()):
         new = [line for line in lines_of(path.read_bytes())[before:] if not line.startswith(records.OWN)]
         trial.holds(
             f"{name}: it records what the time was",
@@ -55,10 +55,10 @@ def _life(trial: Trial, name: str, last: Moment, wanted: list[bytes], *words: st
         follower = Follower(path)
         for line in lines_of(path.read_bytes()):
             follower.take(line)
-        manager = Manager(door.port)
+        manager = Manager(front_end.port)
         follower.compare(trial, name, manager)
         manager.close()
-    trial.holds(f"{name}: and ends", door.stop() == 0, door.errors.decode())
+    trial.holds(f"{name}: and ends", front_end.stop() == 0, front_end.errors.decode())
 
 
 def _of_a_centre(trial: Trial) -> None:
@@ -67,11 +67,11 @@ def _of_a_centre(trial: Trial) -> None:
     octets = records.records([Head("centre", "bench", 1, 2).line(), b"blank 5 65535 255 127.0.0.1", b"tick"])
     path.write_bytes(octets)
     os.utime(path, (time.time() - 3600, time.time() - 3600))
-    door = trial.door(
+    front_end = trial.front_end(
         "wisangub-centre", "--to", "127.0.0.1:9", "--journal", str(path), "--tick", "900", "--wait", "0.1"
     )
-    is_well = door.ended() == 1 and b"given up" in door.output and b"Traceback" not in door.errors
-    trial.holds("a centre goes on with its job after an hour", is_well, (door.output, door.errors))
+    is_well = front_end.ended() == 1 and b"given up" in front_end.output and b"Traceback" not in front_end.errors
+    trial.holds("a centre goes on with its job after an hour", is_well, (front_end.output, front_end.errors))
     trial.holds("and nothing is recorded of the hour", path.read_bytes() == octets, path.read_bytes())
 
 
@@ -85,7 +85,7 @@ def _is_near(found: bytes, wanted: bytes, more: int) -> bool:
 
 
 def run(trial: Trial) -> None:
-    """Each row is how long ago the last record was, in which boot, and what a door makes of the time since."""
+    """Each row is how long ago the last record was, in which boot, and what a front end makes of the time since."""
     rows: list[tuple[str, bool, int, list[bytes], list[str]]] = [
         ("the process died for 40 seconds", True, 40, [b"ticks 40"], []),
         ("the process died for a week", True, 7 * 86_400, [b"ticks 86400"], []),

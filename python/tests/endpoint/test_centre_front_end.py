@@ -1,4 +1,4 @@
-"""A centre's door: what it asks its co-process for, and a sign that found a row in error."""
+"""A centre's front end: what it asks its co-process for, and a sign that found a row in error."""
 
 import pathlib
 import socket
@@ -9,7 +9,7 @@ import pytest
 
 from model import text, wire
 from model.sign import Sign as ModelSign
-from wisangub.endpoint.centre_door import CentreDoor, last_command
+from wisangub.endpoint.centre_front_end import CentreFrontEnd, last_command
 from wisangub.endpoint.journal import Journal
 from wisangub.endpoint.questions import Questions
 from wisangub.endpoint.records import Head
@@ -37,31 +37,31 @@ def silent() -> Iterator[socket.socket]:
     """A sign that says nothing, and the socket to it."""
     with socket.socket(socket.AF_INET, socket.SOCK_DGRAM) as sign, socket.socket(
         socket.AF_INET, socket.SOCK_DGRAM
-    ) as door:
+    ) as front_end:
         sign.bind(("127.0.0.1", 0))
-        door.connect(sign.getsockname())
-        yield door
+        front_end.connect(sign.getsockname())
+        yield front_end
 
 
 def test_whether_a_job_is_under_way_is_asked_without_the_ledger(silent: socket.socket) -> None:
     centre = Listened()
-    door = CentreDoor(centre, silent, None, None, 1.0, 1.0)
-    assert not door.is_busy
-    assert door.hand(BLANK).startswith(b"send ") and door.is_busy
-    assert door.hand(b"tick") == b"ok" and door.is_busy
-    assert door.hand(b"restart") == b"ok" and not door.is_busy
+    front_end = CentreFrontEnd(centre, silent, None, None, 1.0, 1.0)
+    assert not front_end.is_busy
+    assert front_end.hand(BLANK).startswith(b"send ") and front_end.is_busy
+    assert front_end.hand(b"tick") == b"ok" and front_end.is_busy
+    assert front_end.hand(b"restart") == b"ok" and not front_end.is_busy
     assert centre.asked == [b"status last"] * 3
     centre.end()
 
 
 def test_an_operator_has_the_ledger(silent: socket.socket, capfd: pytest.CaptureFixture[str]) -> None:
     centre = Listened()
-    door = CentreDoor(centre, silent, None, None, 1.0, 1.0)
-    door.hand(BLANK)
-    door.hand(b"restart")
-    assert door.carry_out("status") and centre.asked[-1] == b"status"
+    front_end = CentreFrontEnd(centre, silent, None, None, 1.0, 1.0)
+    front_end.hand(BLANK)
+    front_end.hand(b"restart")
+    assert front_end.carry_out("status") and centre.asked[-1] == b"status"
     assert capfd.readouterr().out.splitlines()[-1] == "ledger 1 ffffff07000100007f000001 unknown"
-    assert not door.finish([], 1.0) and centre.asked[-1] == b"status"
+    assert not front_end.finish([], 1.0) and centre.asked[-1] == b"status"
     assert capfd.readouterr().out.splitlines()[-1] == "ledger 1 ffffff07000100007f000001 unknown"
     centre.end()
 
@@ -70,14 +70,14 @@ def test_a_reply_from_elsewhere_is_not_taken_and_told_once(
     silent: socket.socket, capfd: pytest.CaptureFixture[str]
 ) -> None:
     centre = Listened()
-    door = CentreDoor(centre, silent, None, None, 30.0, 1.0)
-    reply = wire.read(bytes.fromhex(door.hand(BLANK)[5:].decode()))
+    front_end = CentreFrontEnd(centre, silent, None, None, 30.0, 1.0)
+    reply = wire.read(bytes.fromhex(front_end.hand(BLANK)[5:].decode()))
     reply.kind = wire.RESPONSE
     with socket.socket(socket.AF_INET, socket.SOCK_DGRAM) as other:
         other.bind(("127.0.0.1", 0))
         for octets in (b"", b"no message", *[wire.written(reply)] * 3):
             other.sendto(octets, silent.getsockname())
-        assert not door.carry_on(0.5) and door.is_busy and door.heard == b""
+        assert not front_end.carry_on(0.5) and front_end.is_busy and front_end.heard == b""
         said, port = capfd.readouterr().err, other.getsockname()[1]
     assert said.count("a reply came from ") == 1 and f"from 127.0.0.1:{port}, and not from 127.0.0.1:" in said
     with socket.socket(socket.AF_INET, socket.SOCK_DGRAM) as other:
@@ -133,16 +133,16 @@ def other_number(reply: bytes) -> bytes:
     return wire.written(message)
 
 
-def published(sign: Sign, line: str, journal: Journal | None = None) -> CentreDoor:
-    """A door that carried a command out."""
+def published(sign: Sign, line: str, journal: Journal | None = None) -> CentreFrontEnd:
+    """A front end that carried a command out."""
     centre = CoProcess(MODEL, ["centre"])
     centre.begin(b"status last", "the model")
     if journal:
         centre.replay(journal.lines())
-    door = socket.socket(socket.AF_INET, socket.SOCK_DGRAM)
-    door.connect(sign.socket.getsockname())
-    made = CentreDoor(centre, door, journal, None, 0.3, 30.0, Questions("/bin/false", None))
-    with door:
+    front_end = socket.socket(socket.AF_INET, socket.SOCK_DGRAM)
+    front_end.connect(sign.socket.getsockname())
+    made = CentreFrontEnd(centre, front_end, journal, None, 0.3, 30.0, Questions("/bin/false", None))
+    with front_end:
         made.carry_out(line)
     centre.end()
     return made
@@ -205,7 +205,9 @@ def test_the_question_is_no_record_and_its_number_is_used_once(
     assert capfd.readouterr().err.count("the sign found fault 5 at octet 4") == 3
 
 
-def test_a_door_that_finds_a_job_not_done_asks_too(tmp_path: pathlib.Path, capfd: pytest.CaptureFixture[str]) -> None:
+def test_a_front_end_that_finds_a_job_not_done_asks_too(
+    tmp_path: pathlib.Path, capfd: pytest.CaptureFixture[str]
+) -> None:
     path = str(tmp_path / "journal")
     with Sign(lambda reply: [reply]) as sign:
         journal = Journal.opened(path, Head("centre", "bench", 1))
@@ -216,9 +218,9 @@ def test_a_door_that_finds_a_job_not_done_asks_too(tmp_path: pathlib.Path, capfd
         centre = CoProcess(MODEL, ["centre"])
         centre.begin(b"status last", "the model")
         centre.replay([kept[:-1]])
-        with socket.socket(socket.AF_INET, socket.SOCK_DGRAM) as door:
-            door.connect(sign.socket.getsockname())
-            made = CentreDoor(centre, door, None, None, 0.3, 30.0, Questions("/bin/false", None))
+        with socket.socket(socket.AF_INET, socket.SOCK_DGRAM) as front_end:
+            front_end.connect(sign.socket.getsockname())
+            made = CentreFrontEnd(centre, front_end, None, None, 0.3, 30.0, Questions("/bin/false", None))
             made.line = last_command([kept[:-1]])
             assert made.is_busy and made.line == WIDE and not made.finish([], 30.0)
         centre.end()

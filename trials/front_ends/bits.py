@@ -9,7 +9,7 @@ from wisangub.endpoint import damage, records
 from wisangub.endpoint.damage import End
 from wisangub.endpoint.records import SECTOR, whole
 
-from .bench import Door, Trial
+from .bench import FrontEnd, Trial
 from .follower import Follower, lines_of
 from .manager import DMS, Manager
 from .requests import Bindings, Changes
@@ -19,12 +19,13 @@ TEXT = DMS + (5, 8, 1, 3)
 
 
 class _Bits:
-    """A journal that a sign's door wrote, with SETs each of which was answered, the last one over several sectors."""
+    """A journal that a sign's front end wrote, with SETs each of which was answered, the last one over several
+    sectors."""
 
     def __init__(self, trial: Trial) -> None:
         self.trial, self.path = trial, trial.new_folder() / "journal"
-        door = trial.sign("--journal", str(self.path), "--no-ticks")
-        manager, changes = Manager(door.port), Changes(trial.chance)
+        front_end = trial.sign("--journal", str(self.path), "--no-ticks")
+        manager, changes = Manager(front_end.port), Changes(trial.chance)
         answered = True
         for _ in range(24):
             answered &= manager.exchange(manager.request(wire.SET, changes.counter())) is not None
@@ -35,9 +36,9 @@ class _Bits:
         trial.holds("all SETs are answered", answered)
         self.size = self.path.stat().st_size  # what is there at a kill
         manager.close()
-        door.kill("both")
-        door.forget()
-        trial.doors.remove(door)
+        front_end.kill("both")
+        front_end.forget()
+        trial.front_ends.remove(front_end)
         self.text = self.path.read_bytes()
         self.begin = self.text.rfind(b"\n", 0, len(self.text) - 1) + 1
         trial.holds("the last write is over several sectors", before <= self.begin < self.size - 2 * SECTOR)
@@ -70,32 +71,37 @@ class _Bits:
         print(f"bits changed: {len(bits) if not self.trial.is_short else 600}", flush=True)
 
     def refused(self, name: str, octets: bytes) -> None:
-        """The door refuses it by the octet and with the option, and leaves it as it is; with the option it goes on."""
+        """The front end refuses it by the octet and with the option, and leaves it as it is; with the option it goes
+        on."""
         self.path.write_bytes(octets)
-        door = self.trial.sign("--journal", str(self.path), "--no-ticks")
+        front_end = self.trial.sign("--journal", str(self.path), "--no-ticks")
         size = whole(octets).size
-        is_well = door.ended() in (1, 2) and self.is_told(door, size) and not door.output
-        self.trial.holds(f"{name}: refused", is_well, (door.process.returncode, door.errors.decode("latin-1")))
+        is_well = front_end.ended() in (1, 2) and self.is_told(front_end, size) and not front_end.output
+        self.trial.holds(
+            f"{name}: refused", is_well, (front_end.process.returncode, front_end.errors.decode("latin-1"))
+        )
         self.trial.holds(f"{name}: the file stays", self.path.read_bytes() == octets)
         if size:
             self.goes_on(name, octets, size, "--accept-damage")
 
-    def is_told(self, door: Door, size: int) -> bool:
-        """Whether a door says where a journal is damaged, and how it goes on."""
-        is_named = f"octet {size}".encode() in door.errors and b"--accept-damage" in door.errors
-        return is_named or size == 0 and b"is no journal" in door.errors
+    def is_told(self, front_end: FrontEnd, size: int) -> bool:
+        """Whether a front end says where a journal is damaged, and how it goes on."""
+        is_named = f"octet {size}".encode() in front_end.errors and b"--accept-damage" in front_end.errors
+        return is_named or size == 0 and b"is no journal" in front_end.errors
 
     def goes_on(self, name: str, octets: bytes, size: int, *words: str) -> None:
-        """A door goes on from so many octets, and puts the rest aside."""
+        """A front end goes on from so many octets, and puts the rest aside."""
         self.path.write_bytes(octets)
-        door = self.trial.sign("--journal", str(self.path), "--no-ticks", *words)
-        if self.trial.holds(f"{name}: a door starts {words}", door.port != 0, door.errors.decode("latin-1")):
-            manager, follower = Manager(door.port), Follower(self.path)
+        front_end = self.trial.sign("--journal", str(self.path), "--no-ticks", *words)
+        if self.trial.holds(
+            f"{name}: a front end starts {words}", front_end.port != 0, front_end.errors.decode("latin-1")
+        ):
+            manager, follower = Manager(front_end.port), Follower(self.path)
             for line in lines_of(self.path.read_bytes()):
                 follower.take(line)
             follower.compare(self.trial, name, manager)
             manager.close()
-        self.trial.holds(f"{name}: and ends", door.stop() == 0, door.errors.decode("latin-1"))
+        self.trial.holds(f"{name}: and ends", front_end.stop() == 0, front_end.errors.decode("latin-1"))
         self.trial.holds(f"{name}: what was whole stays", self.path.read_bytes().startswith(octets[:size]))
         asides = [path for path in self.path.parent.iterdir() if path != self.path]
         kept = [path.read_bytes() for path in asides]
@@ -105,8 +111,8 @@ class _Bits:
         for path in asides:
             path.unlink()
 
-    def doors(self) -> None:
-        """What the door itself makes of some."""
+    def front_ends(self) -> None:
+        """What the front end itself makes of some."""
         chance, bits = self.trial.chance, [8 * len(self.text) - 7, 8 * self.begin + 3, 8 * (self.begin - 1)]
         bits += [chance.randrange(8 * len(self.text)) for _ in range(1 if self.trial.is_short else 100)]
         for bit in bits:
@@ -117,7 +123,7 @@ class _Bits:
                 self.refused(f"zeros from {at} on", self.text[:at] + bytes(SECTOR) + self.text[at + SECTOR :])
 
     def sectors(self) -> None:
-        """Each sector of the last write in each order: by the reader, and some by the door."""
+        """Each sector of the last write in each order: by the reader, and some by the front end."""
         sectors = range(self.begin // SECTOR, (self.size - 1) // SECTOR + 1)
         sizes = [self.size, *(SECTOR * at for at in sectors[1:]), self.begin + 1]
         every = [
@@ -142,25 +148,25 @@ class _Bits:
 
 
 def _older(trial: Trial, path: pathlib.Path, text: bytes) -> None:
-    """A journal of form 1 is written anew by a door, and is kept as it was."""
+    """A journal of form 1 is written anew by a front end, and is kept as it was."""
     lines = [line.replace(b"journal 2 ", b"journal 1 ") for line in lines_of(text)]
     path.write_bytes(written(lines))
     before = path.read_bytes()
-    door = trial.sign("--journal", str(path), "--no-ticks")
-    if trial.holds("a journal of form 1: a door starts", door.port != 0, door.errors.decode()):
-        manager, follower = Manager(door.port), Follower(path)
+    front_end = trial.sign("--journal", str(path), "--no-ticks")
+    if trial.holds("a journal of form 1: a front end starts", front_end.port != 0, front_end.errors.decode()):
+        manager, follower = Manager(front_end.port), Follower(path)
         for line in lines_of(path.read_bytes()):
             follower.take(line)
         follower.compare(trial, "a journal of form 1", manager)
         manager.close()
-    trial.holds("a journal of form 1: and ends", door.stop() == 0, door.errors.decode())
+    trial.holds("a journal of form 1: and ends", front_end.stop() == 0, front_end.errors.decode())
     kept = path.with_name(path.name + ".form1")
     trial.holds("a journal of form 1 is kept as it was", kept.exists() and kept.read_bytes() == before)
     trial.holds("and written anew", lines_of(path.read_bytes())[1 : len(lines)] == lines[1:])
     path.write_bytes(before[:-4] + b"!" + before[-3:])
-    door = trial.sign("--journal", str(path), "--no-ticks")
-    is_well = door.ended() in (1, 2) and b"--accept-damage" in door.errors and not door.output
-    trial.holds("a journal of form 1 that is changed is refused", is_well, door.errors.decode())
+    front_end = trial.sign("--journal", str(path), "--no-ticks")
+    is_well = front_end.ended() in (1, 2) and b"--accept-damage" in front_end.errors and not front_end.output
+    trial.holds("a journal of form 1 that is changed is refused", is_well, front_end.errors.decode())
 
 
 def written(lines: list[bytes]) -> bytes:
@@ -178,9 +184,14 @@ def unknown(trial: Trial, path: pathlib.Path, text: bytes) -> None:
     for line in (b"hello world", b"ticks 12x", b"ticks 4294967296"):
         octets = text + records.record(line, number, number)
         path.write_bytes(octets)
-        door = trial.sign("--journal", str(path), "--no-ticks")
-        is_well = door.ended() in (1, 2) and line in door.errors and path.read_bytes() == octets and not door.output
-        trial.holds(f"a record {line!r}: refused by name", is_well, door.errors.decode("latin-1"))
+        front_end = trial.sign("--journal", str(path), "--no-ticks")
+        is_well = (
+            front_end.ended() in (1, 2)
+            and line in front_end.errors
+            and path.read_bytes() == octets
+            and not front_end.output
+        )
+        trial.holds(f"a record {line!r}: refused by name", is_well, front_end.errors.decode("latin-1"))
 
 
 def run(trial: Trial) -> None:
@@ -188,7 +199,7 @@ def run(trial: Trial) -> None:
     bits = _Bits(trial)
     bits.bits()
     bits.sectors()
-    bits.doors()
+    bits.front_ends()
     _older(trial, bits.path, bits.text)
     if not trial.is_late():
         unknown(trial, bits.path, bits.text)

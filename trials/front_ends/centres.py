@@ -1,4 +1,4 @@
-"""A centre's door, its co-process, or both are killed again and again over one journal, while it publishes to a
+"""A centre's front end, its co-process, or both are killed again and again over one journal, while it publishes to a
 sign."""
 
 import subprocess
@@ -22,7 +22,7 @@ def _fresh_lives(trial: Trial, port: int, count: int) -> int:
     for at in range(count):
         if trial.is_late():
             break
-        centres.life("door", centres.command(), *(["--fresh"] if at % 3 else []))
+        centres.life("front end", centres.command(), *(["--fresh"] if at % 3 else []))
     relay.end()
     numbers(trial, relay.requests)
     aside = [path.read_bytes() for path in centres.path.parent.iterdir()]
@@ -35,7 +35,7 @@ def again(trial: Trial, centres: Centres) -> None:
     sent = [message.number for message in map(wire.spelled, list(centres.relay.requests)) if message is not None]
     used = max(sent, default=0)
     before = len(centres.relay.requests)
-    door = trial.door(
+    front_end = trial.front_end(
         "wisangub-centre",
         "--to",
         f"127.0.0.1:{centres.relay.port()}",
@@ -46,15 +46,15 @@ def again(trial: Trial, centres: Centres) -> None:
         "0.15",
         stdin=subprocess.PIPE,
     )
-    assert door.process.stdin is not None
-    door.process.stdin.write(b"blank 3 65535 255 127.0.0.1\n")
-    door.process.stdin.close()
-    status = door.ended()
+    assert front_end.process.stdin is not None
+    front_end.process.stdin.write(b"blank 3 65535 255 127.0.0.1\n")
+    front_end.process.stdin.close()
+    status = front_end.ended()
     numbers = [message.number for message in map(wire.spelled, centres.relay.requests[before:]) if message is not None]
     trial.holds(
         "a fresh centre begins above all numbers",
         bool(numbers) and min(numbers) > used,
-        (used, numbers, status, door.errors.decode()),
+        (used, numbers, status, front_end.errors.decode()),
     )
     trial.holds("a fresh centre keeps the old journal", len(list(centres.path.parent.glob("centre.2*"))) == 1)
 
@@ -74,9 +74,9 @@ def run(trial: Trial, count: int) -> None:
         if library and trial.chance.random() < 0.3:
             centres.refused(library)
         else:
-            centres.life(trial.chance.choice(["door", "co-process", "both"]), centres.command())
-    door = centres.life(None, "status")
-    status = door.output.decode().splitlines()
+            centres.life(trial.chance.choice(["front end", "co-process", "both"]), centres.command())
+    front_end = centres.life(None, "status")
+    status = front_end.output.decode().splitlines()
     centres.look(
         [line.split(",")[0] for line in status[max(at for at, line in enumerate(status) if line in ("idle", "busy")) :]]
     )

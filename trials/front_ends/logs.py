@@ -1,11 +1,11 @@
-"""Logs of doors, IPv6, and a co-process that is killed."""
+"""Logs of front ends, IPv6, and a co-process that is killed."""
 
 import json
 import os
 import socket
 import subprocess
 
-from .bench import Door, Trial
+from .bench import FrontEnd, Trial
 from .manager import Manager
 from .requests import Changes
 
@@ -18,28 +18,28 @@ def _logged(trial: Trial) -> None:
         (["--json"], b'"request-id": 1'),
     ]
     for words, told in rows:
-        door = trial.sign("--log", str(path), *words)
-        manager = Manager(door.port)
+        front_end = trial.sign("--log", str(path), *words)
+        manager = Manager(front_end.port)
         manager.get([Changes.COUNTER])
         manager.close()
         trial.holds("a log tells of datagrams", told in path.read_bytes(), path.read_bytes())
         trial.holds("a log is its owner's", os.stat(path).st_mode & 0o777 == 0o600)
-        door.kill("co-process")
-        last = Manager(door.port)
+        front_end.kill("co-process")
+        last = Manager(front_end.port)
         last.get([Changes.COUNTER], 0.1)
         last.close()
-        _says_dead(trial, door)
+        _says_dead(trial, front_end)
     if _has_ipv6():
-        door = trial.sign("--host", "::1")
-        trial.holds("an IPv6 address", b"a sign at [::1]:" in door.output, door.errors.decode())
-        centre = trial.door("wisangub-centre", "--to", f"[::1]:{door.port}", stdin=subprocess.PIPE)
+        front_end = trial.sign("--host", "::1")
+        trial.holds("an IPv6 address", b"a sign at [::1]:" in front_end.output, front_end.errors.decode())
+        centre = trial.front_end("wisangub-centre", "--to", f"[::1]:{front_end.port}", stdin=subprocess.PIPE)
         assert centre.process.stdin is not None
         centre.process.stdin.write(b"blank 5 65535 255 127.0.0.1\n")
         centre.process.stdin.close()
         trial.holds(
             "a centre over IPv6", centre.ended() == 0 and b"last accepted" in centre.output, centre.errors.decode()
         )
-        trial.holds("a sign over IPv6 ends", door.stop() == 0)
+        trial.holds("a sign over IPv6 ends", front_end.stop() == 0)
     else:
         trial.skip("IPv6", "no address ::1 here")
 
@@ -50,7 +50,7 @@ def _of_a_centre(trial: Trial) -> None:
     sign = trial.sign("--log", "-", "--json")
     words = ["--to", f"127.0.0.1:{sign.port}", "--log", "-"]
     for is_json in (False, True):
-        centre = trial.door("wisangub-centre", *words, *(["--json"] if is_json else []), stdin=subprocess.PIPE)
+        centre = trial.front_end("wisangub-centre", *words, *(["--json"] if is_json else []), stdin=subprocess.PIPE)
         assert centre.process.stdin is not None
         centre.process.stdin.write(b'publish-text 3 1 "AB" "me" 0 0 9 65535 255 127.0.0.1\n')
         centre.process.stdin.close()
@@ -76,12 +76,12 @@ def _of_a_centre(trial: Trial) -> None:
     trial.holds("a sign's events as JSON", {"start", "in", "out", "accepted", "end"} <= events, events)
 
 
-def _says_dead(trial: Trial, door: Door) -> None:
-    """A door whose co-process was killed."""
+def _says_dead(trial: Trial, front_end: FrontEnd) -> None:
+    """A front end whose co-process was killed."""
     trial.holds(
         "a co-process that was killed",
-        door.ended() == 1 and b"co-process ended by signal 9" in door.errors,
-        door.errors.decode(),
+        front_end.ended() == 1 and b"co-process ended by signal 9" in front_end.errors,
+        front_end.errors.decode(),
     )
 
 

@@ -8,7 +8,7 @@ from dataclasses import replace
 
 from model import wire
 from tests.snmp.edges import edges
-from wisangub.endpoint.sign_door import line_of
+from wisangub.endpoint.sign_front_end import line_of
 from wisangub.endpoint.sorts import Sort, sort_of
 from wisangub.process.coprocess import CoProcess
 from wisangub.process.places import TOP
@@ -109,7 +109,7 @@ class _Strangers:
         self.other += [f"{line!r}: {a!r}, {b!r}" for line, a, b in zip(lines, one, other) if a != b]
 
     def step(self, asked: list[bytes]) -> None:
-        """Datagrams to the first sign, and what its door records of them to the second."""
+        """Datagrams to the first sign, and what its front end records of them to the second."""
         answers, recorded, others = self.signs[0].hand(list(map(line_of, asked))), [], []
         for octets, answer in zip(asked, answers):
             sort = sort_of(octets, *self.who)
@@ -176,9 +176,9 @@ def _against_program(trial: Trial, count: int) -> None:
 def _fill(trial: Trial) -> None:
     """Strangers who send as much as they can leave nothing in a journal, or `heard`."""
     path = trial.new_folder() / "journal"
-    door = trial.sign("--journal", str(path), "--no-ticks")
+    front_end = trial.sign("--journal", str(path), "--no-ticks")
     before = len(lines_of(path.read_bytes()))
-    stranger, reader = Manager(door.port, b"private"), Manager(door.port, b"public")
+    stranger, reader = Manager(front_end.port, b"private"), Manager(front_end.port, b"public")
     setting: Bindings = [(Changes.COUNTER, (wire.INTEGER, 9))]
     for _ in range(60):
         for octets in (bytes(1472), bytes(3000), b"", stranger.request(wire.SET, setting), b"\x30\x82" + bytes(500)):
@@ -187,7 +187,7 @@ def _fill(trial: Trial) -> None:
         reader.exchange(reader.request(wire.SET, setting))
     stranger.close()
     reader.close()
-    trial.holds("a sign that strangers write to ends", door.stop() == 0, door.errors.decode())
+    trial.holds("a sign that strangers write to ends", front_end.stop() == 0, front_end.errors.decode())
     lines = lines_of(path.read_bytes())[before:]
     is_well = lines.count(b"heard") == 1 and len(lines) == 2 and lines[-1].startswith(b"clock ")
     trial.holds("and has recorded nothing of theirs but that the silence is over", is_well, lines[:9])
@@ -197,8 +197,8 @@ def _so_many(trial: Trial) -> None:
     """Of the writing community some are recorded in a second, some wait, and the rest is dropped and counted."""
     folder = trial.new_folder()
     path, log = folder / "journal", folder / "log"
-    door = trial.sign("--journal", str(path), "--no-ticks", "--log", str(log), "--most-recorded", "60")
-    manager = Manager(door.port)
+    front_end = trial.sign("--journal", str(path), "--no-ticks", "--log", str(log), "--most-recorded", "60")
+    manager = Manager(front_end.port)
     made = [manager.request(wire.SET, [(Changes.COUNTER, (wire.INTEGER, at))]) for at in range(200)]
     replies = manager.exchange_all(made, 3.0)
     answered = [at for at, reply in enumerate(replies) if reply is not None]
@@ -209,7 +209,7 @@ def _so_many(trial: Trial) -> None:
     trial.holds("and the rest is dropped, and counted in the log", 0 < dropped <= 200 - 124, dropped)
     trial.holds("then SETs are answered as before", manager.exchange(manager.request(wire.SET, [])) is not None)
     manager.close()
-    trial.holds("a sign that is asked too much ends", door.stop() == 0, door.errors.decode())
+    trial.holds("a sign that is asked too much ends", front_end.stop() == 0, front_end.errors.decode())
 
 
 def run(trial: Trial) -> None:

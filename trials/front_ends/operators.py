@@ -7,7 +7,7 @@ import time
 
 from model import wire
 
-from .bench import Door, Trial, eventually
+from .bench import FrontEnd, Trial, eventually
 from .follower import lines_of
 from .patience import PACE
 
@@ -20,21 +20,23 @@ def tick() -> float:
 
 
 def _commanded(trial: Trial, port: int, lines: str, *words: str) -> tuple[int, list[str]]:
-    """The status of a centre's door that is given lines, and what it printed."""
-    door, status = _given(trial, port, lines, *words)
-    return status, door.output.decode().splitlines()
+    """The status of a centre's front end that is given lines, and what it printed."""
+    front_end, status = _given(trial, port, lines, *words)
+    return status, front_end.output.decode().splitlines()
 
 
-def _given(trial: Trial, port: int, lines: str, *words: str) -> tuple[Door, int]:
-    """A centre's door that is given lines, and its status."""
+def _given(trial: Trial, port: int, lines: str, *words: str) -> tuple[FrontEnd, int]:
+    """A centre's front end that is given lines, and its status."""
     call = ["--to", f"127.0.0.1:{port}", "--tick", f"{tick():.2f}", *words]
-    door = trial.door("wisangub-centre", *call, stdin=subprocess.PIPE)
-    assert door.process.stdin is not None
-    door.process.stdin.write(lines.encode())
-    door.process.stdin.close()
-    status = door.ended()
-    trial.holds("a centre's door prints no traceback", b"Traceback" not in door.errors, door.errors.decode())
-    return door, status
+    front_end = trial.front_end("wisangub-centre", *call, stdin=subprocess.PIPE)
+    assert front_end.process.stdin is not None
+    front_end.process.stdin.write(lines.encode())
+    front_end.process.stdin.close()
+    status = front_end.ended()
+    trial.holds(
+        "a centre's front end prints no traceback", b"Traceback" not in front_end.errors, front_end.errors.decode()
+    )
+    return front_end, status
 
 
 _COMMANDS = [  # what is commanded, the exit status, and what is told
@@ -73,13 +75,13 @@ def _in_error(trial: Trial, port: int) -> None:
     question is no record."""
     path, is_told = trial.new_folder() / "centre", False
     for _ in range(_SOME):
-        door, status = _given(trial, port, _WIDE, "--journal", str(path))
-        lines = door.output.decode().splitlines()
+        front_end, status = _given(trial, port, _WIDE, "--journal", str(path))
+        lines = front_end.output.decode().splitlines()
         trial.holds("a text that does not fit", status == 1 and lines == ["idle", _IN_ERROR], (status, lines))
-        is_told = re.search(_AT_FAULT, door.errors.decode()) is not None
+        is_told = re.search(_AT_FAULT, front_end.errors.decode()) is not None
         if is_told:
             break
-    trial.holds("what the sign found", is_told, door.errors.decode())
+    trial.holds("what the sign found", is_told, front_end.errors.decode())
     records = [line.split(b" ")[1] for line in lines_of(path.read_bytes()) if line.startswith(b"datagram ")]
     is_below = any(wire.read(bytes.fromhex(record.decode())).number < 0 for record in records)
     trial.holds("the question is no record", bool(records) and not is_below, records)
@@ -123,9 +125,11 @@ def _unanswered(trial: Trial) -> None:
         status == 1 and lines == _GIVEN_UP,
         (status, lines),
     )
-    door, status = _given(trial, _silent_port(), "blank 5 65535 255 127.0.0.1\n", "--tick", _SHORT)
-    is_said = b"\nlast failed at step 7: no reply\n" in door.output and b"nothing listens there" in door.errors
-    trial.holds("no sign there", status == 1 and is_said, (status, door.output, door.errors))
+    front_end, status = _given(trial, _silent_port(), "blank 5 65535 255 127.0.0.1\n", "--tick", _SHORT)
+    is_said = (
+        b"\nlast failed at step 7: no reply\n" in front_end.output and b"nothing listens there" in front_end.errors
+    )
+    trial.holds("no sign there", status == 1 and is_said, (status, front_end.output, front_end.errors))
 
 
 def _outsiders(trial: Trial) -> None:
@@ -136,40 +140,44 @@ def _outsiders(trial: Trial) -> None:
         sign.bind(("127.0.0.1", 0))
         sign.settimeout(PACE.patience())
         call = ["--to", f"127.0.0.1:{sign.getsockname()[1]}", "--tick", f"{tick():.2f}"]
-        door = trial.door("wisangub-centre", *call, stdin=subprocess.PIPE)
-        assert door.process.stdin is not None
-        door.process.stdin.write(b"blank 5 65535 255 127.0.0.1\n")
-        door.process.stdin.close()
+        front_end = trial.front_end("wisangub-centre", *call, stdin=subprocess.PIPE)
+        assert front_end.process.stdin is not None
+        front_end.process.stdin.write(b"blank 5 65535 255 127.0.0.1\n")
+        front_end.process.stdin.close()
         octets, centre = sign.recvfrom(2048)
         reply = octets.replace(b"\xa3", b"\xa2", 1)
         other.sendto(reply, centre)
         sent_again = sign.recvfrom(2048)[0]
         trial.holds(
             "a reply from elsewhere answers nothing",
-            sent_again == octets and door.process.poll() is None,
-            door.output.decode(),
+            sent_again == octets and front_end.process.poll() is None,
+            front_end.output.decode(),
         )
         sign.sendto(reply, centre)
-        trial.holds("and the sign's does", door.ended() == 0 and b"last accepted" in door.output, door.output.decode())
+        trial.holds(
+            "and the sign's does",
+            front_end.ended() == 0 and b"last accepted" in front_end.output,
+            front_end.output.decode(),
+        )
 
 
 def _idles(trial: Trial) -> None:
     """The ticks of a centre that has nothing to do leave no record: not between two commands, not at a start."""
     sign, path = trial.sign("--no-ticks"), trial.new_folder() / "centre"
     call = ["--to", f"127.0.0.1:{sign.port}", "--tick", f"{tick():.2f}", "--journal", str(path)]
-    door = trial.door("wisangub-centre", *call, stdin=subprocess.PIPE)
-    operator = door.process.stdin
+    front_end = trial.front_end("wisangub-centre", *call, stdin=subprocess.PIPE)
+    operator = front_end.process.stdin
     assert operator is not None
     for count in (1, 2):
         operator.write(b"blank %d 65535 255 127.0.0.1\n" % count)
         operator.flush()
-        is_done = eventually(lambda: door.output.count(b"last accepted\n") == count)
-        trial.holds(f"command {count} is accepted", is_done, (door.output, door.errors))
+        is_done = eventually(lambda: front_end.output.count(b"last accepted\n") == count)
+        trial.holds(f"command {count} is accepted", is_done, (front_end.output, front_end.errors))
         before = path.read_bytes()
         time.sleep(2.5 * tick())
         trial.holds(f"idle after command {count}: no record", path.read_bytes() == before, path.read_bytes())
     operator.close()
-    trial.holds("an idle centre ends", door.ended() == 0, door.errors.decode())
+    trial.holds("an idle centre ends", front_end.ended() == 0, front_end.errors.decode())
     status = _commanded(trial, sign.port, "status\n", "--journal", str(path))
     trial.holds("a start of an idle centre: no record", path.read_bytes() == before and status[0] == 0, status)
     words = [line.partition(b" ")[0] for line in lines_of(before)[1:]]

@@ -1,4 +1,5 @@
-"""Lives of a centre's door over one journal, which is killed, or whose disk refuses, while it publishes to a sign."""
+"""Lives of a centre's front end over one journal, which is killed, or whose disk refuses, while it publishes to a
+sign."""
 
 import errno
 import itertools
@@ -9,7 +10,7 @@ import time
 
 from model import text, wire
 
-from .bench import Door, Trial
+from .bench import FrontEnd, Trial
 from .follower import lines_of
 from .kills import killed_later
 from .numbers import numbers
@@ -37,9 +38,9 @@ class Centres:
         text = self.trial.chance.choice(["A", "B", "AB", "A[nl]B"])
         return f'publish-text {self.trial.chance.choice(["3 1", "3 2", "4 1"])} "{text}" "me" 0 0 1 65535 255 127.0.0.1'
 
-    def started(self, command: str, *words: str, environment: dict[str, str] | None = None) -> Door:
-        """A door that is given a command."""
-        door = self.trial.door(
+    def started(self, command: str, *words: str, environment: dict[str, str] | None = None) -> FrontEnd:
+        """A front end that is given a command."""
+        front_end = self.trial.front_end(
             "wisangub-centre",
             "--to",
             f"127.0.0.1:{self.relay.port()}",
@@ -53,53 +54,55 @@ class Centres:
             environment=environment,
             stdin=subprocess.PIPE,
         )
-        assert door.process.stdin is not None
+        assert front_end.process.stdin is not None
         try:
-            door.process.stdin.write(command.encode() + b"\n")
-            door.process.stdin.close()
+            front_end.process.stdin.write(command.encode() + b"\n")
+            front_end.process.stdin.close()
         except BrokenPipeError:
             pass
-        return door
+        return front_end
 
     def refused(self, library: pathlib.Path) -> None:
         """A life with a disk that refuses a call: each call in turn."""
         call, error, at = next(self.faults)
         short = self.trial.chance.choice([0, 15])
         environment = refusing(library, self.path, call, at, error, short=short)
-        door = self.started(self.command(), environment=environment)
-        status = door.ended()
-        told = os.strerror(error).encode() in door.errors
+        front_end = self.started(self.command(), environment=environment)
+        status = front_end.ended()
+        told = os.strerror(error).encode() in front_end.errors
         self.trial.holds(
             f"a centre whose {call} {at} is refused says why",
             not told or status == 1 or call == "write" or (call, status) == ("open", 2),
-            (status, door.errors.decode()),
+            (status, front_end.errors.decode()),
         )
-        self.over(door)
+        self.over(front_end)
 
-    def life(self, which: str | None, command: str, *words: str) -> Door:
+    def life(self, which: str | None, command: str, *words: str) -> FrontEnd:
         """A life with a command, which is killed at a random moment, or ends by itself."""
-        door = self.started(command, *words)
+        front_end = self.started(command, *words)
         if which is not None:
-            timer = killed_later(door, which, self.trial.chance.uniform(0.05, 1.2 * self.takes))
+            timer = killed_later(front_end, which, self.trial.chance.uniform(0.05, 1.2 * self.takes))
             begun = time.monotonic()
-            is_killed = door.ended() < 0 or b"by signal 9" in door.errors
+            is_killed = front_end.ended() < 0 or b"by signal 9" in front_end.errors
             timer.cancel()
             self.killed += is_killed
             if not is_killed:
                 self.takes = time.monotonic() - begun
-        self.over(door)
-        return door
+        self.over(front_end)
+        return front_end
 
-    def over(self, door: Door) -> None:
+    def over(self, front_end: FrontEnd) -> None:
         """What holds of a life that is over."""
-        self.trial.holds("a centre's door ends", door.ended() != 999)
-        self.trial.holds("a centre's door prints no traceback", b"Traceback" not in door.errors, door.errors.decode())
+        self.trial.holds("a centre's front end ends", front_end.ended() != 999)
+        self.trial.holds(
+            "a centre's front end prints no traceback", b"Traceback" not in front_end.errors, front_end.errors.decode()
+        )
         self.printed |= {
             line
-            for line in door.output.decode().splitlines()
+            for line in front_end.output.decode().splitlines()
             if line.startswith("ledger ") and line.endswith(" accepted")
         }
-        self.trial.doors.remove(door)
+        self.trial.front_ends.remove(front_end)
 
     def look(self, status: list[str]) -> None:
         """What holds over all lives: the numbers, the ledger, the model that is handed the journal."""

@@ -1,4 +1,4 @@
-"""What waits at a sign's door is recorded with one sync, handed over in one write, and answered in order."""
+"""What waits at a sign's front end is recorded with one sync, handed over in one write, and answered in order."""
 
 import os
 import pathlib
@@ -12,7 +12,7 @@ from wisangub.endpoint.journal import Journal
 from wisangub.endpoint.keeper import Keeper
 from wisangub.endpoint.limit import Limit
 from wisangub.endpoint.records import Head
-from wisangub.endpoint.sign_door import AT_ONCE, Heard, SignDoor, line_of
+from wisangub.endpoint.sign_front_end import AT_ONCE, Heard, SignFrontEnd, line_of
 from wisangub.endpoint.sorts import Sort, sort_of
 from wisangub.refusal import Refusal
 
@@ -58,7 +58,7 @@ class Ends:
 
 
 def served(waiting: list[bytes], is_kept: bool, most: int = 1000) -> tuple[list[Any], list[bytes]]:
-    """What a door does with what waits, and the lines that it records."""
+    """What a front end does with what waits, and the lines that it records."""
     ends: Any = Ends(waiting)
     with tempfile.TemporaryDirectory() as folder:
         path = pathlib.Path(folder, "journal")
@@ -67,11 +67,11 @@ def served(waiting: list[bytes], is_kept: bool, most: int = 1000) -> tuple[list[
         keeper.start(NOW, None)
         written, synced = os.write, os.fdatasync
         limit = Limit[Heard](most)
-        door = SignDoor(ends, ends, keeper if is_kept else None, None, 10.0, 0, True, WHO, limit)
+        front_end = SignFrontEnd(ends, ends, keeper if is_kept else None, None, 10.0, 0, True, WHO, limit)
         with mock.patch("os.write", lambda *words: ends.write(*words) and written(*words)):
             with mock.patch("os.fdatasync", lambda file: ends.fdatasync(file) or synced(file)):
-                while found := door.waiting_datagrams():
-                    door.answer(found)
+                while found := front_end.waiting_datagrams():
+                    front_end.answer(found)
         lines = [line for some in journal.lines() for line in some]
         journal.close()
     return ends.done, lines
@@ -114,7 +114,7 @@ def test_a_set_of_the_reader_is_heard() -> None:
     assert served([octets], True) == ([[line_of(octets)], octets, "write"], [b"heard"])
 
 
-def test_an_answer_to_what_no_sign_answers_ends_the_door() -> None:
+def test_an_answer_to_what_no_sign_answers_ends_the_front_end() -> None:
     for octets, answer in ((b"", b"reply 30"), (request(wire.GET, 1), b"accepted 00 30")):
         with mock.patch.object(Ends, "hand", lambda *_: [answer]):
             try:

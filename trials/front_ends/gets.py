@@ -9,7 +9,7 @@ from model.sign import Sign
 from wisangub.process.places import TOP
 from wisangub.snmp.wire import is_get
 
-from .bench import Door, Trial
+from .bench import FrontEnd, Trial
 from .follower import lines_of
 from .manager import Manager
 
@@ -101,15 +101,15 @@ class _Lives:
         self.names = self.sign.objects.names
         self.count = 0
 
-    def start(self) -> tuple[Door, Manager]:
+    def start(self) -> tuple[FrontEnd, Manager]:
         """A life that begins; the seconds since the one before are the model's too."""
-        door = self.trial.sign("--journal", str(self.path), "--no-ticks")
-        self.trial.holds("a life of requests begins", door.port != 0, door.errors.decode())
+        front_end = self.trial.sign("--journal", str(self.path), "--no-ticks")
+        self.trial.holds("a life of requests begins", front_end.port != 0, front_end.errors.decode())
         lines = lines_of(self.path.read_bytes())
         for line in lines[max((at for at, line in enumerate(lines) if line.startswith(b"start ")), default=0) :]:
             if line.startswith(b"ticks "):
                 self.sign.showing.ticks(int(line[6:]))
-        return door, Manager(door.port)
+        return front_end, Manager(front_end.port)
 
     def ask(self, name: str, manager: Manager, made: bytes) -> None:
         """A request, and its reply by the model."""
@@ -127,24 +127,24 @@ class _Lives:
         name = f"{len(some)} requests with lengths {form}, after {self.count} lives"
         if self.count % 100 == 99:
             self.path, self.sign = self.trial.new_folder() / "journal", Sign(text.bench())
-        door, manager = self.start()
+        front_end, manager = self.start()
         for octets in some:
             made = respelled(octets, form)
             if made is not None and len(made) <= wire.MOST_DATAGRAM:
                 self.ask(name, manager, made)
         manager.close()
-        self.over(door)
+        self.over(front_end)
         after, manager = self.start()
         self.compare(name, manager)
         manager.close()
         self.over(after)
         self.count += 1
 
-    def over(self, door: Door) -> None:
+    def over(self, front_end: FrontEnd) -> None:
         """A kill, after which nothing of the life stays."""
-        door.kill(self.trial.chance.choice(["door", "both"]))
-        door.forget()
-        self.trial.doors.remove(door)
+        front_end.kill(self.trial.chance.choice(["front end", "both"]))
+        front_end.forget()
+        self.trial.front_ends.remove(front_end)
 
 
 def _is_spelled(octets: bytes) -> bool:

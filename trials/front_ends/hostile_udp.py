@@ -1,4 +1,4 @@
-"""Hostile datagrams to a sign's door over UDP: each reply is the model's, and so is the whole walk at the end."""
+"""Hostile datagrams to a sign's front end over UDP: each reply is the model's, and so is the whole walk at the end."""
 
 import itertools
 import socket
@@ -17,13 +17,13 @@ _MOST_TOLD = 10  # batches that are told of
 
 
 class _Exchange:
-    """A sign's door, and the model of its sign, which is handed the same datagrams."""
+    """A sign's front end, and the model of its sign, which is handed the same datagrams."""
 
     def __init__(self, trial: Trial) -> None:
         self.trial, self.sign = trial, Sign(text.bench())
-        self.door = trial.sign("--no-ticks")
+        self.front_end = trial.sign("--no-ticks")
         self.socket = socket.socket(socket.AF_INET, socket.SOCK_DGRAM)
-        self.socket.connect(("127.0.0.1", self.door.port))
+        self.socket.connect(("127.0.0.1", self.front_end.port))
         self.sent = self.replied = 0
 
     def batch(self, some: list[bytes]) -> bool:
@@ -44,20 +44,22 @@ class _Exchange:
         return found == wanted or self.trial.holds(name, False, ([one.hex() for one in some], found, wanted))
 
     def over(self) -> None:
-        """The door still runs, no reply is left over, and each value is the model's."""
+        """The front end still runs, no reply is left over, and each value is the model's."""
         self.socket.settimeout(0.2)
         try:
             left = self.socket.recv(_MOST_REPLY)
         except OSError:
             left = b""
         self.trial.holds("no reply is left over", not left, left.hex())
-        manager, names = Manager(self.door.port), self.sign.objects.names
+        manager, names = Manager(self.front_end.port), self.sign.objects.names
         found = manager.values(names)
         other = [one for one in names if found.get(one) != self.sign.objects.value(one)]
         self.trial.holds("the whole walk is the model's", not other, other[:5])
         manager.close()
         self.socket.close()
-        self.trial.holds("the door ends at a SIGTERM", self.door.stop() == 0, self.door.errors.decode("latin-1"))
+        self.trial.holds(
+            "the front end ends at a SIGTERM", self.front_end.stop() == 0, self.front_end.errors.decode("latin-1")
+        )
 
 
 def run(trial: Trial, datagrams: Iterable[bytes]) -> None:

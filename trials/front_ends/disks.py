@@ -11,7 +11,7 @@ from wisangub.endpoint import records
 from wisangub.endpoint.clock import Moment
 from wisangub.endpoint.records import FORM
 
-from .bench import Door, Trial, eventually
+from .bench import FrontEnd, Trial, eventually
 from .follower import Follower
 from .manager import DMS, Manager
 from .patience import PACE
@@ -55,13 +55,13 @@ class Mounted:
             self._call("umount", "-l", str(self.folder))
 
 
-def _answered(follower: Follower, door: Door, changes: Changes, count: int) -> list[bool]:
+def _answered(follower: Follower, front_end: FrontEnd, changes: Changes, count: int) -> list[bool]:
     """Whether each of so many SETs was answered."""
-    manager = Manager(door.port)
+    manager = Manager(front_end.port)
     found = []
     for _ in range(count):
         octets = manager.request(wire.SET, changes.counter())
-        found.append(follower.surely(manager, octets, lambda: door.process.poll() is not None))
+        found.append(follower.surely(manager, octets, lambda: front_end.process.poll() is not None))
     manager.close()
     return found
 
@@ -70,30 +70,38 @@ def full(trial: Trial, mounted: Mounted) -> None:
     """A disk that runs full: SETs are lost and Gets answered, until there is room again."""
     path = mounted.folder / "journal"
     follower, changes = Follower(path), Changes(trial.chance)
-    door = trial.sign("--journal", str(path), "--no-ticks")
-    trial.holds("on a small disk SETs are answered", all(_answered(follower, door, changes, 3)), door.errors.decode())
+    front_end = trial.sign("--journal", str(path), "--no-ticks")
+    trial.holds(
+        "on a small disk SETs are answered", all(_answered(follower, front_end, changes, 3)), front_end.errors.decode()
+    )
     filler = mounted.fill()
-    found = _answered(follower, door, changes, 40)
+    found = _answered(follower, front_end, changes, 40)
     trial.holds(
         "on a full disk SETs are lost", not any(found[found.index(False) :] if False in found else [True]), found
     )
-    is_told = eventually(lambda: b"No space left on device" in door.errors)
-    trial.holds("and the door says why", is_told, door.errors.decode())
-    manager = Manager(door.port)
+    is_told = eventually(lambda: b"No space left on device" in front_end.errors)
+    trial.holds("and the front end says why", is_told, front_end.errors.decode())
+    manager = Manager(front_end.port)
     trial.holds("and answers Gets", bool(manager.get([Changes.COUNTER])))
     manager.close()
     filler.unlink()
-    trial.holds("with room again SETs are answered", all(_answered(follower, door, changes, 3)), door.errors.decode())
-    door.kill()
+    trial.holds(
+        "with room again SETs are answered", all(_answered(follower, front_end, changes, 3)), front_end.errors.decode()
+    )
+    front_end.kill()
     _look_again(trial, "after a full disk", path, follower)
 
 
 def _full_at_start(trial: Trial, mounted: Mounted) -> None:
-    """On a full disk a door that needs its journal says why and ends; another one starts from what is there."""
+    """On a full disk a front end that needs its journal says why and ends; another one starts from what is there."""
     filler = mounted.fill()
-    door = trial.sign("--journal", str(mounted.folder / "none"), "--no-ticks", "--need-journal")
-    is_well = door.ended() in (1, 2) and b"No space left" in door.errors and b"Traceback" not in door.errors
-    trial.holds("a new journal on a full disk: said in words", is_well and not door.output, door.errors.decode())
+    front_end = trial.sign("--journal", str(mounted.folder / "none"), "--no-ticks", "--need-journal")
+    is_well = (
+        front_end.ended() in (1, 2) and b"No space left" in front_end.errors and b"Traceback" not in front_end.errors
+    )
+    trial.holds(
+        "a new journal on a full disk: said in words", is_well and not front_end.output, front_end.errors.decode()
+    )
     filler.unlink()
     lines = [trial.head(form=FORM).line(), Moment.now().start(), Moment.now().clock()]
     lines += [b"ticks 1"] * 700
@@ -103,28 +111,36 @@ def _full_at_start(trial: Trial, mounted: Mounted) -> None:
     for name in ("packed", "none"):
         mounted.fill()
         _goes_on(trial, f"a full disk at the start of {name}", mounted.folder / name, b"No space left", filler.unlink)
-    door = trial.sign("--journal", str(mounted.folder / "none"), "--no-ticks")
-    trial.holds("and it is begun where there is room", door.port != 0 and door.stop() == 0, door.errors.decode())
+    front_end = trial.sign("--journal", str(mounted.folder / "none"), "--no-ticks")
+    trial.holds(
+        "and it is begun where there is room", front_end.port != 0 and front_end.stop() == 0, front_end.errors.decode()
+    )
 
 
 def _goes_on(trial: Trial, name: str, path: pathlib.Path, words: bytes, repair: Callable[[], object]) -> None:
     """A sign that starts where the disk takes nothing answers Gets and no SET, and says so by its exit status; after a
     repair it answers SETs, and the next start has them."""
     changes = Changes(trial.chance)
-    door = trial.sign("--journal", str(path), "--no-ticks")
-    if trial.holds(f"{name}: a sign starts", door.port != 0 and words in door.errors, door.errors.decode()):
-        manager = Manager(door.port)
+    front_end = trial.sign("--journal", str(path), "--no-ticks")
+    if trial.holds(
+        f"{name}: a sign starts", front_end.port != 0 and words in front_end.errors, front_end.errors.decode()
+    ):
+        manager = Manager(front_end.port)
         octets = manager.request(wire.SET, changes.counter())
-        found = manager.surely(octets, lambda: door.process.poll() is not None)
+        found = manager.surely(octets, lambda: front_end.process.poll() is not None)
         trial.holds(f"{name}: it answers Gets, and no SET", found is None and bool(manager.get([Changes.COUNTER])))
         manager.close()
-    status = door.stop()
-    trial.holds(f"{name}: its exit status is 1", status == 1 and b"lost at the next start" in door.errors, door.errors)
-    door = trial.sign("--journal", str(path), "--no-ticks")
+    status = front_end.stop()
+    trial.holds(
+        f"{name}: its exit status is 1", status == 1 and b"lost at the next start" in front_end.errors, front_end.errors
+    )
+    front_end = trial.sign("--journal", str(path), "--no-ticks")
     repair()
     follower = Follower(path)
-    trial.holds(f"{name}: then SETs are answered", all(_answered(follower, door, changes, 3)), door.errors.decode())
-    trial.holds(f"{name}: and it ends well", door.stop() == 0, door.errors.decode())
+    trial.holds(
+        f"{name}: then SETs are answered", all(_answered(follower, front_end, changes, 3)), front_end.errors.decode()
+    )
+    trial.holds(f"{name}: and it ends well", front_end.stop() == 0, front_end.errors.decode())
     after = trial.sign("--journal", str(path), "--no-ticks")
     if trial.holds(f"{name}: and starts again", after.port != 0, after.errors.decode()):
         manager = Manager(after.port)
@@ -137,13 +153,13 @@ def _goes_on(trial: Trial, name: str, path: pathlib.Path, words: bytes, repair: 
 def _seconds_on_full(trial: Trial, mounted: Mounted) -> None:
     """On a disk that is full at a start seconds pass and a duration ends; it is said each minute, and written after."""
     path = mounted.folder / "seconds"
-    door, changes, follower = trial.sign("--journal", str(path)), Changes(trial.chance), Follower(path)
-    manager = Manager(door.port)
+    front_end, changes, follower = trial.sign("--journal", str(path)), Changes(trial.chance), Follower(path)
+    manager = Manager(front_end.port)
     code = Activation(1, 255, MessageId(7, 9, 0), b"\x7f\0\0\1")
     octets = manager.request(wire.SET, [(DMS + (6, 3, 0), (wire.OCTETS, code.octets(False)))])
     trial.holds("a message of a minute is shown", follower.surely(manager, octets, lambda: False))
     manager.close()
-    door.stop()
+    front_end.stop()
     with open(path, "ab") as file:
         number = path.read_bytes().count(b"\n") + 1
         while (path.stat().st_size + 60) % PAGE > 60:  # a full page has no room for another record
@@ -151,16 +167,18 @@ def _seconds_on_full(trial: Trial, mounted: Mounted) -> None:
             file.flush()
             number += 1
     filler = mounted.fill()
-    door = trial.sign("--journal", str(path))
-    manager = Manager(door.port)
-    is_told = eventually(lambda: b"lost at the next start" in door.errors, 70.0)
-    trial.holds("on a full disk it is said each minute", is_told, door.errors.decode())
+    front_end = trial.sign("--journal", str(path))
+    manager = Manager(front_end.port)
+    is_told = eventually(lambda: b"lost at the next start" in front_end.errors, 70.0)
+    trial.holds("on a full disk it is said each minute", is_told, front_end.errors.decode())
     mode = manager.get([DMS + (6, 7, 0)])
     trial.holds("and a duration ends", bool(mode) and mode[0][1] == (wire.INTEGER, 14), mode)
     filler.unlink()
-    trial.holds("with room again a SET is answered", all(_answered(follower, door, changes, 2)), door.errors.decode())
+    trial.holds(
+        "with room again a SET is answered", all(_answered(follower, front_end, changes, 2)), front_end.errors.decode()
+    )
     manager.close()
-    trial.holds("and nothing is lost", door.stop() == 0, door.errors.decode())
+    trial.holds("and nothing is lost", front_end.stop() == 0, front_end.errors.decode())
     _look_again(trial, "after seconds on a full disk", path, follower)
 
 
@@ -170,52 +188,60 @@ def _centre_on_full(trial: Trial, mounted: Mounted) -> None:
     words = ["--to", "127.0.0.1:9", "--journal", str(mounted.folder / "centre"), "--tick", "900", "--wait", "0.1"]
     rows: list[tuple[list[str], bytes]] = [([], b"not begun: it cannot be recorded: "), (["--need-journal"], b"")]
     for more, told in rows:
-        door = trial.door("wisangub-centre", *words, *more, stdin=subprocess.PIPE)
-        assert door.process.stdin is not None
+        front_end = trial.front_end("wisangub-centre", *words, *more, stdin=subprocess.PIPE)
+        assert front_end.process.stdin is not None
         try:
-            door.process.stdin.write(b"status\nblank 5 65535 255 127.0.0.1\n")
-            door.process.stdin.close()
+            front_end.process.stdin.write(b"status\nblank 5 65535 255 127.0.0.1\n")
+            front_end.process.stdin.close()
         except BrokenPipeError:
             pass
-        status = door.ended()
-        is_well = status in (1, 2) and told in door.output and b"No space left" in door.errors
-        trial.holds(f"a centre on a full disk {more}", is_well, (status, door.output, door.errors))
+        status = front_end.ended()
+        is_well = status in (1, 2) and told in front_end.output and b"No space left" in front_end.errors
+        trial.holds(f"a centre on a full disk {more}", is_well, (status, front_end.output, front_end.errors))
     filler.unlink()
 
 
 def _log_on_full(trial: Trial, mounted: Mounted) -> None:
-    """A log whose disk is full: its door goes on, and writes it again where there is room."""
+    """A log whose disk is full: its front end goes on, and writes it again where there is room."""
     log = mounted.folder / "log"
     path = trial.new_folder() / "journal"
     follower, changes = Follower(path), Changes(trial.chance)
-    door = trial.sign("--journal", str(path), "--no-ticks", "--log", str(log))
+    front_end = trial.sign("--journal", str(path), "--no-ticks", "--log", str(log))
     filler = mounted.fill()
     trial.holds(
-        "with a log on a full disk SETs are answered", all(_answered(follower, door, changes, 30)), door.errors.decode()
+        "with a log on a full disk SETs are answered",
+        all(_answered(follower, front_end, changes, 30)),
+        front_end.errors.decode(),
     )
-    is_told = eventually(lambda: b"the log" in door.errors and b"No space left" in door.errors)
-    trial.holds("and the door says so", is_told, door.errors)
+    is_told = eventually(lambda: b"the log" in front_end.errors and b"No space left" in front_end.errors)
+    trial.holds("and the front end says so", is_told, front_end.errors)
     filler.unlink()
-    trial.holds("with room again SETs are answered", all(_answered(follower, door, changes, 3)), door.errors.decode())
-    trial.holds("and the log is written again", b"written again" in door.errors, door.errors.decode())
-    trial.holds("such a door ends well", door.stop() == 0 and b"Exception" not in door.errors, door.errors.decode())
+    trial.holds(
+        "with room again SETs are answered", all(_answered(follower, front_end, changes, 3)), front_end.errors.decode()
+    )
+    trial.holds("and the log is written again", b"written again" in front_end.errors, front_end.errors.decode())
+    trial.holds(
+        "such a front end ends well",
+        front_end.stop() == 0 and b"Exception" not in front_end.errors,
+        front_end.errors.decode(),
+    )
     torn = [line for line in log.read_text(encoding="utf-8").splitlines() if not line.startswith("20")]
     trial.holds("each line of the log is one", not torn, torn)
 
 
 def _look_again(trial: Trial, name: str, path: pathlib.Path, follower: Follower) -> None:
-    """What a door finds after a kill is what was answered."""
-    door = trial.sign("--journal", str(path), "--no-ticks")
-    if trial.holds(f"{name}: a door starts", door.port != 0, door.errors.decode()):
-        manager = Manager(door.port)
+    """What a front end finds after a kill is what was answered."""
+    front_end = trial.sign("--journal", str(path), "--no-ticks")
+    if trial.holds(f"{name}: a front end starts", front_end.port != 0, front_end.errors.decode()):
+        manager = Manager(front_end.port)
         follower.catch_up(trial, name)
         follower.compare(trial, name, manager)
         manager.close()
-    trial.holds(f"{name}: and ends", door.stop() == 0, door.errors.decode())
+    trial.holds(f"{name}: and ends", front_end.stop() == 0, front_end.errors.decode())
 
 
 def _read_only(trial: Trial, mounted: Mounted) -> None:
-    """A folder that can only be read: no door begins there."""
+    """A folder that can only be read: no front end begins there."""
     path = mounted.folder / "journal"
     if not mounted.remount("ro"):
         trial.skip("a folder that can only be read", "it cannot be mounted so")
@@ -229,18 +255,20 @@ def _read_only(trial: Trial, mounted: Mounted) -> None:
             trial, f"a disk that can only be read at the start of {name}", mounted.folder / name, b"Read-only", how
         )
     mounted.remount("rw")
-    door = trial.sign("--journal", str(path), "--no-ticks")
+    front_end = trial.sign("--journal", str(path), "--no-ticks")
     trial.holds(
-        "and it begins where it can be written again", door.port != 0 and door.stop() == 0, door.errors.decode()
+        "and it begins where it can be written again",
+        front_end.port != 0 and front_end.stop() == 0,
+        front_end.errors.decode(),
     )
 
 
 def refused(trial: Trial, name: str, path: str, words: bytes, *more: str) -> None:
-    """No door begins on this file, and it says why. One that needs its journal may have failed at writing it."""
-    door = trial.sign("--journal", path, *more)
-    is_status = door.ended() in ((1, 2) if more else (2,))
-    is_well = is_status and words in door.errors and b"Traceback" not in door.errors and not door.output
-    trial.holds(f"{name}: refused in words", is_well, (door.process.returncode, door.errors.decode()))
+    """No front end begins on this file, and it says why. One that needs its journal may have failed at writing it."""
+    front_end = trial.sign("--journal", path, *more)
+    is_status = front_end.ended() in ((1, 2) if more else (2,))
+    is_well = is_status and words in front_end.errors and b"Traceback" not in front_end.errors and not front_end.output
+    trial.holds(f"{name}: refused in words", is_well, (front_end.process.returncode, front_end.errors.decode()))
 
 
 def run(trial: Trial) -> None:

@@ -1,4 +1,4 @@
-"""Standard files of a door that are closed, or full, or that nobody reads."""
+"""Standard files of a front end that are closed, or full, or that nobody reads."""
 
 import functools
 import os
@@ -15,7 +15,8 @@ from .patience import PACE
 
 
 def run(trial: Trial) -> None:
-    """Standard files that are closed, or full: no file of a door's own has their numbers, and the door goes on."""
+    """Standard files that are closed, or full: no file of a front end's own has their numbers, and the front end
+    goes on."""
     rows = [">&-", "2>&-", "<&- >&- 2>&-", ">/dev/full", "2>/dev/full", "| true"]
     for row in rows:
         if trial.is_late():
@@ -44,7 +45,7 @@ def _shell(line: str, call: list[str]) -> subprocess.Popen[bytes]:
 
 
 def _has_begun(path: pathlib.Path) -> bool:
-    """Whether a door has recorded its start."""
+    """Whether a front end has recorded its start."""
     try:
         return any(line.startswith(b"clock ") for line in lines_of(path.read_bytes()))
     except OSError:
@@ -52,7 +53,7 @@ def _has_begun(path: pathlib.Path) -> bool:
 
 
 def _ended(process: subprocess.Popen[bytes], path: pathlib.Path, program: str) -> bytes:
-    """Asks the door of a journal to end, whose process may be a shell's: what it said on standard error."""
+    """Asks the front end of a journal to end, whose process may be a shell's: what it said on standard error."""
     numbers = [int(name) for name in os.listdir("/proc") if name.isdecimal()]
     for number in numbers:
         try:

@@ -1,4 +1,4 @@
-"""A sign's door, its co-process, or both are killed at random moments, again and again, over one journal."""
+"""A sign's front end, its co-process, or both are killed at random moments, again and again, over one journal."""
 
 import pathlib
 import threading
@@ -6,15 +6,15 @@ import time
 
 from model import wire
 
-from .bench import Door, Trial, eventually, is_gone
+from .bench import FrontEnd, Trial, eventually, is_gone
 from .follower import Follower
 from .manager import Manager
 from .requests import Changes
 
 
-def killed_later(door: Door, which: str, seconds: float) -> threading.Timer:
+def killed_later(front_end: FrontEnd, which: str, seconds: float) -> threading.Timer:
     """A kill so many seconds from now."""
-    timer = threading.Timer(seconds, door.kill, (which,))
+    timer = threading.Timer(seconds, front_end.kill, (which,))
     timer.daemon = True
     timer.start()
     return timer
@@ -34,14 +34,14 @@ class _Kills:
         """A life that is killed while it starts, or soon after."""
         which = self.trial.chance.choice(self.trial.victims())
         name = f"life {at}, {which} killed at its start"
-        door = self.trial.door("wisangub-sign", "--port", "0", "--journal", str(self.path), "--no-ticks")
+        front_end = self.trial.front_end("wisangub-sign", "--port", "0", "--journal", str(self.path), "--no-ticks")
         time.sleep(self.trial.chance.uniform(0.0, 1.2 * self.takes))
-        inner = door.inner()
-        door.kill(which)
+        inner = front_end.inner()
+        front_end.kill(which)
         if which == "co-process":
-            eventually(lambda: door.process.poll() is not None, self.takes)
-            door.stop()
-        self.over(name, door, inner)
+            eventually(lambda: front_end.process.poll() is not None, self.takes)
+            front_end.stop()
+        self.over(name, front_end, inner)
         is_killed = which != "co-process" or inner is not None
         self.killed, self.early_kills = self.killed + is_killed, self.early_kills + is_killed
 
@@ -50,47 +50,47 @@ class _Kills:
         has_ticks = at % 3 == 2
         which = self.trial.chance.choice(self.trial.victims())
         begun = time.monotonic()
-        door = self.trial.sign("--journal", str(self.path), *([] if has_ticks else ["--no-ticks"]))
+        front_end = self.trial.sign("--journal", str(self.path), *([] if has_ticks else ["--no-ticks"]))
         self.takes = time.monotonic() - begun
         name = f"life {at}, {which} killed"
-        if not self.trial.holds(f"{name}: it starts", door.port != 0, door.errors.decode()):
+        if not self.trial.holds(f"{name}: it starts", front_end.port != 0, front_end.errors.decode()):
             return
-        manager = Manager(door.port)
+        manager = Manager(front_end.port)
         if not has_ticks:
             self.look(name, manager)
-        inner = door.inner()
-        timer = killed_later(door, which, self.trial.chance.uniform(0.001, 1.3 if has_ticks else 0.1))
-        self.ask(door, manager, 0.1 if has_ticks else 0.0)
+        inner = front_end.inner()
+        timer = killed_later(front_end, which, self.trial.chance.uniform(0.001, 1.3 if has_ticks else 0.1))
+        self.ask(front_end, manager, 0.1 if has_ticks else 0.0)
         timer.join()
         if which == "co-process":
-            self.dies_too(name, door)
-        self.over(name, door, inner)
+            self.dies_too(name, front_end)
+        self.over(name, front_end, inner)
         manager.close()
         self.killed += 1
 
-    def over(self, name: str, door: Door, inner: int | None) -> None:
+    def over(self, name: str, front_end: FrontEnd, inner: int | None) -> None:
         """Nothing of this life stays."""
-        self.trial.holds(f"{name}: it ended", door.ended() != 999)
+        self.trial.holds(f"{name}: it ended", front_end.ended() != 999)
         self.trial.holds(f"{name}: its co-process ended", eventually(lambda: is_gone(inner)), inner)
-        self.trial.holds(f"{name}: no traceback", b"Traceback" not in door.errors, door.errors.decode())
-        door.forget()
-        self.trial.doors.remove(door)
+        self.trial.holds(f"{name}: no traceback", b"Traceback" not in front_end.errors, front_end.errors.decode())
+        front_end.forget()
+        self.trial.front_ends.remove(front_end)
 
-    def dies_too(self, name: str, door: Door) -> None:
-        """A door whose co-process was killed says so and ends, at the next datagram at the latest."""
-        last = Manager(door.port, b"public")
+    def dies_too(self, name: str, front_end: FrontEnd) -> None:
+        """A front end whose co-process was killed says so and ends, at the next datagram at the latest."""
+        last = Manager(front_end.port, b"public")
         last.get([Changes.COUNTER], 0.2)
         last.close()
-        status = door.ended()
+        status = front_end.ended()
         self.trial.holds(
-            f"{name}: the door ends",
-            status == 1 and b"co-process ended by signal 9" in door.errors,
-            (status, door.errors.decode()),
+            f"{name}: the front end ends",
+            status == 1 and b"co-process ended by signal 9" in front_end.errors,
+            (status, front_end.errors.decode()),
         )
 
-    def ask(self, door: Door, manager: Manager, pause: float) -> None:
+    def ask(self, front_end: FrontEnd, manager: Manager, pause: float) -> None:
         """SETs and Gets until the kill, one by one or up to sixteen at once, with pauses between them."""
-        while door.process.poll() is None:
+        while front_end.process.poll() is None:
             time.sleep(self.trial.chance.uniform(0.0, pause))
             many, counts = [], []
             for _ in range(self.trial.chance.choice([1, 1, 1, 1, 1, 2, 16])):
@@ -118,14 +118,14 @@ class _Kills:
 
     def last(self) -> None:
         """A life that ends well."""
-        door = self.trial.sign("--journal", str(self.path), "--no-ticks")
-        if self.trial.holds("after all kills: it starts", door.port != 0, door.errors.decode()):
-            manager = Manager(door.port)
+        front_end = self.trial.sign("--journal", str(self.path), "--no-ticks")
+        if self.trial.holds("after all kills: it starts", front_end.port != 0, front_end.errors.decode()):
+            manager = Manager(front_end.port)
             self.look("after all kills", manager)
             manager.close()
-        self.trial.holds("after all kills: it ends at a SIGTERM", door.stop() == 0, door.errors.decode())
-        door.forget()
-        self.trial.doors.remove(door)
+        self.trial.holds("after all kills: it ends at a SIGTERM", front_end.stop() == 0, front_end.errors.decode())
+        front_end.forget()
+        self.trial.front_ends.remove(front_end)
 
     def look(self, name: str, manager: Manager) -> None:
         """After a start: the journal, the counter, the whole walk."""

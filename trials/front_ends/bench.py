@@ -1,4 +1,4 @@
-"""What each trial needs: doors that are started and killed, and a count of what held."""
+"""What each trial needs: front ends that are started and killed, and a count of what held."""
 
 import os
 import pathlib
@@ -26,7 +26,7 @@ _MOST_TOLD = 3000  # characters of what was found, the last ones
 @dataclass
 class Trial:
     """A folder of its own, the program, chance, whether it is the short form, and what came of it. Where another sign's
-    door is tried than wisangub-sign, `other` is its program: it is one process and takes the options --port,
+    front end is tried than wisangub-sign, `other` is its program: it is one process and takes the options --port,
     --journal, --down, --no-ticks and --quiet, and then a description."""
 
     program: str
@@ -37,8 +37,8 @@ class Trial:
     passed: int = 0
     failed: int = 0
     skipped: int = 0
-    doors: list["Door"] = field(default_factory=list)
-    helps: str | None = None  # what the other door says of its options
+    front_ends: list["FrontEnd"] = field(default_factory=list)
+    helps: str | None = None  # what the other front end says of its options
     ends: float = 0.0  # in the short form, when a kind of trial goes on no more
 
     def holds(self, name: str, is_well: bool, found: object = "") -> bool:
@@ -63,17 +63,17 @@ class Trial:
         return pathlib.Path(tempfile.mkdtemp(dir=self.folder))
 
     def is_ours(self, name: str) -> bool:
-        """Whether the sign's door is wisangub-sign; what only that has is told of another."""
+        """Whether the sign's front end is wisangub-sign; what only that has is told of another."""
         if self.other:
-            print(f"left out {name}: the door is {self.other}", flush=True)
+            print(f"left out {name}: the front end is {self.other}", flush=True)
         return self.other is None
 
     def victims(self) -> tuple[str, ...]:
-        """What of a sign's door can be killed."""
-        return ("door",) if self.other else ("door", "co-process", "both")
+        """What of a sign's front end can be killed."""
+        return ("front end",) if self.other else ("front end", "co-process", "both")
 
     def bench(self) -> pathlib.Path:
-        """The bench sign's description, for a door that has to be handed one."""
+        """The bench sign's description, for a front end that has to be handed one."""
         path = self.folder / "bench.sign"
         if not path.exists():
             path.write_bytes(text.BENCH)
@@ -84,55 +84,55 @@ class Trial:
         return Head("sign", description.digest(description.read(str(self.bench())) if self.other else None), **words)
 
     def call(self, tool: str, *words: str) -> list[str]:
-        """The call of a door."""
+        """The call of a front end."""
         if not self.other or tool != "wisangub-sign":
             return [sys.executable, str(TOP / "bin" / tool), "--signtool", self.program, *words]
         at = words.index("--sign") if "--sign" in words else len(words)
         return [self.other, *words[:at], *words[at + 2 :], words[at + 1] if words[at:] else str(self.bench())]
 
     def has(self, option: str) -> bool:
-        """Whether the sign's door has this option."""
+        """Whether the sign's front end has this option."""
         if self.other and self.helps is None:
             found = subprocess.run([self.other, "--help"], capture_output=True, check=False, timeout=PACE.patience())
             self.helps = (found.stdout + found.stderr).decode("latin-1")
         return self.helps is None or option in self.helps
 
-    def door(
+    def front_end(
         self, tool: str, *words: str, environment: dict[str, str] | None = None, stdin: int | None = subprocess.DEVNULL
-    ) -> "Door":
-        """A door that is started."""
-        door = Door(self.call(tool, *words), environment, stdin)
-        self.doors.append(door)
-        return door
+    ) -> "FrontEnd":
+        """A front end that is started."""
+        front_end = FrontEnd(self.call(tool, *words), environment, stdin)
+        self.front_ends.append(front_end)
+        return front_end
 
-    def sign(self, *words: str, environment: dict[str, str] | None = None) -> "Door":
+    def sign(self, *words: str, environment: dict[str, str] | None = None) -> "FrontEnd":
         """A sign at a port of its own, which it tells."""
         begun = time.monotonic()
         is_free = "--journal" in words and "--most-recorded" not in words and self.has("--most-recorded")
         more = ["--most-recorded", str(10**6)] if is_free else []  # most trials ask as fast as they can
-        door = self.door("wisangub-sign", "--port", "0", *more, *words, environment=environment)
-        if door.wait_for_port():
+        front_end = self.front_end("wisangub-sign", "--port", "0", *more, *words, environment=environment)
+        if front_end.wait_for_port():
             PACE.took(time.monotonic() - begun)
-        return door
+        return front_end
 
     def measure(self) -> None:
         """What a start takes on this machine now."""
         for _ in range(2):
-            door = self.sign("--no-ticks")
-            door.stop()
-            door.forget()
-            self.doors.remove(door)
+            front_end = self.sign("--no-ticks")
+            front_end.stop()
+            front_end.forget()
+            self.front_ends.remove(front_end)
 
     def end(self) -> None:
         """Nothing that was started goes on."""
-        for door in self.doors:
-            door.kill("both")
-            door.forget()
-        self.doors.clear()
+        for front_end in self.front_ends:
+            front_end.kill("both")
+            front_end.forget()
+        self.front_ends.clear()
 
 
-class Door:
-    """A door's process, and what it printed."""
+class FrontEnd:
+    """A front end's process, and what it printed."""
 
     def __init__(self, call: list[str], environment: dict[str, str] | None, stdin: int | None) -> None:
         self.process = subprocess.Popen(
@@ -183,10 +183,10 @@ class Door:
             ticks += int(words[11]) + int(words[12])
         return ticks / os.sysconf("SC_CLK_TCK")
 
-    def kill(self, which: str = "door") -> None:
-        """SIGKILL to the door, to its co-process, or to both."""
+    def kill(self, which: str = "front end") -> None:
+        """SIGKILL to the front end, to its co-process, or to both."""
         numbers = [self.inner()] if which in ("co-process", "both") else []
-        numbers += [self.process.pid] if which in ("door", "both") and self.process.poll() is None else []
+        numbers += [self.process.pid] if which in ("front end", "both") and self.process.poll() is None else []
         for number in numbers:
             if number is not None:
                 try:

@@ -1,4 +1,4 @@
-"""What a door says to a user who is wrong: a line, a status, and never a traceback."""
+"""What a front end says to a user who is wrong: a line, a status, and never a traceback."""
 
 import os
 import pathlib
@@ -8,39 +8,39 @@ import subprocess
 
 from wisangub.process.places import TOP
 
-from .bench import Door, Trial
+from .bench import FrontEnd, Trial
 from .patience import PACE
 
-_AT_ONCE = 8  # doors that are started together
+_AT_ONCE = 8  # front ends that are started together
 _RESOLVER = {"RES_OPTIONS": "timeout:1 attempts:1", "LOCALDOMAIN": ""}  # no server of names is waited for long
 Row = tuple[str, list[str], str]  # what is wrong, the options, and the words of the refusal
 
 
-def _says(trial: Trial, name: str, door: Door, status: int, words: str) -> None:
-    """A door ends with this status and these words, and announces nothing."""
-    found = door.ended()
+def _says(trial: Trial, name: str, front_end: FrontEnd, status: int, words: str) -> None:
+    """A front end ends with this status and these words, and announces nothing."""
+    found = front_end.ended()
     well = (
         found == status
-        and words.encode() in door.errors
-        and b"Traceback" not in door.errors
-        and b"a sign at" not in door.output
+        and words.encode() in front_end.errors
+        and b"Traceback" not in front_end.errors
+        and b"a sign at" not in front_end.output
     )
-    trial.holds(f"{name}: said in words", well, (found, door.errors.decode(), door.output.decode()))
+    trial.holds(f"{name}: said in words", well, (found, front_end.errors.decode(), front_end.output.decode()))
 
 
 def refused(trial: Trial, tool: str, rows: list[Row]) -> None:
-    """Each row's door says so, with status 2."""
+    """Each row's front end says so, with status 2."""
     for at in range(0, len(rows), _AT_ONCE):
         if trial.is_late():
             break
         some = rows[at : at + _AT_ONCE]
-        doors = [trial.door(tool, *words, environment=_RESOLVER) for _, words, _ in some]
-        for (name, _, told), door in zip(some, doors):
-            _says(trial, name, door, 2, told)
+        front_ends = [trial.front_end(tool, *words, environment=_RESOLVER) for _, words, _ in some]
+        for (name, _, told), front_end in zip(some, front_ends):
+            _says(trial, name, front_end, 2, told)
 
 
 def signs(trial: Trial) -> None:
-    """The sign's door."""
+    """The sign's front end."""
     folder = trial.new_folder()
     roadside = (TOP / "signs/roadside.sign").read_text(encoding="utf-8")
     (folder / "bad.sign").write_text("size 300 27\n" + "".join(roadside.splitlines(True)[1:]), encoding="utf-8")
@@ -115,7 +115,7 @@ def _of_files(folder: pathlib.Path) -> list[Row]:
 
 
 def described(trial: Trial) -> None:
-    """A description that is refused: both doors show its line, and what the program says of it."""
+    """A description that is refused: both front ends show its line, and what the program says of it."""
     text = (TOP / "signs/roadside.sign").read_text(encoding="utf-8")
     folder = trial.new_folder()
     for name, wrong, right in (
@@ -132,14 +132,14 @@ def described(trial: Trial) -> None:
         line = program.stdout.decode().strip()
         trial.holds(f"{name}: the program refuses it", re.fullmatch(r"line \d+", line) is not None, program)
         for tool, words in (("wisangub-sign", ["--port", "0"]), ("wisangub-centre", ["--to", "127.0.0.1:9"])):
-            door = trial.door(tool, "--sign", str(path), *words)
-            _says(trial, f"{name}, {tool}", door, 2, f"{path}: {line}: no description of a sign")
-            is_told = all(said in door.errors for said in program.stderr.splitlines())
-            trial.holds(f"{name}, {tool}: with the program's reason", is_told, (program.stderr, door.errors))
+            front_end = trial.front_end(tool, "--sign", str(path), *words)
+            _says(trial, f"{name}, {tool}", front_end, 2, f"{path}: {line}: no description of a sign")
+            is_told = all(said in front_end.errors for said in program.stderr.splitlines())
+            trial.holds(f"{name}, {tool}: with the program's reason", is_told, (program.stderr, front_end.errors))
 
 
 def centres(trial: Trial) -> None:
-    """The centre's door."""
+    """The centre's front end."""
     rows: list[Row] = [
         ("a bad --to", ["--to", "127.0.0.1"], "no HOST:PORT"),
         ("a port of 0", ["--to", "127.0.0.1:0"], "no HOST:PORT"),

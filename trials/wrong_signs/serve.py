@@ -1,4 +1,4 @@
-"""A wrong sign on a UDP port, to see what a report looks like: python3 -m trials.wrong_signs.door --sign FILE NAME ..
+"""A wrong sign on a UDP port, to see what a report looks like: python3 -m trials.wrong_signs.serve --sign FILE NAME ..
 
 The names are those of the tables in trials/wrong_signs; the sign has all of these edits at once. It ticks once a
 second, and ends at an interrupt or a SIGTERM.
@@ -35,7 +35,7 @@ class Wrong:
 
 def main() -> int:
     parser = argparse.ArgumentParser(
-        prog="python3 -m trials.wrong_signs.door", description="a wrong sign on a UDP port"
+        prog="python3 -m trials.wrong_signs.serve", description="a wrong sign on a UDP port"
     )
     parser.add_argument("names", nargs="+", metavar="NAME", choices=[mutant.name for mutant in MUTANTS])
     parser.add_argument("--port", type=int, default=1161)
@@ -44,11 +44,11 @@ def main() -> int:
     description = asked.sign.read_bytes()
     sign = Wrong(sign_of([mutant for mutant in MUTANTS if mutant.name in asked.names], description))
     signal.signal(signal.SIGTERM, stop)
-    with socket.socket(socket.AF_INET, socket.SOCK_DGRAM) as door:
-        door.bind(("127.0.0.1", asked.port))
-        print(f"a wrong sign at 127.0.0.1:{door.getsockname()[1]}", flush=True)
+    with socket.socket(socket.AF_INET, socket.SOCK_DGRAM) as udp_socket:
+        udp_socket.bind(("127.0.0.1", asked.port))
+        print(f"a wrong sign at 127.0.0.1:{udp_socket.getsockname()[1]}", flush=True)
         try:
-            serve(door, sign, RealClock(), Watch(described(description).reader), None)
+            serve(udp_socket, sign, RealClock(), Watch(described(description).reader), None)
         except (Stopped, KeyboardInterrupt):
             pass
     return 0

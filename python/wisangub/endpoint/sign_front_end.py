@@ -28,7 +28,7 @@ def line_of(octets: bytes) -> bytes:
     return b"datagram " + (hexlify(octets) or b"-")
 
 
-class SignDoor:
+class SignFrontEnd:
     """`lose`: every so many datagrams one is lost, 0 for none. Without a keeper nothing is kept. `up` is the moment up
     to which the sign was told the time. With a keeper the communities are known, and a limit. A watcher is told what
     passes."""
@@ -36,7 +36,7 @@ class SignDoor:
     def __init__(
         self,
         sign: CoProcess,
-        door: socket.socket,
+        udp_socket: socket.socket,
         keeper: Keeper | None,
         log: Log | None,
         up: float,
@@ -46,7 +46,7 @@ class SignDoor:
         limit: Limit[Heard] | None = None,
         watcher: Watcher | None = None,
     ) -> None:
-        self.sign, self.door, self.keeper, self.log = sign, door, keeper, log
+        self.sign, self.udp_socket, self.keeper, self.log = sign, udp_socket, keeper, log
         self.communities, self.limit = communities, limit or Limit()
         self.up, self.lose, self.is_quiet, self.count = up, lose, is_quiet, 0
         self.watcher = watcher or Watcher()
@@ -60,7 +60,7 @@ class SignDoor:
                 self.tick()
                 continue
             times = (left, self.limit.wait(running()), self.watcher.wait(running()))
-            files = [self.door.fileno(), *self.watcher.files()]
+            files = [self.udp_socket.fileno(), *self.watcher.files()]
             is_there = waiting.until(files, min((one for one in times if one is not None), default=None))
             if has_ticks and running() >= self.up + 1:
                 continue
@@ -84,7 +84,7 @@ class SignDoor:
     def waiting_datagrams(self) -> list[Heard]:
         """What waits, at most so many at once; one that is longer than this profile's counts as lost."""
         found: list[Heard] = []
-        while len(found) < AT_ONCE and (one := received(self.door)) is not None:
+        while len(found) < AT_ONCE and (one := received(self.udp_socket)) is not None:
             self.count += 1
             if self.lose and self.count % self.lose == 0 or len(one[0]) > MOST_DATAGRAM or self.watcher.loses():
                 if self.log:
@@ -137,7 +137,7 @@ class SignDoor:
 
     def is_answered(self, one: Sorted, answer: bytes) -> bool:
         """Sends a reply, where there is one. A change that is not recorded would not be there after a start: its reply
-        is not sent, and the door ends."""
+        is not sent, and the front end ends."""
         heard, sort = one
         if sort is Sort.UNANSWERED and answer != b"dropped" or sort is Sort.HEARD and answer.startswith(b"accepted"):
             raise Refusal("the program answered what no sign answers: it is not recorded", 1)
@@ -159,7 +159,7 @@ class SignDoor:
                 self.log.event("reply lost", sender, {"octets": len(octets)})
             return True
         try:
-            self.door.sendto(octets, sender)
+            self.udp_socket.sendto(octets, sender)
         except OSError as fault:
             LOG.info(f"a reply is lost: {reason(fault)}")
         if self.log:

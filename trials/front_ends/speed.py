@@ -1,4 +1,4 @@
-"""How many requests a second a sign's door answers, with and without a journal, one or sixteen in flight."""
+"""How many requests a second a sign's front end answers, with and without a journal, one or sixteen in flight."""
 
 import os
 import select
@@ -58,14 +58,14 @@ def run(trial: Trial) -> None:
     seconds = 0.3 if trial.is_short else SECONDS
     for is_kept in (False, True):
         words = ["--journal", str(trial.new_folder() / "journal")] if is_kept else []
-        door = trial.sign(*words)
+        front_end = trial.sign(*words)
         for kind, name in ((wire.GET, "Gets"), (wire.SET, "SETs")):
             for in_flight in (1, 16):
-                found = _rate(door.port, kind, in_flight, seconds)
+                found = _rate(front_end.port, kind, in_flight, seconds)
                 trial.holds(f"{name}, {in_flight} in flight: answered", found > 1, found)
                 print(
                     f"{'with' if is_kept else 'without'} a journal, {name}, {in_flight} in flight: "
                     f"{found:.0f} a second, load {os.getloadavg()[0]:.1f} of {os.cpu_count()} processors",
                     flush=True,
                 )
-        trial.holds("a sign ends after many requests", door.stop() == 0, door.errors.decode())
+        trial.holds("a sign ends after many requests", front_end.stop() == 0, front_end.errors.decode())

@@ -1,5 +1,5 @@
-"""Each request of vectors/ as it stands and in every form of its lengths, one at a time: its door's parts are let go
-where they are after the reply, its co-process is killed, and what the journal brings back is looked at."""
+"""Each request of vectors/ as it stands and in every form of its lengths, one at a time: its front end's parts are
+let go where they are after the reply, its co-process is killed, and what the journal brings back is looked at."""
 
 import contextlib
 import io
@@ -14,7 +14,7 @@ from wisangub.endpoint.clock import Moment
 from wisangub.endpoint.journal import Journal
 from wisangub.endpoint.keeper import Keeper
 from wisangub.endpoint.records import Head
-from wisangub.endpoint.sign_door import SignDoor
+from wisangub.endpoint.sign_front_end import SignFrontEnd
 from wisangub.process import description
 from wisangub.process.coprocess import CoProcess
 
@@ -87,8 +87,8 @@ class _Spelled:
         process, keeper = self.started()
         self.look(process)
         wires: Any = _Wire()
-        door = SignDoor(process, wires, keeper, None, 1000.0, is_quiet=True, communities=_WHO)
-        door.answer([(made, ("127.0.0.1", 1))])
+        front_end = SignFrontEnd(process, wires, keeper, None, 1000.0, is_quiet=True, communities=_WHO)
+        front_end.answer([(made, ("127.0.0.1", 1))])
         wanted, _ = self.sign.receive(made)
         name = f"{made.hex()}, {name}"
         if wires.sent != ([] if wanted is None else [wanted]):

@@ -1,4 +1,4 @@
-"""A sign's door over a journal: examples/signd.c or wisangub-sign."""
+"""A sign's front end over a journal: examples/signd.c or wisangub-sign."""
 
 from __future__ import annotations
 
@@ -19,8 +19,8 @@ _MOST_START = 60.0  # seconds
 MOST_REPLY = 20.0
 
 
-class Door:
-    """A door of one kind over a journal, or none, at a port of its own."""
+class FrontEnd:
+    """A front end of one kind over a journal, or none, at a port of its own."""
 
     def __init__(
         self,

@@ -18,7 +18,7 @@ from .requests import Changes
 
 
 class _Files:
-    """A journal that a door wrote, and what becomes of it."""
+    """A journal that a front end wrote, and what becomes of it."""
 
     def __init__(self, trial: Trial) -> None:
         self.trial, self.path = trial, trial.new_folder() / "journal"
@@ -29,17 +29,17 @@ class _Files:
     def made(self, *words: str) -> bytes:
         """What a life of several SETs and a Get leaves."""
         changes = Changes(self.trial.chance)
-        door = self.trial.sign("--journal", str(self.path), "--no-ticks", *words)
-        manager = Manager(door.port)
+        front_end = self.trial.sign("--journal", str(self.path), "--no-ticks", *words)
+        manager = Manager(front_end.port)
         for _ in range(6):
             manager.exchange(changes.next(manager))
             manager.get([Changes.COUNTER])
         manager.close()
-        self.trial.holds("a life ends at a SIGTERM", door.stop() == 0, door.errors.decode())
+        self.trial.holds("a life ends at a SIGTERM", front_end.stop() == 0, front_end.errors.decode())
         return self.path.read_bytes()
 
     def opened(self, octets: bytes) -> list[bytes] | str:
-        """The lines that a door has of these octets, or why it refuses them."""
+        """The lines that a front end has of these octets, or why it refuses them."""
         self.path.write_bytes(octets)
         try:
             with contextlib.redirect_stderr(io.StringIO()):
@@ -57,21 +57,21 @@ class _Files:
             path.unlink()
 
     def lines(self, octets: bytes) -> list[bytes]:
-        """The lines of whole records, without the door's own."""
+        """The lines of whole records, without the front end's own."""
         return [line for line in lines_of(octets) if not line.startswith(records.OWN)]
 
     def started(self, name: str, octets: bytes) -> None:
-        """A door on these octets goes on where they end."""
+        """A front end on these octets goes on where they end."""
         self.path.write_bytes(octets)
         follower = Follower(self.path)
-        door = self.trial.sign("--journal", str(self.path), "--no-ticks")
-        if self.trial.holds(f"{name}: a door starts", door.port != 0, door.errors.decode()):
-            manager = Manager(door.port)
+        front_end = self.trial.sign("--journal", str(self.path), "--no-ticks")
+        if self.trial.holds(f"{name}: a front end starts", front_end.port != 0, front_end.errors.decode()):
+            manager = Manager(front_end.port)
             for line in lines_of(self.path.read_bytes()):
                 follower.take(line)
             follower.compare(self.trial, name, manager)
             manager.close()
-        self.trial.holds(f"{name}: and ends", door.stop() == 0, door.errors.decode())
+        self.trial.holds(f"{name}: and ends", front_end.stop() == 0, front_end.errors.decode())
         self.tidy()
 
     def prefixes(self) -> None:
@@ -124,7 +124,7 @@ class _Files:
         self.trial.holds(f"{name}: the file stays", self.path.read_bytes() == octets)
 
     def others(self) -> None:
-        """Journals of something else, and doors beside one another."""
+        """Journals of something else, and front ends beside one another."""
         for head, words in (
             (self.trial.head(rules=2, form=2), "its rules is 2"),
             (self.trial.head(form=3), "its form is 3"),
@@ -146,17 +146,19 @@ class _Files:
         self.started("an empty file", b"")
         self.older()
         self.started("an untouched file", self.written)
-        door = self.trial.sign("--journal", str(self.path), "--no-ticks")
+        front_end = self.trial.sign("--journal", str(self.path), "--no-ticks")
         second = self.trial.sign("--journal", str(self.path), "--no-ticks")
         self.trial.holds(
-            "a second door ends at once",
-            second.ended() == 2 and b"another door holds this journal" in second.errors,
+            "a second front end ends at once",
+            second.ended() == 2 and b"another front end holds this journal" in second.errors,
             second.errors.decode(),
         )
-        self.trial.holds("and the first goes on", answers(door) and door.stop() == 0, door.errors.decode())
+        self.trial.holds(
+            "and the first goes on", answers(front_end) and front_end.stop() == 0, front_end.errors.decode()
+        )
 
     def older(self) -> None:
-        """A journal that another program wrote under the same rules; another door goes on from one of ours."""
+        """A journal that another program wrote under the same rules; another front end goes on from one of ours."""
         program, other = self.trial.program, self.trial.other
         self.trial.program, self.trial.other = str(TOP / "model/signtool"), None
         self.path.unlink()
@@ -165,13 +167,13 @@ class _Files:
         self.started("a journal of another program with the same rules", octets)
 
     def says(self, name: str, octets: bytes, words: str, *more: str) -> None:
-        """A door on these octets ends with status 2 and these words."""
+        """A front end on these octets ends with status 2 and these words."""
         self.path.write_bytes(octets)
-        door = self.trial.sign("--journal", str(self.path), *more)
+        front_end = self.trial.sign("--journal", str(self.path), *more)
         self.trial.holds(
-            f"{name}: the door says so and ends",
-            door.ended() == 2 and words.encode() in door.errors and not door.output,
-            door.errors.decode(),
+            f"{name}: the front end says so and ends",
+            front_end.ended() == 2 and words.encode() in front_end.errors and not front_end.output,
+            front_end.errors.decode(),
         )
 
 

@@ -7,7 +7,7 @@ import pathlib
 
 from model import wire
 
-from .bench import Door, Trial, eventually
+from .bench import FrontEnd, Trial, eventually
 from .follower import Follower
 from .manager import Manager
 from .refusals import built, refusing
@@ -29,9 +29,9 @@ _LIVES: list[tuple[str, int, dict[str, int]]] = [
 ]
 
 
-def _is_ending(door: Door) -> bool:
-    """Whether a door has ended, or said that it does."""
-    return door.process.poll() is not None or b"is not known" in door.errors
+def _is_ending(front_end: FrontEnd) -> bool:
+    """Whether a front end has ended, or said that it does."""
+    return front_end.process.poll() is not None or b"is not known" in front_end.errors
 
 
 class _Faults:
@@ -48,18 +48,20 @@ class _Faults:
         """A life with a fault, and one after it: whether there was a call to refuse."""
         also = "".join(f", {word} {value}" for word, value in more.items())
         name = f"{call} {at} refused with {errno.errorcode[error]}{also}"
-        door = self.trial.sign(
+        front_end = self.trial.sign(
             "--journal",
             str(self.path),
             "--no-ticks",
             environment=refusing(self.library, self.path, call, at, error, **more),
         )
-        answered = self.ask(door) if door.port else []
-        is_over = _is_ending(door) or answered[-1:] == [False] and eventually(lambda: _is_ending(door))
-        status = door.ended() if is_over else None
-        told = self.is_told(door, error, all(answered) and status is None)
+        answered = self.ask(front_end) if front_end.port else []
+        is_over = _is_ending(front_end) or answered[-1:] == [False] and eventually(lambda: _is_ending(front_end))
+        status = front_end.ended() if is_over else None
+        told = self.is_told(front_end, error, all(answered) and status is None)
         if status is not None:
-            self.trial.holds(f"{name}: it ends and says why", status in (1, 2) and told, (status, door.errors.decode()))
+            self.trial.holds(
+                f"{name}: it ends and says why", status in (1, 2) and told, (status, front_end.errors.decode())
+            )
             self.trial.holds(f"{name}: nothing is answered after it", not any(answered[sum(answered) :]), answered)
         elif told:
             self.trial.holds(
@@ -72,21 +74,21 @@ class _Faults:
         must_end = call == "fdatasync" or "cut" in more
         self.trial.holds(
             f"{name}: it goes on where it can",
-            not told or (status is not None) == must_end or not door.port,
-            (status, door.errors.decode()),
+            not told or (status is not None) == must_end or not front_end.port,
+            (status, front_end.errors.decode()),
         )
-        self.trial.holds(f"{name}: no traceback", b"Traceback" not in door.errors, door.errors.decode())
+        self.trial.holds(f"{name}: no traceback", b"Traceback" not in front_end.errors, front_end.errors.decode())
         if told and self.trial.chance.random() < 0.5:
-            door.kill()
-        self.forget(door, stops=True)
-        told = os.strerror(error).encode() in door.errors
+            front_end.kill()
+        self.forget(front_end, stops=True)
+        told = os.strerror(error).encode() in front_end.errors
         self.after(name)
         return told
 
-    def is_told(self, door: Door, error: int, is_well: bool) -> bool:
-        """Whether the door said why; where a datagram was not answered it has, and what it said is under way."""
+    def is_told(self, front_end: FrontEnd, error: int, is_well: bool) -> bool:
+        """Whether the front end said why; where a datagram was not answered it has, and what it said is under way."""
         words = os.strerror(error).encode()
-        return words in door.errors or not is_well and eventually(lambda: words in door.errors)
+        return words in front_end.errors or not is_well and eventually(lambda: words in front_end.errors)
 
     def tear(self) -> None:
         """The journal has a record at its end that was not finished."""
@@ -96,43 +98,47 @@ class _Faults:
     def fresh(self, call: str) -> None:
         """A fresh journal whose old one cannot be put aside: the old one stays, and goes on."""
         before = self.path.read_bytes()
-        door = self.trial.sign(
+        front_end = self.trial.sign(
             "--journal", str(self.path), "--fresh", environment=refusing(self.library, self.path, call, 1, errno.EIO)
         )
-        is_well = door.ended() == 2 and b"Input/output error" in door.errors and b"Traceback" not in door.errors
-        self.trial.holds(f"--fresh, {call} refused: it ends and says why", is_well, door.errors.decode())
+        is_well = (
+            front_end.ended() == 2
+            and b"Input/output error" in front_end.errors
+            and b"Traceback" not in front_end.errors
+        )
+        self.trial.holds(f"--fresh, {call} refused: it ends and says why", is_well, front_end.errors.decode())
         self.trial.holds(f"--fresh, {call} refused: the old journal stays", self.path.read_bytes() == before)
-        self.forget(door, stops=False)
+        self.forget(front_end, stops=False)
         self.after(f"--fresh, {call} refused")
 
-    def ask(self, door: Door) -> list[bool]:
+    def ask(self, front_end: FrontEnd) -> list[bool]:
         """Whether each of several SETs was answered."""
-        manager = Manager(door.port)
+        manager = Manager(front_end.port)
         answered: list[bool] = []
-        while len(answered) < _SETS or not answered[-1] and not _is_ending(door) and len(answered) < 2 * _SETS:
+        while len(answered) < _SETS or not answered[-1] and not _is_ending(front_end) and len(answered) < 2 * _SETS:
             octets = manager.request(wire.SET, self.changes.counter())
-            answered.append(self.follower.surely(manager, octets, lambda: _is_ending(door)))
+            answered.append(self.follower.surely(manager, octets, lambda: _is_ending(front_end)))
         manager.close()
         return answered
 
     def after(self, name: str) -> None:
         """A life without a fault: what it finds, and SETs that are answered."""
         _Faults.lives += 1
-        door = self.trial.sign("--journal", str(self.path), "--no-ticks")
-        if self.trial.holds(f"after {name}: it starts", door.port != 0, door.errors.decode()):
-            manager = Manager(door.port)
+        front_end = self.trial.sign("--journal", str(self.path), "--no-ticks")
+        if self.trial.holds(f"after {name}: it starts", front_end.port != 0, front_end.errors.decode()):
+            manager = Manager(front_end.port)
             self.follower.catch_up(self.trial, f"after {name}")
             self.follower.compare(self.trial, f"after {name}", manager)
             manager.close()
-            self.trial.holds(f"after {name}: SETs are answered", all(self.ask(door)), door.errors.decode())
-        self.forget(door, stops=True)
+            self.trial.holds(f"after {name}: SETs are answered", all(self.ask(front_end)), front_end.errors.decode())
+        self.forget(front_end, stops=True)
 
-    def forget(self, door: Door, stops: bool) -> None:
+    def forget(self, front_end: FrontEnd, stops: bool) -> None:
         """Ends a life."""
         if stops:
-            door.stop()
-        door.forget()
-        self.trial.doors.remove(door)
+            front_end.stop()
+        front_end.forget()
+        self.trial.front_ends.remove(front_end)
 
 
 def _each(trial: Trial, library: pathlib.Path, faults: _Faults, most: int) -> None:
