@@ -195,12 +195,12 @@ class Both:
 
 
 def main() -> int:
-    words = argparse.ArgumentParser(description=__doc__, formatter_class=argparse.RawDescriptionHelpFormatter)
+    parser = argparse.ArgumentParser(description=__doc__, formatter_class=argparse.RawDescriptionHelpFormatter)
     here = pathlib.Path(__file__).resolve().parent
-    words.add_argument("--library", type=pathlib.Path, default=here / "out/shared/libwisangub.so")
-    words.add_argument("description", type=pathlib.Path, metavar="DESCRIPTION")
-    words.add_argument("text", metavar="TEXT")
-    asked = words.parse_args()
+    parser.add_argument("--library", type=pathlib.Path, default=here / "out/shared/libwisangub.so")
+    parser.add_argument("description", type=pathlib.Path, metavar="DESCRIPTION")
+    parser.add_argument("text", metavar="TEXT")
+    asked = parser.parse_args()
     try:
         with Both(opened(asked.library), asked.description.read_bytes()) as both:
             both.publish(asked.text.encode("latin-1"))

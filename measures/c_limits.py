@@ -177,11 +177,11 @@ def table(found: list[Sign], what: str, names: list[str]) -> str:
 
 
 def main() -> int:
-    words = argparse.ArgumentParser(description=__doc__, formatter_class=argparse.RawDescriptionHelpFormatter)
-    words.add_argument("--library", type=pathlib.Path, default=TOP / "crates/wisangub_c/out/libwisangub_c.a")
-    words.add_argument("--count", type=int, default=1000, help="of random datagrams to each end, and of texts")
-    words.add_argument("--seed", type=int, default=1)
-    asked = words.parse_args()
+    parser = argparse.ArgumentParser(description=__doc__, formatter_class=argparse.RawDescriptionHelpFormatter)
+    parser.add_argument("--library", type=pathlib.Path, default=TOP / "crates/wisangub_c/out/libwisangub_c.a")
+    parser.add_argument("--count", type=int, default=1000, help="of random datagrams to each end, and of texts")
+    parser.add_argument("--seed", type=int, default=1)
+    asked = parser.parse_args()
     found = signs()
     with tempfile.TemporaryDirectory(prefix="c-limits-") as name:
         folder = pathlib.Path(name)

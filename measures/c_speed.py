@@ -230,14 +230,14 @@ def compare(
 
 
 def main() -> None:
-    words = argparse.ArgumentParser(description=__doc__, formatter_class=argparse.RawDescriptionHelpFormatter)
-    words.add_argument(
+    parser = argparse.ArgumentParser(description=__doc__, formatter_class=argparse.RawDescriptionHelpFormatter)
+    parser.add_argument(
         "--library", type=pathlib.Path, default=TOP / "crates/wisangub_c/out/libwisangub_c.a", help="the library for C"
     )
-    words.add_argument("--seconds", type=float, default=2.0, help="how long each is measured, in a turn")
-    words.add_argument("--turns", type=int, default=5, help="how often each is measured")
-    words.add_argument("--calls", action="store_true", help="the first table alone")
-    asked = words.parse_args()
+    parser.add_argument("--seconds", type=float, default=2.0, help="how long each is measured, in a turn")
+    parser.add_argument("--turns", type=int, default=5, help="how often each is measured")
+    parser.add_argument("--calls", action="store_true", help="the first table alone")
+    asked = parser.parse_args()
     with tempfile.TemporaryDirectory(prefix="c-measures-") as place:
         folder = pathlib.Path(place)
         compiled(folder, asked.library.absolute())

@@ -89,16 +89,16 @@ def compare(page: pathlib.Path, rows: list[Row]) -> int:
 
 
 def main() -> int:
-    words = argparse.ArgumentParser(description=__doc__, formatter_class=argparse.RawDescriptionHelpFormatter)
-    words.add_argument("--instructions", action="store_true", help="instructions alone")
-    words.add_argument("--times", action="store_true", help="times alone")
-    words.add_argument(
+    parser = argparse.ArgumentParser(description=__doc__, formatter_class=argparse.RawDescriptionHelpFormatter)
+    parser.add_argument("--instructions", action="store_true", help="instructions alone")
+    parser.add_argument("--times", action="store_true", help="times alone")
+    parser.add_argument(
         "--compare", type=pathlib.Path, metavar="PAGE", help="which take more instructions than PAGE records"
     )
-    words.add_argument("topics", nargs="*", metavar="TOPIC", help="these topics; else all")
-    asked = words.parse_args()
+    parser.add_argument("topics", nargs="*", metavar="TOPIC", help="these topics; else all")
+    asked = parser.parse_args()
     if asked.compare and asked.times:
-        words.error("--compare is of instructions alone")
+        parser.error("--compare is of instructions alone")
     rows = [Row(topic, name) for topic, name in lines("--list", *asked.topics)]
     if asked.compare:
         counted(rows, asked.topics)

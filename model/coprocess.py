@@ -94,10 +94,10 @@ def _centre_answer(world: text.World, words: list[bytes]) -> list[str]:
 
 
 def main() -> int:
-    words = argparse.ArgumentParser(description=__doc__, formatter_class=argparse.RawDescriptionHelpFormatter)
-    words.add_argument("end", choices=("sign", "centre"), help="which end answers")
-    words.add_argument("--sign", action="store_true", help="a description comes first")
-    asked = words.parse_args()
+    parser = argparse.ArgumentParser(description=__doc__, formatter_class=argparse.RawDescriptionHelpFormatter)
+    parser.add_argument("end", choices=("sign", "centre"), help="which end answers")
+    parser.add_argument("--sign", action="store_true", help="a description comes first")
+    asked = parser.parse_args()
     described = text.bench()
     if asked.sign:
         lines = []

@@ -58,16 +58,16 @@ def _outcomes(steps: list[Step], program: str) -> list[Outcome]:
 
 
 def main() -> int:
-    words = argparse.ArgumentParser(description=__doc__, formatter_class=argparse.RawDescriptionHelpFormatter)
-    words.add_argument(
+    parser = argparse.ArgumentParser(description=__doc__, formatter_class=argparse.RawDescriptionHelpFormatter)
+    parser.add_argument(
         "--program",
         default=str(TOP / "crates/signtool/out/signtool"),
         help="the program signtool, as tools/build.py makes it",
     )
-    words.add_argument("--gate", action="append", default=[], help="the last line of `rt ci`, of the wrong bodies")
-    words.add_argument("--list", action="store_true", help="the steps and their limits, and nothing is run")
-    words.add_argument("steps", nargs="*", metavar="STEP", help="the steps of these names alone")
-    asked = words.parse_args()
+    parser.add_argument("--gate", action="append", default=[], help="the last line of `rt ci`, of the wrong bodies")
+    parser.add_argument("--list", action="store_true", help="the steps and their limits, and nothing is run")
+    parser.add_argument("steps", nargs="*", metavar="STEP", help="the steps of these names alone")
+    asked = parser.parse_args()
     steps = [step for step in STEPS if not asked.steps or step.name in asked.steps]
     if asked.list:
         for step in steps:
@@ -75,7 +75,7 @@ def main() -> int:
             print(f"{step.name}: {step.command} (at most {step.limit} s{needs})")
         return 0
     if len(steps) < len(set(asked.steps)):
-        words.error("there is no such step: --list names all")
+        parser.error("there is no such step: --list names all")
     adopt_orphans()
     before = [COUNTS.search(line) for line in asked.gate]
     # what printed no counts did not come to its end

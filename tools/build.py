@@ -62,11 +62,11 @@ def _give_rt(proofs: Proofs) -> None:
 
 
 def main() -> int:
-    words = argparse.ArgumentParser(description=__doc__, formatter_class=argparse.RawDescriptionHelpFormatter)
+    parser = argparse.ArgumentParser(description=__doc__, formatter_class=argparse.RawDescriptionHelpFormatter)
     processors = len(os.sched_getaffinity(0))
-    words.add_argument("--processors", type=int, default=processors, help="how many are taken; else all")
-    words.add_argument("words", nargs="*", metavar="WORD", help="after --: what the program is run with")
-    asked = words.parse_args()
+    parser.add_argument("--processors", type=int, default=processors, help="how many are taken; else all")
+    parser.add_argument("words", nargs="*", metavar="WORD", help="after --: what the program is run with")
+    asked = parser.parse_args()
     signal.signal(signal.SIGTERM, lambda *_: sys.exit(143))
     plan = Plan()
     status = _built(plan, max(1, asked.processors))

@@ -88,17 +88,17 @@ def judge(found: _Found, is_code_read: bool) -> None:
 
 
 def main() -> int:
-    words = argparse.ArgumentParser(description=__doc__, formatter_class=argparse.RawDescriptionHelpFormatter)
-    words.add_argument(
+    parser = argparse.ArgumentParser(description=__doc__, formatter_class=argparse.RawDescriptionHelpFormatter)
+    parser.add_argument(
         "--program",
         type=pathlib.Path,
         default=TOP / "crates/signtool/out/signtool",
         help="the program signtool, as tools/build.py makes it",
     )
-    words.add_argument(
+    parser.add_argument(
         "--library", type=pathlib.Path, default=TOP / "crates/wisangub_c/out/libwisangub_c.a", help="the library for C"
     )
-    asked = words.parse_args()
+    asked = parser.parse_args()
     found = _Found()
     with tempfile.TemporaryDirectory() as room:
         read = [_look_at_code(found, path, pathlib.Path(room)) for path in (asked.program, asked.library)]

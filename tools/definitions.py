@@ -38,9 +38,9 @@ def rows() -> Iterator[str]:
 
 
 def main() -> None:
-    words = argparse.ArgumentParser(description=__doc__)
-    words.add_argument("--check", action="store_true", help="fails where docs/PROVED.md has another table")
-    only_checks = words.parse_args().check
+    parser = argparse.ArgumentParser(description=__doc__)
+    parser.add_argument("--check", action="store_true", help="fails where docs/PROVED.md has another table")
+    only_checks = parser.parse_args().check
     table = "\n".join(["| crate | files of specs/ | lines |", "|---|---|---|", *rows()])
     if not only_checks:
         print(table)

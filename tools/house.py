@@ -23,21 +23,21 @@ TOP = pathlib.Path(__file__).resolve().parent.parent
 def main() -> int:
     known = (*BARS, *NOT_YET)
     end = f"Looked at by name and with --all alone: {', '.join(bar.name for bar in NOT_YET) or 'none'}."
-    words = argparse.ArgumentParser(
+    parser = argparse.ArgumentParser(
         description=__doc__, epilog=end, formatter_class=argparse.RawDescriptionHelpFormatter
     )
-    which = words.add_mutually_exclusive_group()
+    which = parser.add_mutually_exclusive_group()
     which.add_argument("--check", action="store_true", help="what has to hold now; so without an option too")
     which.add_argument("--all", action="store_true", help="what is left for later too")
     which.add_argument(
         "--draw", action="store_true", help="draws the houses, which wants Graphviz, and looks at nothing"
     )
-    words.add_argument("--top", type=pathlib.Path, default=TOP, metavar="FOLDER", help="another repository")
-    words.add_argument("bars", nargs="*", metavar="BAR", help=f"one of: {', '.join(bar.name for bar in known)}")
-    asked = words.parse_args()
+    parser.add_argument("--top", type=pathlib.Path, default=TOP, metavar="FOLDER", help="another repository")
+    parser.add_argument("bars", nargs="*", metavar="BAR", help=f"one of: {', '.join(bar.name for bar in known)}")
+    asked = parser.parse_args()
     unknown = set(asked.bars) - {bar.name for bar in known}
     if unknown:
-        words.error(f"no bar {', '.join(sorted(unknown))}")
+        parser.error(f"no bar {', '.join(sorted(unknown))}")
     tree = Tree(asked.top)
     if asked.draw:
         drawing.draw(tree)

@@ -25,9 +25,9 @@ _FILES = {
 
 
 def main() -> int:
-    words = argparse.ArgumentParser(description=__doc__, formatter_class=argparse.RawDescriptionHelpFormatter)
-    words.add_argument("--check", action="store_true", help="writes nothing")
-    only_checks, failed = words.parse_args().check, 0
+    parser = argparse.ArgumentParser(description=__doc__, formatter_class=argparse.RawDescriptionHelpFormatter)
+    parser.add_argument("--check", action="store_true", help="writes nothing")
+    only_checks, failed = parser.parse_args().check, 0
     FOLDER.mkdir(exist_ok=True)
     for name, cases in _FILES.items():
         made = list(cases())

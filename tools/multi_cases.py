@@ -53,10 +53,10 @@ def printable(octets: bytes) -> bool:
 
 
 def main() -> None:
-    words = argparse.ArgumentParser(description=__doc__, formatter_class=argparse.RawDescriptionHelpFormatter)
-    words.add_argument("vectors", type=pathlib.Path, help="vectors/texts.jsonl")
+    parser = argparse.ArgumentParser(description=__doc__, formatter_class=argparse.RawDescriptionHelpFormatter)
+    parser.add_argument("vectors", type=pathlib.Path, help="vectors/texts.jsonl")
     cases = []
-    for line in words.parse_args().vectors.read_text(encoding="ascii").splitlines():
+    for line in parser.parse_args().vectors.read_text(encoding="ascii").splitlines():
         vector = json.loads(line)
         if vector["canonical"] is None:
             continue

@@ -208,9 +208,9 @@ def _filled(text: str, begin: str, end: str, made: str, name: str) -> str:
 
 
 def main() -> int:
-    words = argparse.ArgumentParser(description=__doc__, formatter_class=argparse.RawDescriptionHelpFormatter)
-    words.add_argument("--check", action="store_true", help="writes nothing, and says what is not up to date")
-    only_checks = words.parse_args().check
+    parser = argparse.ArgumentParser(description=__doc__, formatter_class=argparse.RawDescriptionHelpFormatter)
+    parser.add_argument("--check", action="store_true", help="writes nothing, and says what is not up to date")
+    only_checks = parser.parse_args().check
     table, limits = ((TOP / name).read_text(encoding="utf-8") for name in (_TABLE, _LIMITS))
     objects = _read_table(_with_numbers(table, limits))
     texts = {name: (TOP / name).read_text(encoding="utf-8") for name in (_MIB, PROFILE)}

@@ -101,13 +101,13 @@ def _laid_out(files: Sequence[str]) -> list[tuple[int, int]]:
 
 
 def main() -> int:
-    words = argparse.ArgumentParser(description=__doc__, formatter_class=argparse.RawDescriptionHelpFormatter)
-    words.add_argument("folders", nargs="*", metavar="FOLDER", help="the tests of these folders alone, without mypy")
-    words.add_argument("--quick", action="store_true", help=f"without {', '.join(SLOW)}, and without mypy")
-    words.add_argument("--types", action="store_true", help="mypy alone")
-    words.add_argument("--layout", action="store_true", help="black, isort and flake8 alone")
-    words.add_argument("--changed", action="store_true", help="of --layout: the files that are not as main has them")
-    asked = words.parse_args()
+    parser = argparse.ArgumentParser(description=__doc__, formatter_class=argparse.RawDescriptionHelpFormatter)
+    parser.add_argument("folders", nargs="*", metavar="FOLDER", help="the tests of these folders alone, without mypy")
+    parser.add_argument("--quick", action="store_true", help=f"without {', '.join(SLOW)}, and without mypy")
+    parser.add_argument("--types", action="store_true", help="mypy alone")
+    parser.add_argument("--layout", action="store_true", help="black, isort and flake8 alone")
+    parser.add_argument("--changed", action="store_true", help="of --layout: the files that are not as main has them")
+    asked = parser.parse_args()
     every = sorted(str(path.relative_to(TOP)) for pattern in _FOLDERS for path in TOP.glob(pattern))
     results = []
     if asked.types or asked.layout:

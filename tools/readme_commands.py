@@ -126,19 +126,19 @@ def _with_kit(text: str) -> bool:
 
 
 def main() -> int:
-    words = argparse.ArgumentParser(description=__doc__, formatter_class=argparse.RawDescriptionHelpFormatter)
-    words.add_argument(
+    parser = argparse.ArgumentParser(description=__doc__, formatter_class=argparse.RawDescriptionHelpFormatter)
+    parser.add_argument(
         "--program",
         type=program,
         default=str(SIGNTOOL) if SIGNTOOL.is_file() else None,
         help="the program signtool, as tools/build.py makes it",
     )
-    words.add_argument(
+    parser.add_argument(
         "--signtool", type=program, help="the program behind the front ends, for the block of the SNMP tools"
     )
-    words.add_argument("--short", action="store_true", help="without the block of the SNMP tools")
-    words.add_argument("--rattle", action="store_true", help="the block of Rattle alone")
-    asked = words.parse_args()
+    parser.add_argument("--short", action="store_true", help="without the block of the SNMP tools")
+    parser.add_argument("--rattle", action="store_true", help="the block of Rattle alone")
+    asked = parser.parse_args()
     text = (TOP / "README.md").read_text(encoding="utf-8")
     if asked.rattle:
         results = [_with_kit(text)] if shutil.which("rt") else []
@@ -149,7 +149,7 @@ def main() -> int:
         )
         return 0 if all(results) else 1
     if not asked.program and not asked.signtool:
-        words.error(f"no program at {SIGNTOOL}: tools/build.py builds it")
+        parser.error(f"no program at {SIGNTOOL}: tools/build.py builds it")
     results = []
     with tempfile.TemporaryDirectory() as folder:
         if not asked.signtool:

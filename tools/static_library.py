@@ -88,17 +88,17 @@ def without_kit(plan: Plan, asked: argparse.Namespace) -> int:
 
 
 def main() -> int:
-    words = argparse.ArgumentParser(description=__doc__, formatter_class=argparse.RawDescriptionHelpFormatter)
-    words.add_argument("--target", help="another than this machine")
-    words.add_argument("--cpu", help="another processor than the kit's usual one of the target")
-    words.add_argument("--standing", action="store_true", help="no other crate is proved")
-    words.add_argument(
+    parser = argparse.ArgumentParser(description=__doc__, formatter_class=argparse.RawDescriptionHelpFormatter)
+    parser.add_argument("--target", help="another than this machine")
+    parser.add_argument("--cpu", help="another processor than the kit's usual one of the target")
+    parser.add_argument("--standing", action="store_true", help="no other crate is proved")
+    parser.add_argument(
         "--processors", type=int, default=len(os.sched_getaffinity(0)), help="how many are taken; else all"
     )
-    words.add_argument("crate", metavar="CRATE", help="the crate that the library is made of")
-    asked, plan = words.parse_args(), whole_plan()
+    parser.add_argument("crate", metavar="CRATE", help="the crate that the library is made of")
+    asked, plan = parser.parse_args(), whole_plan()
     if asked.crate not in plan.crates:
-        words.error(f"crates.txt has no {asked.crate}")
+        parser.error(f"crates.txt has no {asked.crate}")
     signal.signal(signal.SIGTERM, lambda *_: sys.exit(143))
     return over_what_stands(plan, asked) if shutil.which("rt") else without_kit(plan, asked)
 

@@ -123,16 +123,16 @@ class _Run:
 
 
 def _asked_for() -> argparse.Namespace:
-    words = argparse.ArgumentParser(description=__doc__, formatter_class=argparse.RawDescriptionHelpFormatter)
-    words.add_argument(
+    parser = argparse.ArgumentParser(description=__doc__, formatter_class=argparse.RawDescriptionHelpFormatter)
+    parser.add_argument(
         "--program",
         default=str(TOP / "crates/signtool/out/signtool"),
         help="the program signtool, as tools/build.py makes it",
     )
-    words.add_argument("--list", action="store_true", help="the steps and what each takes alone, and nothing is run")
-    words.add_argument("--without-crates", action="store_true", help="what changed in crates is left to the gate")
-    words.add_argument("steps", nargs="*", metavar="STEP", help="the steps of these names alone")
-    return words.parse_args()
+    parser.add_argument("--list", action="store_true", help="the steps and what each takes alone, and nothing is run")
+    parser.add_argument("--without-crates", action="store_true", help="what changed in crates is left to the gate")
+    parser.add_argument("steps", nargs="*", metavar="STEP", help="the steps of these names alone")
+    return parser.parse_args()
 
 
 def main() -> int:

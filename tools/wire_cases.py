@@ -135,9 +135,9 @@ def _tables(name: str, row_type: str, rows: Sequence[tuple[str, ...]]) -> None:
 
 
 def main() -> None:
-    words = argparse.ArgumentParser(description=__doc__, formatter_class=argparse.RawDescriptionHelpFormatter)
-    words.add_argument("cases", type=pathlib.Path, metavar="CASES.jsonl", help="a case a line")
-    cases = [json.loads(line) for line in words.parse_args().cases.read_text(encoding="utf-8").splitlines()]
+    parser = argparse.ArgumentParser(description=__doc__, formatter_class=argparse.RawDescriptionHelpFormatter)
+    parser.add_argument("cases", type=pathlib.Path, metavar="CASES.jsonl", help="a case a line")
+    cases = [json.loads(line) for line in parser.parse_args().cases.read_text(encoding="utf-8").splitlines()]
     kept = [case for case in cases if len(case["octets"]) <= 2 * _LONGEST]
     faulty = [case for case in kept if "fault" in case]
     # those whose canonical octets differ come first

@@ -67,9 +67,9 @@ def _missing() -> list[str]:
 
 
 def main() -> int:
-    words = argparse.ArgumentParser(description=__doc__, formatter_class=argparse.RawDescriptionHelpFormatter)
-    words.add_argument("--check", action="store_true", help="fails where a name of docs/MAP.md does not stand")
-    if words.parse_args().check:
+    parser = argparse.ArgumentParser(description=__doc__, formatter_class=argparse.RawDescriptionHelpFormatter)
+    parser.add_argument("--check", action="store_true", help="fails where a name of docs/MAP.md does not stand")
+    if parser.parse_args().check:
         found = _missing()
         print("\n".join(found), end="\n" if found else "")
         return 1 if found else 0

@@ -188,22 +188,22 @@ def all_tried(trial: Trial, library: pathlib.Path, others: Others, seconds: int,
 
 
 def main() -> int:
-    words = argparse.ArgumentParser(description=__doc__, formatter_class=argparse.RawDescriptionHelpFormatter)
-    words.add_argument("--short", action="store_true", help="fewer of all, in minutes")
-    words.add_argument("--library", type=pathlib.Path, help="that is there already")
-    words.add_argument(
+    parser = argparse.ArgumentParser(description=__doc__, formatter_class=argparse.RawDescriptionHelpFormatter)
+    parser.add_argument("--short", action="store_true", help="fewer of all, in minutes")
+    parser.add_argument("--library", type=pathlib.Path, help="that is there already")
+    parser.add_argument(
         "--aarch64", type=pathlib.Path, metavar="LIBRARY", help="of `tools/static_library.py --target`, for ARM64"
     )
-    words.add_argument("--plain", type=pathlib.Path, metavar="LIBRARY", help="of `--cpu x86-64`, for any x86-64")
-    words.add_argument(
+    parser.add_argument("--plain", type=pathlib.Path, metavar="LIBRARY", help="of `--cpu x86-64`, for any x86-64")
+    parser.add_argument(
         "--program",
         type=pathlib.Path,
         default=TOP / "crates/signtool/out/signtool",
         help="the program signtool, as tools/build.py makes it",
     )
-    words.add_argument("--seconds", type=int, default=60, help="of mutated datagrams")
-    words.add_argument("--seed", type=int, default=1, help="of all that is random: the same again gives the same")
-    asked = words.parse_args()
+    parser.add_argument("--seconds", type=int, default=60, help="of mutated datagrams")
+    parser.add_argument("--seed", type=int, default=1, help="of all that is random: the same again gives the same")
+    asked = parser.parse_args()
     others = Others(*(path.absolute() if path else None for path in (asked.aarch64, asked.plain)))
     with tempfile.TemporaryDirectory(prefix="c-library-") as folder:
         trial = Trial(pathlib.Path(folder), asked.program.absolute(), random.Random(asked.seed))

@@ -195,13 +195,13 @@ def _difference(program: str, call: list[str], stdin: str, wanted: tuple[str, in
 
 
 def main() -> int:
-    words = argparse.ArgumentParser(description=__doc__, formatter_class=argparse.RawDescriptionHelpFormatter)
-    words.add_argument(
+    parser = argparse.ArgumentParser(description=__doc__, formatter_class=argparse.RawDescriptionHelpFormatter)
+    parser.add_argument(
         "--program", type=program, default=str(SIGNTOOL), help="the program signtool, as tools/build.py makes it"
     )
-    words.add_argument("--count", type=int, help="the cases that are taken of each file")
-    words.add_argument("--junit", type=pathlib.Path, metavar="FILE", help="a report as JUnit has it is written here")
-    asked = words.parse_args()
+    parser.add_argument("--count", type=int, help="the cases that are taken of each file")
+    parser.add_argument("--junit", type=pathlib.Path, metavar="FILE", help="a report as JUnit has it is written here")
+    asked = parser.parse_args()
     tried = []
     for path in sorted((TOP / "vectors").glob("*.jsonl")):
         for line in path.read_text(encoding="ascii").splitlines()[: asked.count]:

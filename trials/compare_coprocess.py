@@ -113,14 +113,14 @@ def _begun(program: str, end: str, sign: str | None) -> CoProcess:
 
 
 def main() -> int:
-    words = argparse.ArgumentParser(description="random lines to signtool's co-processes and to the model's")
-    words.add_argument(
+    parser = argparse.ArgumentParser(description="random lines to signtool's co-processes and to the model's")
+    parser.add_argument(
         "--signtool", type=program, default=str(SIGNTOOL), help="the program signtool, as tools/build.py makes it"
     )
-    words.add_argument("--count", type=int, default=4000, help="how many lines")
-    words.add_argument("--seed", type=int, default=1, help="of all that is random: the same again gives the same")
-    words.add_argument("--sign", help="a description, as in signs/; else the bench sign")
-    asked = words.parse_args()
+    parser.add_argument("--count", type=int, default=4000, help="how many lines")
+    parser.add_argument("--seed", type=int, default=1, help="of all that is random: the same again gives the same")
+    parser.add_argument("--sign", help="a description, as in signs/; else the bench sign")
+    asked = parser.parse_args()
     model = str(TOP / "model/signtool")
     ends = {
         end: [_begun(program, end, asked.sign) for program in (asked.signtool, model)] for end in ("sign", "centre")

@@ -245,15 +245,15 @@ class Cases:
 
 
 def main() -> int:
-    words = argparse.ArgumentParser(description=__doc__, formatter_class=argparse.RawDescriptionHelpFormatter)
-    most = words.add_mutually_exclusive_group()
+    parser = argparse.ArgumentParser(description=__doc__, formatter_class=argparse.RawDescriptionHelpFormatter)
+    most = parser.add_mutually_exclusive_group()
     most.add_argument("--count", type=int, default=300, help="how many rounds")
     most.add_argument("--seconds", type=float, help="rounds for so long")
-    words.add_argument("--seed", type=int, default=1, help="of all that is random: the same again gives the same")
-    words.add_argument(
+    parser.add_argument("--seed", type=int, default=1, help="of all that is random: the same again gives the same")
+    parser.add_argument(
         "--program", type=program, default=str(SIGNTOOL), help="the program signtool, as tools/build.py makes it"
     )
-    asked = words.parse_args()
+    asked = parser.parse_args()
     cases, number, failed, begun = Cases(asked.seed), 0, 0, time.monotonic()
     while time.monotonic() < begun + asked.seconds if asked.seconds else number < asked.count:
         call, stdin = cases.case()

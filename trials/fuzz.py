@@ -42,15 +42,15 @@ def keep(folder: pathlib.Path, to: pathlib.Path | None) -> None:
 
 
 def main() -> int:
-    words = argparse.ArgumentParser(description=__doc__, formatter_class=argparse.RawDescriptionHelpFormatter)
-    words.add_argument("--seconds", type=int, default=600)
-    words.add_argument("--seed", type=int, default=1)
-    words.add_argument("--library", type=pathlib.Path, default=TOP / "crates/wisangub_c/out/libwisangub_c.a")
-    words.add_argument("--keep", type=pathlib.Path, metavar="FOLDER", help="where inputs that fail are put")
-    words.add_argument("kinds", nargs="*", metavar="KIND", help=", ".join(fuzzed.KINDS))
-    asked = words.parse_args()
+    parser = argparse.ArgumentParser(description=__doc__, formatter_class=argparse.RawDescriptionHelpFormatter)
+    parser.add_argument("--seconds", type=int, default=600)
+    parser.add_argument("--seed", type=int, default=1)
+    parser.add_argument("--library", type=pathlib.Path, default=TOP / "crates/wisangub_c/out/libwisangub_c.a")
+    parser.add_argument("--keep", type=pathlib.Path, metavar="FOLDER", help="where inputs that fail are put")
+    parser.add_argument("kinds", nargs="*", metavar="KIND", help=", ".join(fuzzed.KINDS))
+    asked = parser.parse_args()
     if set(asked.kinds) - set(fuzzed.KINDS):
-        words.error(f"a kind is one of {', '.join(fuzzed.KINDS)}")
+        parser.error(f"a kind is one of {', '.join(fuzzed.KINDS)}")
     with tempfile.TemporaryDirectory(prefix="fuzz-") as folder:
         trial = Trial(pathlib.Path(folder), pathlib.Path(), random.Random(asked.seed))
         if asked.library.is_file():

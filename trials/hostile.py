@@ -168,19 +168,19 @@ def run(program: str, text: str) -> tuple[subprocess.CompletedProcess[bytes], fl
 
 
 def main() -> int:
-    words = argparse.ArgumentParser(description=__doc__, formatter_class=argparse.RawDescriptionHelpFormatter)
+    parser = argparse.ArgumentParser(description=__doc__, formatter_class=argparse.RawDescriptionHelpFormatter)
     top = pathlib.Path(__file__).resolve().parent.parent
-    words.add_argument("--count", type=int, default=20000, help="how many datagrams")
-    words.add_argument("--seed", type=int, default=1, help="of all that is random: the same again gives the same")
-    words.add_argument(
+    parser.add_argument("--count", type=int, default=20000, help="how many datagrams")
+    parser.add_argument("--seed", type=int, default=1, help="of all that is random: the same again gives the same")
+    parser.add_argument(
         "--program",
         default=str(top / "crates/signtool/out/signtool"),
         help="the program signtool, as tools/build.py makes it",
     )
-    words.add_argument("--print", action="store_true", help="prints a script of so many, and runs nothing")
-    words.add_argument("--udp", action="store_true", help="to a sign's front end")
-    words.add_argument("--front-end", metavar="PATH", help="another sign's front end, such as examples/out/signd")
-    asked = words.parse_args()
+    parser.add_argument("--print", action="store_true", help="prints a script of so many, and runs nothing")
+    parser.add_argument("--udp", action="store_true", help="to a sign's front end")
+    parser.add_argument("--front-end", metavar="PATH", help="another sign's front end, such as examples/out/signd")
+    asked = parser.parse_args()
     maker = Maker(asked.seed)
     if asked.print:
         sys.stdout.write(script(asked.count, Random(maker, asked.count))[0])

@@ -91,9 +91,9 @@ def _calls() -> list[Call]:
 
 
 def main() -> None:
-    words = argparse.ArgumentParser(description=__doc__, formatter_class=argparse.RawDescriptionHelpFormatter)
-    words.add_argument("folder", type=pathlib.Path, help="where NAME.words and NAME.input are written")
-    folder = words.parse_args().folder
+    parser = argparse.ArgumentParser(description=__doc__, formatter_class=argparse.RawDescriptionHelpFormatter)
+    parser.add_argument("folder", type=pathlib.Path, help="where NAME.words and NAME.input are written")
+    folder = parser.parse_args().folder
     for call in _calls():
         (folder / f"{call.name}.words").write_text("".join(word + "\n" for word in call.words), encoding="ascii")
         (folder / f"{call.name}.input").write_bytes(call.stdin)

@@ -190,13 +190,13 @@ def _document(program: str, sign: bytes, shown: str, alone: int | None) -> str:
 
 
 def main() -> int:
-    words = argparse.ArgumentParser(description=__doc__, formatter_class=argparse.RawDescriptionHelpFormatter)
-    words.add_argument(
+    parser = argparse.ArgumentParser(description=__doc__, formatter_class=argparse.RawDescriptionHelpFormatter)
+    parser.add_argument(
         "--program", type=program, default=str(SIGNTOOL), help="the program signtool, as tools/build.py makes it"
     )
-    words.add_argument("--keep", help="a folder for the PNG files")
-    words.add_argument("--read", action="store_true", help="without a browser")
-    asked = words.parse_args()
+    parser.add_argument("--keep", help="a folder for the PNG files")
+    parser.add_argument("--read", action="store_true", help="without a browser")
+    asked = parser.parse_args()
     passed = failed = 0
     with tempfile.TemporaryDirectory() as temporary:
         folder = pathlib.Path(asked.keep or temporary)

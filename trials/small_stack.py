@@ -56,16 +56,16 @@ def _ran(case: Case, program: str, stack: int, room: pathlib.Path) -> str:
 
 
 def main() -> int:
-    words = argparse.ArgumentParser(description=__doc__, formatter_class=argparse.RawDescriptionHelpFormatter)
-    words.add_argument(
+    parser = argparse.ArgumentParser(description=__doc__, formatter_class=argparse.RawDescriptionHelpFormatter)
+    parser.add_argument(
         "--program",
         default=str(TOP / "crates/signtool/out/signtool"),
         help="the program signtool, as tools/build.py makes it",
     )
-    words.add_argument("--stack", type=int, default=256, metavar="KB", help="KiB of stack that a call has")
-    words.add_argument("--only", default="", metavar="WORD", help="the calls whose name has this word alone")
-    words.add_argument("--list", action="store_true", help="the names of the calls, and nothing is run")
-    asked = words.parse_args()
+    parser.add_argument("--stack", type=int, default=256, metavar="KB", help="KiB of stack that a call has")
+    parser.add_argument("--only", default="", metavar="WORD", help="the calls whose name has this word alone")
+    parser.add_argument("--list", action="store_true", help="the names of the calls, and nothing is run")
+    asked = parser.parse_args()
     program = os.path.abspath(asked.program)
     if not asked.list and not os.access(program, os.X_OK):
         print(f"there is no program at {program}: tools/build.py builds it", file=sys.stderr)

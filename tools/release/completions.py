@@ -64,12 +64,12 @@ def completion(name: str, program: list[str], parts: list[str]) -> str:
 
 
 def main() -> int:
-    words = argparse.ArgumentParser(description=__doc__, formatter_class=argparse.RawDescriptionHelpFormatter)
-    words.add_argument("folder", type=pathlib.Path, metavar="FOLDER", help="where the file is written")
-    words.add_argument("name", metavar="NAME", help="of the command that is completed")
-    words.add_argument("program", metavar="PROGRAM", help="the command, for its --help")
-    words.add_argument("parts", nargs="*", metavar="WORD", help="its subcommands")
-    asked = words.parse_args()
+    parser = argparse.ArgumentParser(description=__doc__, formatter_class=argparse.RawDescriptionHelpFormatter)
+    parser.add_argument("folder", type=pathlib.Path, metavar="FOLDER", help="where the file is written")
+    parser.add_argument("name", metavar="NAME", help="of the command that is completed")
+    parser.add_argument("program", metavar="PROGRAM", help="the command, for its --help")
+    parser.add_argument("parts", nargs="*", metavar="WORD", help="its subcommands")
+    asked = parser.parse_args()
     asked.folder.mkdir(parents=True, exist_ok=True)
     text = completion(asked.name, [asked.program], asked.parts)
     (asked.folder / asked.name).write_text(text, encoding="utf-8")

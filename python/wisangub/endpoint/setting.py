@@ -21,18 +21,18 @@ MOST_NUMBER = 2**31 - 1  # of a request
 
 def options(about: str | None, command: str) -> argparse.ArgumentParser:
     """The options that both front ends have."""
-    words = argparse.ArgumentParser(description=about, formatter_class=argparse.RawDescriptionHelpFormatter)
-    add_version(words, command)
-    words.add_argument("--signtool", default=str(SIGNTOOL), metavar="PATH", help="the program that answers lines")
-    words.add_argument("--sign", metavar="FILE", help="the description of the sign, as in signs/; else the bench sign")
-    words.add_argument(
+    parser = argparse.ArgumentParser(description=about, formatter_class=argparse.RawDescriptionHelpFormatter)
+    add_version(parser, command)
+    parser.add_argument("--signtool", default=str(SIGNTOOL), metavar="PATH", help="the program that answers lines")
+    parser.add_argument("--sign", metavar="FILE", help="the description of the sign, as in signs/; else the bench sign")
+    parser.add_argument(
         "--journal", metavar="FILE", help="what is handed over is kept here, over the end of the process"
     )
-    words.add_argument("--fresh", action="store_true", help="puts the journal's file aside and begins anew")
-    words.add_argument("--need-journal", action="store_true", help="ends where the disk takes nothing at a start")
-    words.add_argument("--log", metavar="FILE", help="a line an event is written here; - is standard output")
-    words.add_argument("--json", action="store_true", help="the log's lines are JSON")
-    return words
+    parser.add_argument("--fresh", action="store_true", help="puts the journal's file aside and begins anew")
+    parser.add_argument("--need-journal", action="store_true", help="ends where the disk takes nothing at a start")
+    parser.add_argument("--log", metavar="FILE", help="a line an event is written here; - is standard output")
+    parser.add_argument("--json", action="store_true", help="the log's lines are JSON")
+    return parser
 
 
 def checked(asked: argparse.Namespace) -> None:

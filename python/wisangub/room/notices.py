@@ -248,10 +248,10 @@ class Notices:
             except (Failed, Taken, Refusal) as fault:
                 self._say("database", str(fault))
 
-    def tell(self, held: Database) -> None:
+    def tell(self, database: Database) -> None:
         """Tells each target of what it was not told of."""
         for target in self.settings.targets:
-            found = alarms.to_tell(held, target.name, self.settings.kinds(datetime.datetime.now().time()))
+            found = alarms.to_tell(database, target.name, self.settings.kinds(datetime.datetime.now().time()))
             if not found:
                 continue
             try:
@@ -260,7 +260,7 @@ class Notices:
                 self._say(target.name, str(fault) or type(fault).__name__)
             else:
                 self.faults.pop(target.name, None)
-                alarms.told(held, target.name, found)
+                alarms.told(database, target.name, found)
 
     def _say(self, of: str, words: str) -> None:
         """Says a fault once."""
