@@ -2,8 +2,8 @@
 """Runs README's commands: `tools/readme_commands.py [--program PATH]` prints `N passed, N failed`.
 
 Each block of `sh` that begins with `./signtool` or `cp` is run at a copy of signs/ and the built program, line by line
-(a here-document is one line). The block of the SNMP tools is run whole, without its `apt-get` and on a port that is
-free, where they are installed, and else skipped, which is said; with --short it is left out. With --signtool, another
+(a here-document is one line). The block of the SNMP tools is run whole, without its `apt-get` and over this program,
+where they are installed, and else skipped, which is said; with --short it is left out. With --signtool, another
 program that answers the lines of front ends, such as model/signtool, it is the one block that is run. A block without a
 language right after it is what its last command, or the whole block, prints. The two commands that prove,
 `tools/build.py` and the gate, are left to the gate. With --rattle nothing of this is run but the block of `rust`, which
@@ -14,7 +14,6 @@ import argparse
 import pathlib
 import re
 import shutil
-import socket
 import subprocess
 import sys
 import tempfile
@@ -45,28 +44,14 @@ def commands(block: str) -> Iterator[str]:
             yield "\n".join(command) + "\n"
 
 
-def _free_port() -> int:
-    """A UDP port that nobody has now."""
-    with socket.socket(socket.AF_INET, socket.SOCK_DGRAM) as udp_socket:
-        udp_socket.bind(("127.0.0.1", 0))
-        port: int = udp_socket.getsockname()[1]
-        return port
-
-
-def _with_snmp_tools(block: str, after: str, program: str) -> bool:
-    """Whether the block of the SNMP tools prints what README says, on a port that is free."""
-    port = _free_port()
-    width = f"snmpget -v1 -c public -t 1 -r 0 127.0.0.1:{port} 1.3.6.1.4.1.1206.4.2.3.2.4.0"
-    whole = "shopt -s expand_aliases\n" + block.split("\n", 1)[1]
-    for old, new in (
-        ("bin/wisangub-sign", f"bin/wisangub-sign --port {port} --signtool {program}"),
-        ("bin/wisangub-centre", f"bin/wisangub-centre --signtool {program}"),
-        ("127.0.0.1:1161", f"127.0.0.1:{port}"),
-        ("&    #", f"& until {width} > /dev/null 2>&1; do sleep 0.1; done    #"),
-    ):
-        whole = whole.replace(old, new)
-    ended = subprocess.run(["bash", "-c", whole], cwd=TOP, capture_output=True, text=True, timeout=120, check=False)
-    well = ended.stdout == after.replace("127.0.0.1:1161", f"127.0.0.1:{port}")
+def _with_snmp_tools(block: str, after: str, program: str, folder: str) -> bool:
+    """Whether the block of the SNMP tools prints what README says, in a folder with links to what it names."""
+    for name in ("bin", "mibs", "model", "python"):
+        pathlib.Path(folder, name).symlink_to(TOP / name)
+    whole = block.split("\n", 1)[1].replace("model/signtool", str(pathlib.Path(program).resolve()))
+    words = ["bash", "-c", f"shopt -s expand_aliases\n{whole}"]
+    ended = subprocess.run(words, cwd=folder, capture_output=True, text=True, timeout=120, check=False)
+    well = ended.stdout == after
     if not well:
         print(f"{block}exit {ended.returncode}\n{ended.stdout}{ended.stderr}")
     return well
@@ -159,7 +144,7 @@ def main() -> int:
             if block.startswith("apt-get") and not asked.short and not shutil.which("snmpget"):
                 print("skipped the SNMP tools: snmpget is not here")
             elif block.startswith("apt-get") and not asked.short:
-                results.append(_with_snmp_tools(block, after, asked.signtool or asked.program))
+                results.append(_with_snmp_tools(block, after, asked.signtool or asked.program, folder))
             elif not asked.signtool and block.startswith(("./signtool", "cp ")):
                 results += _runs(block, after, folder)
     print(f"{sum(results)} passed, {len(results) - sum(results)} failed")
