@@ -23,6 +23,8 @@ MODULES = tuple(
         "udp",
         "parts",
         "reports",
+        "resume",
+        "claims",
         "besides",
         "ways",
         "seconds",

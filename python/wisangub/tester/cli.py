@@ -2,6 +2,7 @@
 
 import argparse
 import datetime
+import hashlib
 import math
 import pathlib
 import signal
@@ -16,10 +17,13 @@ from .context import Context
 from .findings.results import LOSSY, Quiet, Watcher
 from .report import terminal, words
 from .report.baseline import Baseline
+from .report.earlier import Earlier
 from .report.outputs import Outputs
 from .report.picture import pictures
 from .runs.repeat import repeat
 from .session import Session, chapters_of
+from .sign.claimed import ClaimedOracle
+from .sign.claims import claims_of
 from .sign.clock import RealClock
 from .sign.described import Bad, cause, described
 from .sign.judge import Judge, SignJudge
@@ -116,6 +120,12 @@ def _arguments() -> argparse.ArgumentParser:
     parser.add_argument(
         "--baseline", type=pathlib.Path, metavar="FILE", help="says what is new and what is gone since this JSON report"
     )
+    parser.add_argument(
+        "--claims", type=pathlib.Path, metavar="FILE", help="what the sign claims: objects, ranges and tags, as TOML"
+    )
+    parser.add_argument(
+        "--resume", type=pathlib.Path, metavar="FILE", help="goes on with the test whose JSON report this is, into it"
+    )
     parser.add_argument("--repeat", metavar="SEQUENCE", help="a sequence that a report printed, alone")
     return parser
 
@@ -141,13 +151,15 @@ def _address(to: str) -> tuple[str, int]:
     return host.strip("[]"), int(port)
 
 
-def _about_of(asked: argparse.Namespace) -> words.About:
+def _about_of(asked: argparse.Namespace, description: bytes) -> words.About:
     oracle = "model" if asked.signtool == "model" else asked.signtool
     program = "" if asked.signtool == str(SIGNTOOL) else asked.signtool
     when = datetime.datetime.now().astimezone().isoformat(" ", "seconds")
     communities = (asked.communities[0], asked.communities[1]) if asked.communities else None
+    claims = asked.claims.read_bytes() if asked.claims else b""
+    digest = hashlib.sha256(description + claims).hexdigest()
     return words.About(
-        asked.to, str(asked.sign), oracle, communities, asked.seed, asked.requests, asked.slow, when, program
+        asked.to, str(asked.sign), oracle, communities, asked.seed, asked.requests, asked.slow, when, program, digest
     )
 
 
@@ -158,20 +170,34 @@ def _session(asked: argparse.Namespace, description: bytes, oracle: Oracle, judg
     port = Port(UdpLink(*_address(asked.to), clock), clock, asked.wait, patience=asked.silent)
     if asked.budget is not None:
         port.way.deadline = clock.now() + 60 * asked.budget
-    pair = Pair(port, oracle, clock, Ticks(clock), communities)
-    context = Context(sign, communities, judge, asked.seed, asked.requests, asked.slow)
+    claims = claims_of(asked.claims, sign)
+    pair = Pair(port, ClaimedOracle(oracle, claims), clock, Ticks(clock), communities)
+    context = Context(sign, communities, judge, asked.seed, asked.requests, asked.slow, claims)
     session = Session(pair, context, watcher)
     session.results.lossy, session.is_anyway = asked.lossy, asked.anyway
     return session
 
 
-def _tested(asked: argparse.Namespace, session: Session, watcher: terminal.Plain) -> int:
-    """The whole test and its reports. Raises Refusal where one cannot be written."""
-    about, context = _about_of(asked), session.context
+def _taken_up(asked: argparse.Namespace, about: words.About, session: Session) -> str:
+    """What is said of the report that --resume names, whose test goes on; nothing where none is named."""
+    if asked.resume is None:
+        return ""
+    asked.json = asked.json or asked.resume
+    earlier = Earlier.read(asked.resume, about, session.context.communities)
+    earlier.put_into(session.results, session.pair.port.way)
+    return earlier.words()
+
+
+def _tested(asked: argparse.Namespace, session: Session, watcher: terminal.Plain, about: words.About) -> int:
+    """The whole test and its reports. Raises Refusal where one cannot be written, or an earlier one not be read."""
+    context = session.context
     baseline = Baseline.read(asked.baseline) if asked.baseline else None
+    taken_up = _taken_up(asked, about, session)
     outputs = Outputs(asked, about, lambda results: words.not_tested(context, results, ALL))
     try:
-        print(words.head(about), flush=True)
+        print("\n".join(line for line in (words.head(about), taken_up) if line), flush=True)
+        if taken_up:
+            outputs.write(session.results)
         watcher.after = lambda: outputs.write(session.results)
         try:
             results = session.run(chapters_of(asked.only, asked.slow))
@@ -213,7 +239,8 @@ def main() -> int:
         if asked.repeat is not None:
             return repeat(_session(asked, description, oracle, judge, Quiet()), asked.repeat)
         watcher = terminal.watcher()
-        return _tested(asked, _session(asked, description, oracle, judge, watcher), watcher)
+        session = _session(asked, description, oracle, judge, watcher)
+        return _tested(asked, session, watcher, _about_of(asked, description))
     except Bad as fault:
         print(f"{asked.sign}: {fault}{cause(asked.sign, fault)}", file=sys.stderr)
     except OSError as fault:

@@ -1,13 +1,14 @@
 """What the chapters know of the sign: its description, its rows, its texts, and how codes are spelled."""
 
 import functools
-from dataclasses import dataclass
+from dataclasses import dataclass, field
 
 from wisangub.snmp.names import COLUMNS, SCALARS, Memory, scalar
 
 from .requests.checksum import checksum
 from .requests.objects import Binding, Name, Row, instance, octets
 from .requests.steps import Ask, put
+from .sign.claims import Claims
 from .sign.described import Description
 from .sign.judge import Judge
 
@@ -26,6 +27,7 @@ class Context:
     seed: int = 1
     requests: int = 2000
     is_slow: bool = False
+    claims: Claims = field(default_factory=Claims)
 
     @functools.cached_property
     def rows(self) -> list[Row]:
@@ -110,16 +112,20 @@ class Context:
 
     @functools.cached_property
     def instances(self) -> list[Name]:
-        """The names of all that the sign has, in order."""
+        """The names of all that the sign claims to have, in order."""
+        return [name for name in self.all_instances if not self.claims.is_missing(name)]
+
+    @functools.cached_property
+    def all_instances(self) -> list[Name]:
+        """The names of all that a sign of the profile has with these rows, in order."""
         rows = [
             *self.permanent,
             *self.rows,
             Row(Memory.CURRENT, 1),
             *[Row(Memory.BLANK, number) for number in range(1, 256)],
         ]
-        return sorted(
-            [*(instance(*place) for place in SCALARS), *(row.cell(column) for row in rows for column in COLUMNS)]
-        )
+        names = [*(instance(*place) for place in SCALARS), *(row.cell(column) for row in rows for column in COLUMNS)]
+        return sorted(names)
 
     @property
     def known_code(self) -> bytes:

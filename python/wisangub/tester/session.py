@@ -4,12 +4,14 @@ from dataclasses import dataclass, field, replace
 from typing import Sequence
 
 from .chapters import ALL, Block, Chapter
+from .chapters.tracing import traced
 from .context import Context
 from .findings import classify
 from .findings.compare import Kind
 from .findings.differences import Difference, subject
 from .findings.results import ChapterResult, Results, Watcher
 from .findings.rules import RULES, Rule
+from .findings.trace import ALIKE, DIFFERS, NOT_JUDGED
 from .requests.steps import Step, datagrams
 from .runs.runner import Run, Runner
 from .runs.shrinking import shrunk
@@ -49,6 +51,8 @@ class Session:
         back as far as it can be."""
         self.results.asked, self.results.is_slow = chapters, self.context.is_slow
         self.results.way = self.pair.port.way
+        claims, trace = self.context.claims, self.results.trace
+        trace.missing, trace.ranges = claims.missing | {f"[{tag}]" for tag in claims.tags}, claims.ranges
         try:
             self._run(chapters)
         except Stopped as why:
@@ -61,10 +65,11 @@ class Session:
 
     def _run(self, chapters: Sequence[Chapter]) -> None:
         is_heard = self.preflight.begin(self.is_anyway)
+        judged = [held.chapter for held in self.results.chapters]
         for chapter in chapters if is_heard else []:
             if self.is_enough():
                 break
-            if not chapter.is_slow or self.context.is_slow:
+            if chapter not in judged and not chapter.is_slow or self.context.is_slow:
                 self.chapter(chapter)
 
     def _put_back(self) -> None:
@@ -81,7 +86,7 @@ class Session:
         """All cases of a chapter, and its place in the results."""
         result = ChapterResult(chapter)
         self.results.chapters.append(result)
-        blocks = list(chapter.blocks(self.context))
+        blocks = self._claimed(chapter)
         result.wanted = len(blocks)
         begun, requests = self.pair.clock.now(), self.pair.requests
         self.watcher.begun(chapter, len(blocks))
@@ -98,6 +103,12 @@ class Session:
         finally:
             result.seconds = self.pair.clock.now() - begun
             self.watcher.ended(result)
+
+    def _claimed(self, chapter: Chapter) -> list[Block]:
+        """The cases of a chapter, but for those about what the sign does not claim; each has its place in the trace."""
+        found = [traced(chapter.name, block, self.context.claims) for block in chapter.blocks(self.context)]
+        self.results.trace.cases += [case for case, _ in found]
+        return [block for _, block in found if block is not None]
 
     def _judge_left(self, result: ChapterResult) -> None:
         """What could not be judged is begun again, unless that hangs on ticks that are not known."""
@@ -133,6 +144,7 @@ class Session:
             result.left.append(block)
             return None
         result.told += datagrams(block.steps if run is None else run.steps)
+        _end(block, ALIKE if run is None else DIFFERS)
         if run is None:
             return [*history, *block.steps]
         self.difference(result, block, Run(run.exchange, [*history, *run.steps], run.sent), run.steps)
@@ -205,6 +217,7 @@ class Session:
         run, is_repeated = self.made_small(run, steps, is_shrunk)
         if not is_repeated and (self.is_loss(run) or self._may_be_late(seen)):
             result.left.append(replace(block, steps=whole, is_fresh=True))
+            _end(block, NOT_JUDGED)
             return
         rule = self.rule_of(block, run, is_repeated and is_shrunk)
         found = Difference.of(rule, result.chapter.name, run.exchange, run.steps, run.sent)
@@ -222,6 +235,12 @@ class Session:
             result.once.append(found)
         else:
             result.once[-1].alike += 1
+
+
+def _end(block: Block, outcome: str) -> None:
+    """What came of a block's case."""
+    if block.case is not None:
+        block.case.outcome = outcome
 
 
 def chapters_of(names: Sequence[str], is_slow: bool) -> list[Chapter]:

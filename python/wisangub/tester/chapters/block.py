@@ -5,6 +5,7 @@ from typing import Callable, Iterator, Sequence
 
 from wisangub.snmp.names import RowStatus
 from wisangub.tester.context import Context
+from wisangub.tester.findings.trace import Case
 from wisangub.tester.requests.objects import EXECUTIVE, SHOWN_CELLS, STATE_SCALARS, Binding, Column, Name, Row
 from wisangub.tester.requests.steps import Ask, Step, Wait, get, looks, put
 
@@ -21,6 +22,7 @@ class Block:
     steps: Sequence[Step]
     is_fresh: bool = False
     parts: Sequence["Block"] = ()  # what tells it more closely where this block differs
+    case: Case | None = None  # its place in the report
 
 
 @dataclass

@@ -21,6 +21,7 @@ from wisangub.tester.requests.objects import (
     octets,
     word_of,
 )
+from wisangub.tester.requests.texts import tags_of
 
 _BOUNDS = [*range(13), 100, 127, 128, 254, 255, 256, 65534, 65535, 65536, -1, 2**31 - 1, 2**32 - 1]
 # of the defaults that do not go from 0 to 255; few fonts, so that some are there
@@ -56,7 +57,7 @@ class Values:
             b"[jp2]" + one,
             b"[fl]" + one,
         ]
-        self.texts = good + bad
+        self.texts = [text for text in good + bad if not tags_of(text) & context.claims.tags]
 
     # --- names and values ------------------------------------------------------------------------------------
 

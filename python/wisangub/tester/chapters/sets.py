@@ -21,7 +21,7 @@ from wisangub.tester.requests.objects import (
 from wisangub.tester.requests.steps import Ask, Step, put
 
 from .block import Block, Chapter, alone, look, look_at, message, modify
-from .sets_values import RANGES, cells, scalars
+from .sets_values import cells, numbers_of, scalars
 from .telling import Telling, telling
 
 _READ_ONLY: list[Name] = [
@@ -134,7 +134,7 @@ def _twice(context: Context) -> Iterator[Block]:
 def _everything(context: Context) -> list[Step]:
     """All that may be written and the fields of some rows, with a command, in one SET."""
     rows = context.rows[:4]
-    bound: list[Binding] = [(name, integer(least)) for name, least, _ in RANGES]
+    bound: list[Binding] = [(name, integer(least)) for name, least, _ in numbers_of(context)]
     bound += [(scalar("defaultFont"), integer(context.defaults[4]))]
     bound += [(name, octets(context.message_code(Row(Memory.BLANK, name[-2]), 0))) for name in OWN_CODES]
     for at, row in enumerate(rows, 1):
@@ -143,10 +143,12 @@ def _everything(context: Context) -> list[Step]:
 
 
 def _together(context: Context) -> Iterator[Block]:
-    many: list[Binding] = [(name, integer(least)) for name, least, _ in RANGES if name != scalar("dmsTimeCommLoss")]
+    many: list[Binding] = [
+        (name, integer(least)) for name, least, _ in numbers_of(context) if name != scalar("dmsTimeCommLoss")
+    ]
     yield Block("all at once", "set", [put(*many), *look()], True)
     yield Block("as much as may be written at once", "set", _everything(context), True)
-    bad: list[Binding] = [(name, integer(most)) for name, _, most in RANGES] + [
+    bad: list[Binding] = [(name, integer(most)) for name, _, most in numbers_of(context)] + [
         (scalar("defaultBackgroundColor"), integer(10))
     ]
     yield Block("all or nothing", "order of causes", [put(*bad), *look()], True)

@@ -3,26 +3,29 @@
 from typing import Iterator
 
 from wisangub.snmp import wire
-from wisangub.snmp.names import scalar
+from wisangub.snmp.names import SCALARS, scalar
 from wisangub.tester.context import Context
-from wisangub.tester.requests.objects import NULL, OWN_CODES, Binding, Column, Name, Row, Value, integer, octets
+from wisangub.tester.requests.objects import (
+    COMMANDS,
+    NULL,
+    OWN_CODES,
+    RANGES,
+    Binding,
+    Column,
+    Name,
+    Row,
+    Value,
+    integer,
+    octets,
+)
 from wisangub.tester.requests.steps import put
 
 from .block import Block, alone, look, look_at, modify
 
-RANGES: list[tuple[Name, int, int]] = [
-    (scalar("defaultBackgroundColor"), 0, 9),
-    (scalar("defaultForegroundColor"), 0, 9),
-    (scalar("defaultFlashOn"), 0, 255),
-    (scalar("defaultFlashOff"), 0, 255),
-    (scalar("defaultJustificationLine"), 2, 4),
-    (scalar("defaultJustificationPage"), 2, 4),
-    (scalar("defaultPageOnTime"), 0, 255),
-    (scalar("defaultPageOffTime"), 0, 255),
-    (scalar("dmsShortPowerLossTime"), 0, 65535),
-    (scalar("dmsTimeCommLoss"), 0, 65535),
-]
-_CELL_RANGES = {6: (0, 1), 7: (0, 1), 8: (1, 255)}
+# numbers that a SET writes alone; the minutes that are left are commanded
+NUMBERS = [word for word in RANGES if word in SCALARS.values() and word not in COMMANDS]
+_CELLS = {Column.BEACON: "dmsMessageBeacon", Column.PIXEL_SERVICE: "dmsMessagePixelService"}
+_CELLS |= {Column.PRIORITY: "dmsMessageRunTimePriority"}
 _OTHER_TYPES: list[Value] = [
     octets(b"\3"),
     octets(b""),
@@ -56,9 +59,14 @@ def _around(name: Name, least: int, most: int) -> list[Binding]:
     ]
 
 
+def numbers_of(context: Context) -> list[tuple[Name, int, int]]:
+    """The scalars that hold numbers, with what they take."""
+    return [(scalar(word), *context.claims.range_of(word)) for word in NUMBERS]
+
+
 def scalars(context: Context) -> Iterator[Block]:
     """Cases of each scalar's range and types."""
-    for name, least, most in RANGES:
+    for name, least, most in numbers_of(context):
         yield Block(
             "ranges", "ranges", [step for bound in _around(name, least, most) for step in (put(bound), look_at(name))]
         )
@@ -73,7 +81,7 @@ def scalars(context: Context) -> Iterator[Block]:
             for step in (put((scalar("defaultFont"), integer(number))), look_at(scalar("defaultFont")))
         ],
     )
-    for name in [*[name for name, _, _ in RANGES], scalar("defaultFont"), scalar("dmsMessageTimeRemaining")]:
+    for name in [*map(scalar, NUMBERS), scalar("defaultFont"), scalar("dmsMessageTimeRemaining")]:
         yield Block("types", "bad value", alone([(name, value) for value in _OTHER_TYPES]))
     yield Block("after that", "bad value", look())
     for name in OWN_CODES:
@@ -100,7 +108,7 @@ def scalars(context: Context) -> Iterator[Block]:
 def cells(context: Context, row: Row) -> Iterator[Block]:
     """Cases of the range and types of a row's fields."""
     bounds = [
-        bound for column, (least, most) in _CELL_RANGES.items() for bound in _around(row.cell(column), least, most)
+        bound for column, word in _CELLS.items() for bound in _around(row.cell(column), *context.claims.range_of(word))
     ]
     yield Block(
         "ranges of fields",

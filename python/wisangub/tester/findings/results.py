@@ -8,6 +8,7 @@ from wisangub.tester.chapters import Block, Chapter
 from wisangub.tester.sign.way import LONGEST_SILENCE, Way
 
 from .differences import Difference
+from .trace import Trace
 
 LOSSY = 2.0  # percent of the requests that may be without a reply in time or have two, where nothing is said
 
@@ -78,6 +79,8 @@ class Results:
     configuration: list[tuple[str, str, str]] = field(default_factory=list)  # object, as described, as read
     besides: list[str] = field(default_factory=list)  # objects that the sign has besides the profile's
     set_back: list[tuple[str, str, str]] = field(default_factory=list)  # what the known state changes, likewise
+    trace: Trace = field(default_factory=Trace)
+    taken_up: str = ""  # when the test was begun that this one goes on with
     is_silent: bool = False
     is_learnt: bool = True
 

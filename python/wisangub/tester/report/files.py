@@ -7,6 +7,7 @@ from typing import Any
 from wisangub.tester.findings.differences import Difference
 from wisangub.tester.findings.results import Results, Verdict
 from wisangub.tester.findings.rules import CHAPTERS
+from wisangub.tester.findings.trace import OUTCOMES, Requirement
 from wisangub.tester.sign.way import Oddity
 
 from .causes import cause, causes
@@ -45,9 +46,14 @@ def as_json(results: Results, about: About, not_tested: list[str]) -> str:
         "configuration": _objects(results.configuration),
         "besides": results.besides,
         "set_back": _objects(results.set_back),
+        "requirements": [_requirement(held) for held in results.trace.requirements()],
+        "cases": [vars(case) for case in results.trace.cases],
+        "taken_up": results.taken_up,
+        "test": about.test(),
         "chapters": chapters,
         "differences": [_one(difference, about) for difference in results.differences()],
         "seen_once": [_one(difference, about) for difference in results.once()],
+        "way_counts": results.way.counts() if results.way is not None else None,
         "now_and_then": _odd(results),
         "way": way_words(results),
         "not_judged": results.unjudged(),
@@ -64,6 +70,16 @@ def _odd(results: Results) -> dict[str, int]:
         found |= {oddity.value: way.odd[oddity] for oddity in Oddity}
         found["the sign began anew by itself"] = way.reboots
     return found
+
+
+def _requirement(held: Requirement) -> dict[str, Any]:
+    return {
+        "requirement": held.word,
+        "claimed": held.is_claimed,
+        "range": held.claimed_range,
+        "chapters": held.chapters(),
+        **{outcome.replace(" ", "_"): held.count(outcome) for outcome in OUTCOMES},
+    }
 
 
 def _objects(held: list[tuple[str, str, str]]) -> list[dict[str, str]]:
@@ -83,6 +99,7 @@ def _one(difference: Difference, about: About) -> dict[str, Any]:
         "found_in": difference.found_in,
         "class": difference.mismatch.kind.value,
         "title": difference.title,
+        "names": [".".join(map(str, name)) for name in difference.mismatch.names],
         "cause": cause(difference),
         "rule": rule,
         "origin": origin(difference),
@@ -94,7 +111,10 @@ def _one(difference: Difference, about: About) -> dict[str, Any]:
         "ours": {"octets": difference.ours.hex() if difference.ours else None, "fields": ours},
         "theirs": {"octets": difference.theirs.hex() if difference.theirs else None, "fields": theirs},
         "repeated": difference.is_repeated,
+        "made_small": difference.is_shrunk,
         "note": how_sure(difference),
+        "own_note": difference.note,
+        "steps": difference.repeat_words(),
         "alike": difference.alike,
         "command": about.command(difference),
     }

@@ -5,10 +5,11 @@ import pathlib
 
 from wisangub.tester.findings.differences import Difference
 from wisangub.tester.findings.results import ChapterResult, Results, Verdict
+from wisangub.tester.findings.trace import ALIKE, DIFFERS
 
 from .causes import cause, causes
 from .picture import pages_of, svg
-from .words import About, head, how_sure, origin, sequence, verdict, way_words
+from .words import About, claim_words, head, how_sure, origin, sequence, verdict, way_words
 
 _STYLE = pathlib.Path(__file__).with_name("style.css").read_text(encoding="utf-8")
 
@@ -78,6 +79,18 @@ def _objects(title: str, held: list[tuple[str, str, str]]) -> str:
     return f"<h2>{title}</h2><table>{heads}{rows}</table>" if held else ""
 
 
+def _requirements(results: Results) -> str:
+    """A table of what the profile has, whether the sign claims it, and the cases that show it."""
+    rows = "".join(
+        f"<tr><td>{_quoted(held.word)}</td><td>{_quoted(claim_words(held))}</td>"
+        f'<td class="number">{held.count(ALIKE)}</td><td class="number">{held.count(DIFFERS)}</td>'
+        f"<td>{_quoted(', '.join(held.chapters()) or 'no case')}</td></tr>"
+        for held in results.trace.requirements()
+    )
+    heads = "<tr><th>object or tag</th><th>claimed</th><th>alike</th><th>differ</th><th>shown by cases of</th></tr>"
+    return f"<h2>What the cases show</h2><table>{heads}{rows}</table>"
+
+
 def _list(title: str, lines: list[str]) -> str:
     """A heading and what stands under it; nothing where there is nothing."""
     held = "".join(f"<li>{_quoted(line)}</li>" for line in lines)
@@ -95,11 +108,13 @@ def as_html(results: Results, about: About, not_tested: list[str]) -> str:
     once += _list("Besides the profile's objects, and no difference", results.besides)
     once += _list("The way to the sign", way_words(results)) + _list("Not judged", results.unjudged())
     summary = _list("What differs", causes(found))
+    once += _requirements(results)
     before = _objects("Described otherwise", results.configuration) + _objects(
         "Changed, and set back", results.set_back
     )
     left_out = "".join(f"<li>{_quoted(line)}</li>" for line in not_tested)
     facts = f"{head(about)}; oracle {about.oracle}; seed {about.seed}; {about.when}"
+    facts += f"; taken up from {results.taken_up}" if results.taken_up else ""
     heads = "<tr><th>chapter</th><th>cases</th><th>requests</th><th>time</th><th></th></tr>"
     parts = [
         f'<!doctype html><html lang="en"><meta charset="utf-8"><title>conform: {_quoted(about.to)}</title>',

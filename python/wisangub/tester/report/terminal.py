@@ -8,7 +8,7 @@ from wisangub.tester.findings.differences import Difference
 from wisangub.tester.findings.results import ChapterResult, Results
 
 from .causes import cause, causes
-from .words import About, besides_words, how_sure, origin, sequence, verdict, way_words
+from .words import About, besides_words, claims_words, how_sure, origin, sequence, verdict, way_words
 
 try:
     from rich.console import Console
@@ -144,7 +144,11 @@ def ending(results: Results, about: About, not_tested: list[str]) -> list[str]:
         lines += ["", *difference_lines(number, difference, about)]
     lines += ["", "what differs:", *[f"  {line}" for line in found]] if (found := causes(results.differences())) else []
     lines += ["", "not tested:", *[f"  {line}" for line in not_tested]]
-    for title, held in (("the way to the sign:", way_words(results)), ("not judged:", results.unjudged())):
+    for title, held in (
+        ("what the sign claims:", claims_words(results)),
+        ("the way to the sign:", way_words(results)),
+        ("not judged:", results.unjudged()),
+    ):
         lines += ["", title, *[f"  {line}" for line in held]] if held else []
     lines += ["", verdict(results)]
     return lines

@@ -3,6 +3,7 @@
 import re
 import shlex
 from dataclasses import dataclass
+from typing import Any
 
 from wisangub.process.places import called
 from wisangub.tester.chapters import Chapter
@@ -10,6 +11,7 @@ from wisangub.tester.context import Context
 from wisangub.tester.findings.compare import fields
 from wisangub.tester.findings.differences import Difference
 from wisangub.tester.findings.results import Results, Verdict
+from wisangub.tester.findings.trace import ALIKE, DIFFERS, NOT_SUPPORTED, Requirement
 
 NOT_SEEN = [
     "losses and returns of power, and the codes that they activate: no request makes them",
@@ -35,6 +37,11 @@ class About:
     is_slow: bool
     when: str
     program: str = ""
+    digest: str = ""  # of the octets of the description and of the claims
+
+    def test(self) -> dict[str, Any]:
+        """What a report has to have been asked for that goes on with another."""
+        return {"digest": self.digest, "seed": self.seed, "requests": self.requests, "slow": self.is_slow}
 
     def command(self, difference: Difference) -> str:
         """The command line that repeats a difference."""
@@ -105,6 +112,25 @@ def odd_words(results: Results) -> str:
         found += [f"{count} times {oddity.value}" for oddity, count in way.odd.items()]
         found += [f"{way.reboots} times begun anew by itself"] if way.reboots else []
     return ", ".join(found)
+
+
+def claim_words(held: Requirement) -> str:
+    """What a sign claims of an object or a tag."""
+    if not held.is_claimed:
+        return "not supported"
+    return f"{held.claimed_range[0]} to {held.claimed_range[1]}" if held.claimed_range else "yes"
+
+
+def claims_words(results: Results) -> list[str]:
+    """What the sign does not claim, and what of its claims no case shows, a line each."""
+    held = results.trace.requirements()
+    missing = [one.word for one in held if not one.is_claimed]
+    left_out = sum(case.outcome == NOT_SUPPORTED for case in results.trace.cases)
+    found = [f"not supported, and no failure: {', '.join(missing)}; {left_out} cases were left out"] if missing else []
+    narrower = [f"{one.word} {claim_words(one)}" for one in held if one.claimed_range]
+    found += [f"claimed in part: {', '.join(narrower)}"] if narrower else []
+    unseen = [one.word for one in held if one.is_claimed and not one.count(ALIKE) + one.count(DIFFERS)]
+    return found + ([f"shown by no case: {', '.join(unseen)}"] if unseen else [])
 
 
 def way_words(results: Results) -> list[str]:

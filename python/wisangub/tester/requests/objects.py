@@ -38,6 +38,23 @@ OWN_CODES = tuple(
         "dmsEndDurationMessage",
     )
 )
+# the numbers that objects take
+RANGES: dict[str, tuple[int, int]] = {
+    "defaultBackgroundColor": (0, 9),
+    "defaultForegroundColor": (0, 9),
+    "defaultFlashOn": (0, 255),
+    "defaultFlashOff": (0, 255),
+    "defaultJustificationLine": (2, 4),
+    "defaultJustificationPage": (2, 4),
+    "defaultPageOnTime": (0, 255),
+    "defaultPageOffTime": (0, 255),
+    "dmsShortPowerLossTime": (0, 65535),
+    "dmsTimeCommLoss": (0, 65535),
+    "dmsMessageTimeRemaining": (0, 65535),
+    "dmsMessageBeacon": (0, 1),
+    "dmsMessagePixelService": (0, 1),
+    "dmsMessageRunTimePriority": (1, 255),
+}
 COMMANDS = ("dmsActivateMessage", "dmsMessageTimeRemaining")  # what a SET writes and a sign acts on
 
 

@@ -4,6 +4,7 @@ import math
 from collections import Counter, deque
 from dataclasses import dataclass, field
 from enum import Enum
+from typing import Any
 
 from .clock import Clock
 
@@ -11,6 +12,8 @@ LONGEST_SILENCE = 5.0  # seconds: a longer one is more than a way that loses som
 _PATIENCE = 30.0  # seconds without a reply after which a test ends
 _MOST_KEPT = 2048  # requests whose replies may still come
 _MOST_SHOWN = 100  # octets of a reply that no way makes
+_SUMS = ("asked", "unanswered", "late", "doubled", "reboots")  # what is counted of a way
+_MOSTS = ("longest", "slowest")  # seconds, of which the most is kept
 _DELAYS = 24  # replies that are looked at to see whether they come in time
 
 
@@ -144,6 +147,21 @@ class Way:
         """What was silent is no reason to stop any more: once more is tried, with no deadline."""
         self.deadline, self._silent_since, self._in_a_row = math.inf, None, 0
         self._delays.clear()
+
+    def counts(self) -> dict[str, Any]:
+        """What was seen, as a report keeps it."""
+        held: dict[str, Any] = {word: getattr(self, word) for word in (*_SUMS, *_MOSTS)}
+        return held | {"odd": {oddity.name: [self.odd[oddity], self.examples[oddity].hex()] for oddity in self.odd}}
+
+    def add(self, counts: dict[str, Any]) -> None:
+        """What an earlier part of the test saw. Raises KeyError, TypeError or ValueError where it is none."""
+        for word in _SUMS:
+            setattr(self, word, getattr(self, word) + int(counts[word]))
+        for word in _MOSTS:
+            setattr(self, word, max(getattr(self, word), float(counts[word])))
+        for name, (count, example) in counts["odd"].items():
+            self.odd[Oddity[name]] += int(count)
+            self.examples.setdefault(Oddity[name], bytes.fromhex(example))
 
     def words(self) -> list[str]:
         """What was seen, a line each; nothing where all replies came once and in time."""

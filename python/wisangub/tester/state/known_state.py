@@ -72,7 +72,8 @@ class KnownState:
         """What is set directly."""
         wanted = {name: integer(value) for name, value in zip(DEFAULTS, self.context.defaults)}
         wanted |= {name: octets(self.context.blank) for name in OWN_CODES}
-        return wanted | {scalar("dmsShortPowerLossTime"): integer(0), scalar("dmsTimeCommLoss"): integer(0)}
+        wanted |= {scalar("dmsShortPowerLossTime"): integer(0), scalar("dmsTimeCommLoss"): integer(0)}
+        return self._taken(wanted)
 
     def verdicts(self) -> dict[Name, Value]:
         """What a validation of an empty row leaves."""
@@ -108,7 +109,11 @@ class KnownState:
 
     def emptied(self, row: Row) -> dict[Name, Value]:
         """The fields of a row that is not used."""
-        return dict([row.text(b""), row.owner(b""), row.beacon(0), row.pixel(0), row.priority(1)])
+        return self._taken(dict([row.text(b""), row.owner(b""), row.beacon(0), row.pixel(0), row.priority(1)]))
+
+    def _taken(self, wanted: dict[Name, Value]) -> dict[Name, Value]:
+        """Those that the sign claims to take."""
+        return {name: value for name, value in wanted.items() if self.context.claims.is_taken((name, value))}
 
     def all(self, rows: Iterable[Row]) -> dict[Name, Value]:
         """Everything, for these rows."""

@@ -48,6 +48,7 @@ class Preflight:
         if not _is_heard(self.reset):
             self.results.is_silent = True
             return False
+        self.pair.masked.update(name for name in self.context.all_instances if self.context.claims.is_missing(name))
         self.configure()
         others = [name for name, _, _ in self.results.configuration if name in _OTHER_SIGN]
         if others and not is_anyway:
@@ -262,8 +263,9 @@ def _first_state(context: Context) -> dict[Name, Value]:
 
 def _differing(reset: Reset, wanted: dict[Name, Value]) -> list[tuple[Name, Value, Value | None]]:
     """Each object that reads otherwise, with what is described and what is read."""
-    have = reset.read(list(wanted))
-    return [(name, value, have[name]) for name, value in wanted.items() if have[name] != value]
+    names = [name for name in wanted if not reset.context.claims.is_missing(name)]
+    have = reset.read(names)
+    return [(name, wanted[name], have[name]) for name in names if have[name] != wanted[name]]
 
 
 def _is_heard(reset: Reset) -> bool:

@@ -1,0 +1,107 @@
+"""A test that ended before its last case is taken up by the report that it wrote."""
+
+import pathlib
+import tempfile
+from dataclasses import replace
+
+from model import text
+from model.sign import Sign
+from trials.wrong_signs import bench
+from trials.wrong_signs.load import sign_of
+from trials.wrong_signs.table import MUTANTS
+from wisangub.refusal import Refusal
+from wisangub.tester.chapters import Chapter
+from wisangub.tester.findings.results import ChapterResult, Quiet, Results, Verdict
+from wisangub.tester.report import files, terminal, words
+from wisangub.tester.report.earlier import Earlier
+from wisangub.tester.session import Session, chapters_of
+from wisangub.tester.sign.simulated import SomeSign
+from wisangub.tester.sign.way import Oddity
+
+ABOUT = words.About("127.0.0.1:1", "bench.sign", "model", None, 1, 0, False, "today", digest="1f")
+COMMUNITIES = (b"public", b"admin")
+CHAPTERS = ("communities", "set", "priorities")
+
+
+class Interrupting(Quiet):
+    """An interrupt in the second chapter; it keeps which chapters were begun."""
+
+    def __init__(self, is_interrupting: bool = True) -> None:
+        self.is_interrupting = is_interrupting
+        self.names: list[str] = []
+
+    def begun(self, chapter: Chapter, blocks: int) -> None:
+        self.names.append(chapter.name)
+
+    def went_on(self, result: ChapterResult, at: int) -> None:
+        if self.is_interrupting and result.chapter.name == "set" and at == 3:
+            raise KeyboardInterrupt
+
+
+def session(sign: SomeSign, watcher: Interrupting) -> Session:
+    return bench.session(text.BENCH, sign, requests=0, watcher=watcher)
+
+
+def interrupted(sign: SomeSign, path: pathlib.Path) -> Results:
+    """A test that is interrupted in its second chapter; its report is in the file."""
+    made = session(sign, Interrupting())
+    made.pair.port.way.note(Oddity.GARBAGE, b"\x30")
+    results = made.run(chapters_of(CHAPTERS, False))
+    path.write_text(files.as_json(results, ABOUT, []), encoding="utf-8")
+    return results
+
+
+def wrong() -> SomeSign:
+    return sign_of([mutant for mutant in MUTANTS if mutant.name == "the_reader_writes"], text.BENCH)
+
+
+def test_what_was_judged_stands_and_the_rest_is_asked() -> None:
+    with tempfile.TemporaryDirectory() as folder:
+        path = pathlib.Path(folder) / "report.json"
+        before, watcher = interrupted(wrong(), path), Interrupting(False)
+        made = session(wrong(), watcher)
+        earlier = Earlier.read(path, ABOUT, COMMUNITIES)
+        earlier.put_into(made.results, made.pair.port.way)
+        assert earlier.words() == "taken up from the report of today: 1 chapters stand as they were judged"
+        results = made.run(chapters_of(CHAPTERS, False))
+    assert watcher.names == ["set", "priorities"] and before.stopped and not results.stopped
+    assert [held.chapter.name for held in results.chapters] == list(CHAPTERS) and not results.unjudged()
+    again, told = results.differences()[0], before.differences()[0]
+    assert again.repeat_words() == told.repeat_words() and again.sides() == told.sides()
+    assert terminal.difference_lines(1, again, ABOUT) == terminal.difference_lines(1, told, ABOUT)
+    assert results.way is not None and results.way.odd[Oddity.GARBAGE] == 1 and results.taken_up == "today"
+    assert results.verdict() is Verdict.DIFFERS
+
+
+def test_a_right_sign_conforms_in_two_parts() -> None:
+    with tempfile.TemporaryDirectory() as folder:
+        path = pathlib.Path(folder) / "report.json"
+        made = session(Sign(text.bench()), Interrupting())
+        first = made.run(chapters_of(CHAPTERS, False))
+        path.write_text(files.as_json(first, ABOUT, []), encoding="utf-8")
+        made = session(Sign(text.bench()), Interrupting(False))
+        Earlier.read(path, ABOUT, COMMUNITIES).put_into(made.results, made.pair.port.way)
+        results = made.run(chapters_of(CHAPTERS, False))
+    assert first.verdict() is Verdict.NOT_JUDGED and results.verdict() is Verdict.CONFORMS, results.unjudged()
+
+
+def test_a_report_of_another_test_is_not_taken_up() -> None:
+    with tempfile.TemporaryDirectory() as folder:
+        path = pathlib.Path(folder) / "report.json"
+        interrupted(wrong(), path)
+        others = [replace(ABOUT, digest="2e"), replace(ABOUT, seed=2), replace(ABOUT, is_slow=True)]
+        for about in others:
+            try:
+                Earlier.read(path, about, COMMUNITIES)
+            except Refusal as refused:
+                assert "another test" in str(refused)
+            else:
+                raise AssertionError(about)
+        for held in ("", "[]", '{"test": {}}'):
+            path.write_text(held, encoding="utf-8")
+            try:
+                Earlier.read(path, ABOUT, COMMUNITIES)
+            except Refusal as refused:
+                assert "is no report" in str(refused) or "another test" in str(refused)
+            else:
+                raise AssertionError(held)

@@ -1,0 +1,101 @@
+"""A test that ended before its last case, taken up again: `--resume` and the report that `--json` wrote."""
+
+import json
+import pathlib
+from dataclasses import dataclass
+from typing import Any
+
+from wisangub.refusal import Refusal, reason
+from wisangub.tester.chapters import ALL
+from wisangub.tester.findings.compare import Kind, Mismatch
+from wisangub.tester.findings.differences import Difference
+from wisangub.tester.findings.results import ChapterResult, Results
+from wisangub.tester.findings.rules import RULES
+from wisangub.tester.findings.trace import Case
+from wisangub.tester.runs.repeat import steps_of
+from wisangub.tester.sign.pair import Exchange
+from wisangub.tester.sign.way import Way
+
+from .words import About
+
+_BY_NAME = {chapter.name: chapter for chapter in ALL}
+
+
+@dataclass
+class Earlier:
+    """What an earlier report has of the chapters that were judged to their last case."""
+
+    when: str
+    chapters: list[ChapterResult]
+    once_before: list[Difference]
+    set_back: list[tuple[str, str, str]]
+    counts: dict[str, Any]
+    cases: list[Case]
+
+    @staticmethod
+    def read(path: pathlib.Path, about: About, communities: tuple[bytes, bytes]) -> "Earlier":
+        """The report of this file. Raises Refusal where it is none, or one of another test."""
+        try:
+            held = json.loads(path.read_text(encoding="utf-8"))
+            if held["test"] != about.test():
+                raise Refusal(f"{path} is the report of another test: another description, seed, or other options")
+            return _earlier(held, communities)
+        except OSError as fault:
+            raise Refusal(f"the earlier report cannot be read: {reason(fault)}") from None
+        except (ValueError, KeyError, TypeError, AttributeError):
+            raise Refusal(f"{path} is no report that --json wrote") from None
+
+    def put_into(self, results: Results, way: Way) -> None:
+        """The test goes on with what was judged."""
+        way.add(self.counts)
+        results.taken_up = self.when
+        results.chapters += self.chapters
+        results.once_before += self.once_before
+        results.set_back += self.set_back
+        results.trace.cases += self.cases
+
+    def words(self) -> str:
+        """What is taken up, in a line."""
+        return f"taken up from the report of {self.when}: {len(self.chapters)} chapters stand as they were judged"
+
+
+def _earlier(held: dict[str, Any], communities: tuple[bytes, bytes]) -> Earlier:
+    chapters = [_chapter(one) for one in held["chapters"] if one["cases"] == one["wanted"] and not one["not_told"]]
+    by_name = {one.chapter.name: one for one in chapters}
+    before: list[Difference] = []
+    for found in held["differences"]:
+        if found["found_in"] in by_name:
+            by_name[found["found_in"]].differences.append(_difference(found, communities))
+    for found in held["seen_once"]:
+        is_before = found["found_in"] not in _BY_NAME
+        if is_before or found["found_in"] in by_name:
+            kept = before if is_before else by_name[found["found_in"]].once
+            kept.append(_difference(found, communities))
+    set_back = [(one["object"], one["described"], one["read"]) for one in held["set_back"]]
+    cases = [Case(**case) for case in held["cases"] if case["chapter"] in by_name]
+    return Earlier(held["taken_up"] or held["when"], chapters, before, set_back, held["way_counts"], cases)
+
+
+def _chapter(held: dict[str, Any]) -> ChapterResult:
+    found = ChapterResult(_BY_NAME[held["name"]], held["wanted"], held["cases"], held["requests"])
+    found.seconds = held["seconds"]
+    return found
+
+
+def _difference(held: dict[str, Any], communities: tuple[bytes, bytes]) -> Difference:
+    """A difference as it was told."""
+    words = held["steps"].split(",")
+    sent = [None if word == "tick" else b"" if word == "-" else bytes.fromhex(word) for word in words]
+    steps = steps_of(held["steps"], communities)
+    ours, theirs = (_octets(held[side]["octets"]) for side in ("ours", "theirs"))
+    names = tuple(tuple(map(int, name.split("."))) for name in held["names"])
+    octets = next(octets for octets in reversed(sent) if octets is not None)
+    exchange = Exchange(steps[-1], octets, ours, theirs, Mismatch(Kind(held["class"]), names))
+    found = Difference.of(RULES[held["rule"]["key"]], held["found_in"], exchange, steps, sent)
+    found.is_repeated, found.is_shrunk = held["repeated"], held["made_small"]
+    found.alike, found.note = held["alike"], held["own_note"]
+    return found
+
+
+def _octets(digits: str | None) -> bytes | None:
+    return None if digits is None else bytes.fromhex(digits)
