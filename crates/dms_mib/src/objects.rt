@@ -1,5 +1,8 @@
 //! The table of the objects of a sign (NTCIP 1203, each object's SYNTAX and ACCESS, narrowed to this profile).
 
+ghost use Rattle.std.specs.Prelude.{◌≡◌};
+ghost use Rattle.dms_mib.specs.Objects.{is_written};
+
 use crate::column::Column;
 use crate::scalar::Scalar;
 use dms_codes::{MAX_OWNER, MAX_TEXT};
@@ -26,15 +29,25 @@ pub enum Access {
     Command,
 }
 
+impl Access {
+    /// Whether a SET may name the object.
+    #[inline]
+    pub fn is_written(self) -> bool
+        ensures { result ≡ is_written self }
+    {
+        !matches!(self, Access::Read)
+    }
+}
+
 /// The type of an object's values, and their range.
 #[derive(Clone, Copy, Debug, PartialEq, Eq)]
 pub enum Syntax {
     /// An INTEGER.
     Whole,
     /// An INTEGER from the first to the second.
-    Range(u32, u32),
+    Range(u16, u16),
     /// An INTEGER, read from the first to the second, and written from the third to the fourth.
-    Asks(u32, u32, u32, u32),
+    Asks(u16, u16, u16, u16),
     /// An OCTET STRING of so many octets, from the first to the second.
     Octets(u16, u16),
     /// An IpAddress.
@@ -60,6 +73,8 @@ pub struct Object {
     pub syntax: Syntax,
     pub instances: Instances,
 }
+
+// made by tools/objects.py --code
 
 /// Each object with the name that the MIB has, in the order of names.
 pub const OBJECTS: [(&str, Object); 45] = [
@@ -514,3 +529,5 @@ pub const OBJECTS: [(&str, Object); 45] = [
         },
     ),
 ];
+
+// the end of what is made

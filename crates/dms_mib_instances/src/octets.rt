@@ -71,6 +71,8 @@ fn object_named(group: u8, number: u8) -> Option<Instance>
     Some(Instance::Scalar(scalar_of(group, number)?))
 }
 
+// made by tools/objects.py --code
+
 /// The column of this number.
 #[inline]
 pub(crate) fn column_of(number: u8) -> Option<Column>
@@ -199,6 +201,8 @@ pub(crate) fn last_object(group: u8) -> u8
         _ => 0,
     }
 }
+
+// the end of what is made
 
 /// The first octet and those after it.
 #[inline(always)]

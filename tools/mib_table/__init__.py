@@ -1,0 +1,1 @@
+"""What is made of the table of objects, for tools/objects.py."""

@@ -1,0 +1,54 @@
+"""What is made of the table of objects, and which tables are refused."""
+
+import pathlib
+import shutil
+
+import pytest
+from mib_table.code import CODE, COLUMN, OBJECTS, OCTETS, SCALAR
+from mib_table.pages import profile_objects
+from mib_table.table import TABLE, BadTable, Object, read
+
+TOP = pathlib.Path(__file__).resolve().parents[3]
+ROW = 'scalar_row SignWidthPixels = row (codes "vmsSignWidthPixels") VmsCfg 4 Read (Range 1 256)\n'
+TRIAL = '-- A number.\nscalar_row Trial = row (codes "vmsTrial") VmsCfg 7 Write (Range 3 9)\n'
+PLACE = "every_object =\n    One SignHeightPixels ∷ One SignWidthPixels"
+
+
+def objects_of(top: pathlib.Path, *changes: tuple[str, str]) -> list[Object]:
+    """The objects of the repository's table once these texts stand in place of those."""
+    for crate in ("dms_mib", "dms_codes"):
+        shutil.copytree(TOP / f"crates/{crate}/specs", top / f"crates/{crate}/specs")
+    text = (top / TABLE).read_text(encoding="utf-8")
+    for old, new in changes:
+        assert text.count(old) == 1
+        text = text.replace(old, new)
+    (top / TABLE).write_text(text, encoding="utf-8")
+    return read(top)
+
+
+def test_an_object_of_the_table_is_in_each_file_that_is_made(tmp_path: pathlib.Path) -> None:
+    objects = objects_of(tmp_path, (ROW, ROW + TRIAL), (PLACE, f"{PLACE} ∷ One Trial"))
+    made = {name: make(objects) for name, make in CODE}
+    assert "instances: Instances::One(Scalar::Trial)," in made[OBJECTS]
+    assert "    /// vmsTrial: A number\n    Trial," in made[SCALAR]
+    for arm in ("=> (2, 7),", "=> Access::Write,", "=> Syntax::Range(3, 9),"):
+        assert f"Scalar::Trial {arm}" in made[SCALAR]
+    assert "7 => Some(Scalar::Trial)," in made[OCTETS]
+    assert "2 => 7," in made[OCTETS]
+    assert "Trial" not in made[COLUMN]
+    assert "| 2.7 | vmsTrial | 3 to 9 | w | A number. |" in profile_objects(objects)
+
+
+@pytest.mark.parametrize(
+    "changes",
+    [
+        [(ROW, ROW + TRIAL)],  # it has no place in the list
+        [(ROW, ROW + TRIAL.partition("\n")[2]), (PLACE, f"{PLACE} ∷ One Trial")],  # nothing is said above it
+        [("(Range 1 256)", "(Range 1)")],
+        [("(Range 1 256)", "(Range 1 widest)")],
+        [("VmsCfg 4 Read", "VmsCfg 4 Seen")],
+    ],
+)
+def test_a_table_that_lacks_something_is_refused(tmp_path: pathlib.Path, changes: list[tuple[str, str]]) -> None:
+    with pytest.raises(BadTable):
+        objects_of(tmp_path, *changes)
