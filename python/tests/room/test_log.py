@@ -11,8 +11,8 @@ from wisangub.endpoint.records import Head
 from wisangub.process import description
 from wisangub.refusal import Refusal
 from wisangub.room.fleet import Sign
+from wisangub.room.plain import plain_of
 from wisangub.room.web.faces import check, face_of
-from wisangub.room.web.plain import plain_of
 from wisangub.room.web.replay import replayed
 from wisangub.room.worker.steps import Steps
 from wisangub.snmp.mib import Mib

@@ -7,7 +7,8 @@ from . import needs
 
 needs.modules("aiohttp", "jinja2")
 
-from wisangub.room.store import history
+from wisangub.room.store import history, library, rules
+from wisangub.room.store.library import Written
 from wisangub.room.store.lines import Line
 from wisangub.room.store.users import Role
 from wisangub.room.web.app import ROUTES
@@ -29,12 +30,16 @@ PAGES = {
     "/account": Role.READER,
     "/alarms": Role.READER,
     "/batches/1": Role.READER,
+    "/library": Role.READER,
+    "/library/1": Role.READER,
     "/compose": Role.OPERATOR,
     "/compose?sign={one}&sign={gantry}": Role.OPERATOR,
     "/compose?again=1": Role.OPERATOR,
+    "/compose?sign={one}&text=1": Role.OPERATOR,
     "/blank?sign={one}&sign={two}": Role.OPERATOR,
     "/show?sign={one}&memory=3&number=1": Role.OPERATOR,
     "/users": Role.ADMINISTRATOR,
+    "/rules": Role.ADMINISTRATOR,
     "/audit": Role.ADMINISTRATOR,
 }
 POSTS = {
@@ -44,6 +49,10 @@ POSTS = {
     "/users": Role.ADMINISTRATOR,
     "/commands/1/withdraw": Role.OPERATOR,
     "/alarms/1/acknowledge": Role.OPERATOR,
+    "/library": Role.OPERATOR,
+    "/library/1": Role.OPERATOR,
+    "/library/1/approve": Role.ADMINISTRATOR,
+    "/rules": Role.ADMINISTRATOR,
 }
 MARKUP = "<script>alert('&')</script>"
 
@@ -88,6 +97,10 @@ def filled(bench: Bench) -> None:
         "INSERT INTO batches (confirmation, who, at, what) VALUES ('x', 'operator', {clock}, ?)", MARKUP
     )
     bench.store.database.run("INSERT INTO batch_commands (batch, command) VALUES (1, ?)", command)
+    purpose = rules.purposes(bench.store.database)[0].id
+    library.add(bench.store.database, Written("<i>Folder</i>", "<b>Name</b>", b"[fo2]FOG", purpose), "operator")
+    library.approve(bench.store.database, 1, b"[fo2]FOG", bench.service.faces[bench.one].key, "administrator")
+    rules.forbid(bench.store.database, "<i>word</i>", "administrator")
 
 
 def where_of(bench: Bench, path: str) -> str:
@@ -131,7 +144,7 @@ def test_texts_and_names_are_escaped(tmp_path: pathlib.Path) -> None:
         one = await bench.logged_in(visitor, "administrator")
         pages = await every_page(bench, one)
         for path, text in pages.items():
-            assert "<script>alert" not in text and "<b>two</b>" not in text and "<i>19" not in text, path
+            assert not any(one in text for one in ("<script>alert", "<b>two", "<i>19", "<i>F", "<b>N", "<i>w")), path
             assert not re.search(r"<[^>]*\s(on\w+|style)=", text), path
             assert re.findall(r"<script(?! src=)", text) == [] and "<style" not in text, path
         assert "&lt;script&gt;alert(&#39;&amp;&#39;)" in pages["/signs/{one}"]

@@ -1,5 +1,6 @@
 """A fleet: the signs that are driven, read from a TOML file; a fault is told with its file, line and reason."""
 
+import hashlib
 import pathlib
 import re
 import stat
@@ -31,6 +32,7 @@ LAST_NUMBER = 2**31 - 1
 _EVERY = 10.0  # seconds between polls where the fleet does not say it
 _ORDER = re.compile(rb"^order (?:high|swapped)(?=\r?$)", re.MULTILINE)
 _COMMUNITIES = re.compile(rb"^communities ([^ \r\n]+) ([^ \r\n]+)\r?$", re.MULTILINE)
+_OWN = re.compile(rb"^(communities|order|first) .*\n", re.MULTILINE)  # of a sign, and not of its kind
 _PLACE = re.compile(r" \(at (?:line (\d+), column \d+|end of document)\)$")
 
 
@@ -58,6 +60,16 @@ class Sign:
     @property
     def digest(self) -> str:
         return description.digest(self.text)
+
+    @property
+    def kind(self) -> str:
+        """Which kind of signs it is of: one has its matrix, fonts and rows. No community goes into it."""
+        return kind_of(self.text)
+
+
+def kind_of(text: bytes) -> str:
+    """The kind of signs that a description is of."""
+    return hashlib.sha256(_OWN.sub(b"", text)).hexdigest()[:16]
 
 
 def is_name(word: str) -> bool:

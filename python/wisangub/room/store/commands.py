@@ -3,8 +3,10 @@
 from dataclasses import dataclass
 from typing import Sequence
 
+from . import rules
 from .audit import note
 from .connection import Database, Taken
+from .shown_by import text_of
 from .values import CLOCK, text_or_none, texts, whole
 
 
@@ -24,13 +26,13 @@ class Commands:
         self._run = database.run
 
     def ask(self, sign: int, who: str, line: str) -> int:
-        """A command that waits for its turn: its number."""
+        """A command that waits for its turn: its number. One that has a sign show a forbidden word is refused."""
         with self.database.transaction():
-            return self._put(sign, who, line)
+            return self._put(sign, who, line, rules.words(self.database))
 
     def ask_all(self, lines: Sequence[tuple[int, str]], who: str, what: str, confirmation: str) -> int:
         """A command for each of these signs, or for none: the number of what was asked, which `what` says in words. A
-        confirmation counts once: where it is there already, what was asked with it then."""
+        confirmation counts once: where it is there already, what was asked with it then. Refused as in `ask`."""
         try:
             with self.database.transaction():
                 rows = self._run(
@@ -39,9 +41,9 @@ class Commands:
                     who,
                     what,
                 )
-                batch = whole(rows[0][0])
+                batch, forbidden = whole(rows[0][0]), rules.words(self.database)
                 for sign, line in lines:
-                    command = self._put(sign, who, line)
+                    command = self._put(sign, who, line, forbidden)
                     self._run("INSERT INTO batch_commands (batch, command) VALUES (?, ?)", batch, command)
                 return batch
         except Taken:
@@ -50,8 +52,10 @@ class Commands:
                 raise
             return whole(rows[0][0])
 
-    def _put(self, sign: int, who: str, line: str) -> int:
+    def _put(self, sign: int, who: str, line: str, forbidden: list[str]) -> int:
         """A command with its line of the audit, within a transaction: its number."""
+        if forbidden:
+            rules.check(text_of(self.database, sign, line), forbidden)
         rows = self._run(
             f"INSERT INTO commands (sign, who, asked_at, line) VALUES (?, ?, {CLOCK}, ?) RETURNING id", sign, who, line
         )

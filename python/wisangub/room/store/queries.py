@@ -207,6 +207,11 @@ def now(database: Database) -> float:
     return time_of(database.run("SELECT {clock}")[0][0])
 
 
+def row_text(held: str) -> bytes:
+    """The text of a row, of what is kept of it."""
+    return _octets_of(json.loads(held), "text")
+
+
 @dataclass(frozen=True)
 class RowView:
     """A row of a sign's message table, as it was last read."""

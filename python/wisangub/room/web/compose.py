@@ -8,16 +8,18 @@ from typing import Any
 
 from aiohttp import web
 
-from wisangub.room.store import queries
+from wisangub.room.plain import forbidden_in, plain_of
+from wisangub.room.store import library, queries, rules
 from wisangub.room.store.database import Database
+from wisangub.room.store.library import Text
 from wisangub.room.store.queries import SignView
+from wisangub.room.store.rules import Purpose
 from wisangub.snmp.names import Memory, RowStatus
 
 from . import draft as drafts
 from .draft import Draft
 from .faces import Face
 from .pictures import Picture
-from .plain import plain_of
 from .record_pages import number_of
 from .service import Service, service_of, visitor_of
 from .words import asked, text_of
@@ -45,12 +47,20 @@ def marked(text: str, offset: int) -> tuple[str, str, str]:
     return text[:offset], text[offset:end], text[end:]
 
 
+def _fault_of(text: str, forbidden: list[str]) -> tuple[int, str] | None:
+    """What no sign takes or may show: its place, and why."""
+    if fault := drafts.text_fault(text):
+        return fault
+    found = forbidden_in(text.encode("latin-1"), forbidden)
+    return None if found is None else (found[0], rules.refused(found[1]))
+
+
 async def looks(service: Service, signs: tuple[int, ...], text: str) -> list[Look]:
     """The text on each face of the signs."""
     of: dict[str, list[int]] = {}
     for sign_id in signs:
         of.setdefault(service.faces[sign_id].key, []).append(sign_id)
-    fault = drafts.text_fault(text)
+    fault = _fault_of(text, await service.connections.run(rules.words))
     made = []
     for key, rows in of.items():
         face, names = service.by_key[key], tuple(service.signs[sign_id].name for sign_id in rows)
@@ -105,8 +115,14 @@ async def answer(request: web.Request, draft: Draft, status: int = 200) -> web.R
     """The form, with the looks that the text has now."""
     service = service_of(request)
     found = await looks(service, draft.signs, draft.text) if draft.text and draft.signs else []
-    now = await service.connections.run(queries.now)
+
+    def held(database: Database) -> tuple[list[Purpose], list[Text], float]:
+        return rules.purposes(database), library.listed(database), queries.now(database)
+
+    purposes, texts, now = await service.connections.run(held)
     faces = [service.faces[sign_id] for sign_id in draft.signs] or list(service.faces.values())
+    chosen = [service.faces[sign_id] for sign_id in draft.signs]
+    kinds = {face.key for face in chosen}
     return service.page(
         request,
         "compose.html",
@@ -115,6 +131,9 @@ async def answer(request: web.Request, draft: Draft, status: int = 200) -> web.R
         looks=found,
         signs=_choice(service),
         now=now,
+        purposes=purposes,
+        purpose=next((one for one in purposes if draft.is_of(one, chosen)), None),
+        texts=[one for one in texts if one.approvals and kinds <= one.kinds],
         most={memory: min(face.most(memory) for face in faces) for memory in (Memory.CHANGEABLE, Memory.VOLATILE)},
         has_beacon=all(face.has_beacon for face in faces),
         has_pixel=all(face.has_pixel for face in faces),
@@ -127,8 +146,10 @@ async def form(request: web.Request) -> web.Response:
     """The form, for the signs of the address; with the text of an earlier command, where it names one."""
     service = service_of(request)
     draft = drafts.read(request.query, service.faces)
-    again = number_of(request, "again")
+    again, number = number_of(request, "again"), number_of(request, "text")
     command = await service.connections.run(partial(queries.command, number=again)) if again is not None else None
+    if number is not None:
+        draft = await _with_text(service, draft, number)
     if command is not None and (old := asked(command.line)).kind == "publish":
         draft = dataclasses.replace(
             draft,
@@ -143,6 +164,21 @@ async def form(request: web.Request) -> web.Response:
             minutes=old.minutes,
         )
     return await answer(request, dataclasses.replace(draft, faults={}))
+
+
+async def _with_text(service: Service, draft: Draft, number: int) -> Draft:
+    """The draft with a text of the library, and with the row and the priority of what that one is for."""
+    text = await service.connections.run(lambda database: library.found(database, number))
+    if text is None:
+        raise web.HTTPNotFound(text="There is no such text in the library.")
+    return await _of_purpose(service, dataclasses.replace(draft, text=text_of(text.text)), text.purpose)
+
+
+async def _of_purpose(service: Service, draft: Draft, number: int) -> Draft:
+    """The draft with the row and the priority of a purpose, where there is one."""
+    purpose = await service.connections.run(lambda database: rules.purpose(database, number))
+    of = [service.faces[sign_id] for sign_id in draft.signs]
+    return draft if purpose is None else draft.of_purpose(purpose, of)
 
 
 @dataclass(frozen=True)
@@ -185,22 +221,37 @@ def lines(service: Service, database: Database, draft: Draft, text: bytes) -> tu
 async def confirmation(request: web.Request, draft: Draft, text: bytes) -> web.Response:
     """The last page before it is asked for."""
     service = service_of(request)
-    found, now = await service.connections.run(lambda database: lines(service, database, draft, text))
+
+    def held(database: Database) -> tuple[list[Line], float, set[str]]:
+        return *lines(service, database, draft, text), library.kinds_of(database, text)
+
+    found, now, kinds = await service.connections.run(held)
     return service.page(
         request,
         "confirm.html",
         draft=draft,
         lines=found,
         now=now,
+        unapproved=[one.sign.name for one in found if service.faces[one.sign.id].key not in kinds],
         shown_text=text_of(text),
         confirmation=service.seal.confirmation(visitor_of(request).login, draft.confirmed),
     )
 
 
+def _row_in(fields: Any, key: str) -> int | None:
+    """The number of a row that a form names."""
+    word = str(fields.get(key, ""))
+    return int(word) if word.isascii() and word.isdecimal() and len(word) < 10 else None
+
+
 async def confirm(request: web.Request) -> web.Response:
+    """The confirmation of a text, or the form again with what is wrong."""
     service = service_of(request)
     fields = await request.post()
     draft = drafts.read(fields, service.faces)
+    purpose = _row_in(fields, "purpose")
+    if purpose is not None:
+        draft = await _of_purpose(service, draft, purpose)
     if draft.faults or fields.get("do") == "back":
         return await answer(request, draft, 422 if draft.faults else 200)
     if any(one.src is None for one in await looks(service, draft.signs, draft.text)):
@@ -213,7 +264,16 @@ async def blank(request: web.Request) -> web.Response:
     draft = drafts.read(request.query, service_of(request).faces, "blank")
     if "sign" in draft.faults:
         raise web.HTTPBadRequest(text=draft.faults["sign"])
-    return await confirmation(request, draft, b"")
+    shown = await service_of(request).connections.run(lambda database: _shown_priorities(database, draft.signs))
+    return await confirmation(request, dataclasses.replace(draft, priority=max(shown)), b"")
+
+
+def _shown_priorities(database: Database, signs: tuple[int, ...]) -> list[int]:
+    """The priority of what each sign shows, which taking it away needs; of one that never said it, that of no purpose
+    is above it."""
+    found = [queries.sign(database, sign_id) for sign_id in signs]
+    said = [sign.shown.priority if sign is not None and sign.shown else None for sign in found]
+    return [rules.MOST if priority is None else priority for priority in said]
 
 
 async def row(request: web.Request) -> web.Response:
@@ -226,5 +286,5 @@ async def row(request: web.Request) -> web.Response:
     found = [one for one in last.rows if (one.memory, one.number) == (draft.memory, draft.number)]
     if not found or found[0].status != RowStatus.VALID:
         raise web.HTTPNotFound(text="The sign's table, as it was last read, has no valid message there.")
-    draft = dataclasses.replace(draft, checksum=found[0].checksum)
+    draft = dataclasses.replace(draft, checksum=found[0].checksum, priority=found[0].priority or rules.MOST)
     return await confirmation(request, draft, found[0].text)

@@ -5,6 +5,7 @@ import re
 from dataclasses import dataclass, field, replace
 from typing import Any, Mapping
 
+from wisangub.room.store.rules import Purpose
 from wisangub.snmp.names import Memory
 
 from .faces import Face
@@ -12,7 +13,8 @@ from .words import NO_END
 
 _NUMBER = re.compile(r"[0-9]{1,5}")
 KINDS = ("publish", "blank", "activate")
-_MOST_TEXT = 512
+GREATEST = 255  # the priority that nothing else comes above: it is warned of
+_RULED = ("memory", "number", "run", "priority")  # what a purpose decides
 
 
 @dataclass(frozen=True)
@@ -35,6 +37,28 @@ class Draft:
     @property
     def octets(self) -> bytes:
         return self.text.encode("latin-1", "replace")
+
+    @property
+    def is_greatest(self) -> bool:
+        """Whether it takes away whatever is shown, or lets nothing else take it away."""
+        return GREATEST in ((self.priority, self.run) if self.kind == "publish" else (self.priority,))
+
+    def of_purpose(self, purpose: Purpose, of: list[Face]) -> "Draft":
+        """The row and the priorities by an agency's rules: of a sign with fewer rows its last one."""
+        number = min([purpose.number, *(face.most(Memory.CHANGEABLE) for face in of)])
+        faults = {key: words for key, words in self.faults.items() if key not in _RULED}
+        return replace(
+            self,
+            memory=int(Memory.CHANGEABLE),
+            number=max(1, number),
+            run=purpose.priority,
+            priority=purpose.priority,
+            faults=faults,
+        )
+
+    def is_of(self, purpose: Purpose, of: list[Face]) -> bool:
+        """Whether its row and priorities are those of a purpose."""
+        return self.of_purpose(purpose, of) == self
 
     @property
     def confirmed(self) -> str:

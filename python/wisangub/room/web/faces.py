@@ -1,15 +1,11 @@
 """What a sign is made with, for the pages: its matrix, fonts, rows and permanent messages, from its description."""
 
 import functools
-import hashlib
-import re
 from dataclasses import dataclass
 
 from wisangub.process.coprocess import CoProcess
-from wisangub.room.fleet import Sign
+from wisangub.room.fleet import Sign, kind_of
 from wisangub.snmp.names import Memory
-
-_OWN = re.compile(rb"^(communities|order|first) .*\n", re.MULTILINE)  # of a sign, and not of how it looks
 
 
 @dataclass(frozen=True)
@@ -24,7 +20,7 @@ class Permanent:
 
 @dataclass(frozen=True)
 class Face:
-    """`key` tells faces apart in addresses of pictures; no community goes into it."""
+    """`key` is the kind of the signs that have it, and tells faces apart in addresses of pictures."""
 
     key: str
     text: bytes
@@ -69,7 +65,7 @@ def _face_of_text(text: bytes) -> Face:
         for number, words in enumerate(lines.get(b"permanent", []), 1)
     )
     return Face(
-        hashlib.sha256(_OWN.sub(b"", text)).hexdigest()[:16],
+        kind_of(text),
         text,
         width,
         height,

@@ -59,7 +59,11 @@ async def send(request: web.Request) -> web.StreamResponse:
         lines = [(sign_id, draft.line(visitor.name, _own_address(sign))) for sign_id, sign in signs]
         return Commands(database).ask_all(lines, visitor.name, asked(lines[0][1]).what, confirmation)
 
-    raise web.HTTPSeeOther(f"/batches/{await service.connections.run(done)}")
+    try:
+        number = await service.connections.run(done)
+    except Refusal as refused:
+        raise web.HTTPUnprocessableEntity(text=f"Nothing was done: {refused}.") from None
+    raise web.HTTPSeeOther(f"/batches/{number}")
 
 
 @dataclass(frozen=True)

@@ -10,6 +10,7 @@ from markupsafe import Markup
 
 from wisangub.endpoint.endings import with_step
 from wisangub.room.fleet import Sign
+from wisangub.room.plain import plain_of
 from wisangub.room.store.keys import key_of
 from wisangub.room.store.logins import Visitor
 from wisangub.room.store.store import Store
@@ -20,7 +21,6 @@ from .connections import Connections
 from .faces import Face, faces_of
 from .limits import Limits
 from .pictures import Pictures
-from .plain import plain_of
 from .progress import because, states
 from .security import Seal
 from .settings import Settings

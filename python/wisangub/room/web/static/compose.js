@@ -116,6 +116,21 @@ form.addEventListener("change", (event) => {
     soon();
   }
 });
+const use = document.getElementById("use"); // asks for a text of the library, for the signs that are chosen now
+use.addEventListener("submit", () => {
+  use.replaceChildren(...chosen().map((box) => {
+    const made = put("input", "");
+    made.type = "hidden"; made.name = "sign"; made.value = box.value;
+    return made;
+  }));
+});
+const purpose = document.getElementById("purpose");
+const byHand = ["memory", "number", "run", "priority"].map((name) => document.getElementById(name));
+purpose.addEventListener("change", () => {
+  const of = purpose.selectedOptions[0].dataset;
+  if (of.priority) ["3", of.number, of.priority, of.priority].forEach((value, at) => { byHand[at].value = value; });
+});
+for (const field of byHand) field.addEventListener("input", () => { purpose.value = ""; });
 document.getElementById("minutes").addEventListener("input", () => { document.getElementById("lasts").checked = true; });
 document.getElementById("tools").hidden = false;
 for (const button of document.querySelectorAll("[data-put]")) button.addEventListener("click", () => insert(button));
