@@ -129,7 +129,7 @@ def carried_on(found: Session, steps: int) -> bool:
     ends = time.monotonic() + 60
     begun = found.number
     while found.is_busy and found.number - begun < steps and time.monotonic() < ends:
-        is_heard = bool(select.select([found.front_end], [], [], 3 * PACE.tick)[0])
+        is_heard = bool(select.select([found.udp_socket], [], [], 3 * PACE.tick)[0])
         carried(found, found.offer(not is_heard))
     return found.is_busy
 
@@ -150,6 +150,7 @@ def test_workers_that_die_after_some_lines(tmp_path: pathlib.Path, where: str) -
             found = at.session(f"worker {lives}")
             lives += 1
         found.close()
+        assert found.udp_socket.fileno() < 0, "its socket ends with it"
         assert lives > 3 and at.store.commands.how(command) == "accepted"
         assert len(set(at.live.accepted)) == 1
         numbers = [row[0] for row in at.store.database.run("SELECT number FROM lines ORDER BY number")]

@@ -205,6 +205,6 @@ class Session:
     def close(self) -> None:
         """Ends the co-process. The lines stay."""
         self.process.end()
-        udp_socket: socket.socket | None = getattr(self, "front end", None)
+        udp_socket: socket.socket | None = getattr(self, "udp_socket", None)
         if udp_socket is not None:
             udp_socket.close()
