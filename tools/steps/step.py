@@ -71,6 +71,7 @@ def run(step: Step, program: str, stopped: threading.Event = _NEVER) -> Outcome:
     begun = time.monotonic()
     words = [program if word == "{program}" else word for word in step.command.split()]
     with tempfile.TemporaryDirectory(prefix="step-") as room, tempfile.TemporaryFile() as output:
+        os.chmod(room, 0o711)  # a server that root has run as another user passes through it
         environment = {**os.environ, "TMPDIR": room, "PYTHONDONTWRITEBYTECODE": "1"}
         try:
             process = subprocess.Popen(

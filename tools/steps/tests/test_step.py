@@ -55,6 +55,11 @@ def test_a_step_that_hangs_is_stopped_with_what_it_started(tmp_path: pathlib.Pat
     assert not pathlib.Path(f"/proc/{number}").exists() or "Z" in pathlib.Path(f"/proc/{number}/stat").read_text()
 
 
+def test_another_user_passes_through_the_folder_of_temporary_files(tmp_path: pathlib.Path) -> None:
+    outcome = run(shell(tmp_path, 'echo "folder $(stat -c %a "$TMPDIR")"; exit 1'), "")
+    assert "folder 711\n" in outcome.said
+
+
 def test_a_command_that_is_not_there_fails() -> None:
     assert run(Step("a step", "/no/such/command", 5), "").failed == 1
 
