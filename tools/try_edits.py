@@ -1,12 +1,14 @@
 #!/usr/bin/env python3
-"""Tries the wrong bodies of must-fail/ and wrong-bodies/, many in one check, crates side by side: all, or those of some.
+"""Tries the wrong bodies of must-fail/ and wrong-bodies/, many in one check, crates side by side: all, or some.
 
     tools/try_edits.py [CRATE ..] [--only NAME] [--goals] [--anew] [--jobs N]
 
 A check tries as many edits as change functions of their own, in these functions alone, and an edit is refused where a
 goal of the function that it changes stays open; where it changes a constant or a type, one of any function. It is not
 refused by a text that does not read, a proof file that names what it took away, a check that was killed or met a limit,
-nor by a goal of another function. Where anything of these is met in a check of several, each is tried by itself.
+nor by a goal of another function. Where anything of these is met in a check of several, what it was met at is tried by
+itself, or each where that is not told. A constant or a type is tried over the functions that name it, and over all
+where none of these refuses it.
 
 A crate is checked on a copy, over the statements of those below it: those that `rt ci` or tools/build.py proved of the
 same sources, or else they are proved first. What is refused is kept on this machine (in ~/.cache/wisangub) by a sum of
@@ -38,7 +40,8 @@ from tries.libraries import libraries, whole_plan
 from tries.trial import Outcome, tried
 from upkeep.edits import Edit, edits_of, faults
 
-JUDGES = ("try_edits.py", "tries/*.py", "upkeep/edits.py", "building/kit.py")  # what an outcome is decided by
+# what an outcome is decided by
+JUDGES = ("try_edits.py", "tries/*.py", "upkeep/edits.py", "upkeep/functions.py", "building/kit.py")
 
 
 class Memory:

@@ -2,13 +2,9 @@
 
 import dataclasses
 import pathlib
-import re
 from collections.abc import Iterator
 
-FUNCTION = re.compile(
-    r'^(?P<indent> *)(?:pub(?:\([a-z]+\))? )?(?:const )?(?:unsafe )?(?:extern "C" )?fn (?P<name>\w+)'
-)
-BLOCK = re.compile(r"^(?:pub(?:\([a-z]+\))? )?(?P<kind>impl|trait|mod)\b(?P<head>[^{]*)\{")
+from .functions import place_at, users
 
 
 class BadEdit(Exception):
@@ -29,6 +25,8 @@ class Edit:
     # the paths of the functions that it changes; None for what stands in no function
     functions: set[str | None]
     fault: str = ""  # why it cannot be read
+    # where it changes constants or types, the paths of the functions that name them, and of those that it changes
+    users: set[str] = dataclasses.field(default_factory=set)
 
 
 def read_pairs(crate: pathlib.Path, path: pathlib.Path) -> Iterator[Pair]:
@@ -47,67 +45,23 @@ def read_pairs(crate: pathlib.Path, path: pathlib.Path) -> Iterator[Pair]:
 
 def read_edit(crate: pathlib.Path, path: pathlib.Path) -> Edit:
     name = f"{path.parent.name}/{path.stem}"
+    texts: dict[pathlib.Path, str] = {}
     try:
-        pairs = list(read_pairs(crate, path))
-        return Edit(name, pairs, {function_at(crate, pair) for pair in pairs})
+        pairs, places = list(read_pairs(crate, path)), set()
+        for pair in pairs:
+            text = texts.get(pair.file) or pair.file.read_text(encoding="utf-8")
+            places.add(place_at(crate, pair.file, text, text.find(pair.old)))
+            texts[pair.file] = text.replace(pair.old, pair.new)  # an earlier pair may make what a later one changes
     except (BadEdit, OSError, ValueError) as fault:
         return Edit(name, [], {None}, str(fault))
+    functions, items = {place.function for place in places}, {place.item for place in places if place.item}
+    known = {path for path in functions if path}
+    return Edit(name, pairs, functions, users=users(crate, items) | known if None in functions else set())
 
 
 def edits_of(crate: pathlib.Path) -> list[Edit]:
     folders = [crate / "must-fail", crate / "wrong-bodies"]
     return [read_edit(crate, path) for folder in folders for path in sorted(folder.glob("*.edit"))]
-
-
-def type_word(text: str) -> str:
-    """A type as paths have it: `&[u8]` is `RefSliceU8`, and what it is generic over is left out."""
-    text = re.sub(r"<[^<>]*>", "", re.sub(r"<[^<>]*>", "", text)).replace("&", "Ref ").replace("[", "Slice ")
-    return "".join(word[0].upper() + word[1:] for word in re.findall(r"\w+", text.split("::")[-1]))
-
-
-def module_of(crate: pathlib.Path, file: pathlib.Path) -> list[str]:
-    parts = file.relative_to(crate / "src").with_suffix("").parts
-    return [] if parts in (("lib",), ("main",)) else [*parts]
-
-
-def module_of_type(crate: pathlib.Path, word: str, otherwise: list[str]) -> list[str]:
-    """The module that has a type of this name, in whose path its methods stand."""
-    for file in sorted((crate / "src").rglob("*.rt")):
-        if re.search(rf"(?m)^(?:pub(?:\([a-z]+\))? )?(?:struct|enum) {word}\b", file.read_text(encoding="utf-8")):
-            return module_of(crate, file)
-    return otherwise
-
-
-def block_path(crate: pathlib.Path, module: list[str], kind: str, head: str) -> list[str]:
-    """The path of a block of functions, as `object_identifier::Oid`, `object_identifier::OidDisplay`, `sign::mode`."""
-    head = head.split(" where ")[0]
-    if kind != "impl":
-        named = re.match(r"\s*(\w+)", head)
-        assert named is not None
-        return [*module, named.group(1)]
-    of_trait, is_of_trait, of_type = re.sub(r"^<[^>]*>", "", head).strip().rpartition(" for ")
-    word = type_word(of_type)
-    if not is_of_trait:
-        return [*module_of_type(crate, word, module), word]
-    over = re.search(r"<(.*)>$", of_trait)
-    return [*module, word + type_word(of_trait) + (type_word(over.group(1)) if over else "")]
-
-
-def function_at(crate: pathlib.Path, pair: Pair) -> str | None:
-    """The path of the function in which a text stands, from the crate's name on, or None where it stands in none."""
-    if pair.file.suffix != ".rt":
-        return None
-    text, module = pair.file.read_text(encoding="utf-8"), module_of(crate, pair.file)
-    block, function = module, None
-    for line in [*text[:max(text.find(pair.old), 0)].splitlines(), pair.old]:
-        opened, begun = BLOCK.match(line), FUNCTION.match(line)
-        if line.startswith("}"):
-            block, function = module, None
-        elif opened:
-            block = block_path(crate, module, opened["kind"], opened["head"])
-        elif begun:
-            function = [*(block if begun["indent"] else module), begun["name"]]
-    return "::".join([crate.name, *function]) if function else None
 
 
 def applied(edit: Edit, texts: dict[pathlib.Path, str]) -> dict[pathlib.Path, str]:

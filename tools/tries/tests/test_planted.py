@@ -7,6 +7,7 @@ import shutil
 import subprocess
 
 import pytest
+
 from building import plan as planning
 from building.kit import Kit
 from building.plan import Plan
@@ -62,7 +63,9 @@ WRONG, RIGHT = ("1 + 0", "2 + 0"), ("2 + 0", "1 + 1")
 PLANTED = {
     "wrong": WRONG,
     "right": RIGHT,
+    "wrong_three": ("    STEP", "    STEP + 1"),
     "constant": ("u8 = 3;", "u8 = 4;"),
+    "constant_that_is_the_same": ("u8 = 3;", "u8 = 1 + 2;"),
     "name_that_a_proof_cites": ("inner(n)", "n + 0"),
     "no_text": ("1 + 0", "1 + ("),
     "no_number": ("2 + 0", "true"),
@@ -115,10 +118,27 @@ def test_an_edit_is_refused_by_a_goal_of_what_it_changes_alone(crate: pathlib.Pa
     assert found == {"wrong": "one: returns", "right": "not refused: it is still proved"}
     assert checker.checks == 2  # both together, and the one of which nothing was open
     found = words(list(tried(checker, plant(crate, ["constant", "name_that_a_proof_cites", "no_text", "no_number"]))))
-    assert found["constant"].startswith("three: ")
+    assert found["constant"] == "three: returns"
     assert found["name_that_a_proof_cites"].startswith("nothing is known of it: a proof file names what it takes away")
     assert found["no_text"].startswith("cannot be read: src/lib.rt")
     assert found["no_number"].startswith("cannot be read: src/lib.rt")
+
+
+@wants_kit
+def test_a_constant_is_tried_where_it_is_named_first_and_then_everywhere(crate: pathlib.Path) -> None:
+    checker = checker_of(crate, Kit.found())
+    found = words(list(tried(checker, plant(crate, ["constant", "constant_that_is_the_same"]))))
+    assert found == {"constant": "three: returns", "constant_that_is_the_same": "not refused: it is still proved"}
+    assert checker.checks == 3
+
+
+@wants_kit
+def test_beside_a_proof_file_that_does_not_read_the_others_are_tried_together(crate: pathlib.Path) -> None:
+    checker = checker_of(crate, Kit.found())
+    found = words(list(tried(checker, plant(crate, ["wrong", "wrong_three", "name_that_a_proof_cites"]))))
+    assert found["name_that_a_proof_cites"].startswith("nothing is known of it: a proof file names what it takes away")
+    assert found["wrong"] == "one: returns" and found["wrong_three"] == "three: returns"
+    assert checker.checks == 3
 
 
 @wants_kit
@@ -141,7 +161,10 @@ class Scripted(Checker):
         return subprocess.CompletedProcess(only, status, text, "")
 
 
-OPEN = "fn tiny::{}: no proof: expected answers in ./proofs/{}/Answers.antt; `search` did not prove `returns`\nonly=1 holes=0\n"
+OPEN = (
+    "fn tiny::{}: no proof: expected answers in ./proofs/{}/Answers.antt; `search` did not prove `returns`\n"
+    "only=1 holes=0\n"
+)
 KILLED = (-9, OPEN.format("one", "one"))
 
 
@@ -173,3 +196,16 @@ def test_a_goal_of_a_neighbour_refuses_nothing(crate: pathlib.Path, scripted: Sc
     text = f"fn tiny::two: no holes\n{OPEN.format('one', 'one')}"
     ends = scripted.script((1, text))
     assert "open are ['one: returns'] alone" in words(list(tried(ends, plant(crate, ["right"]))))["right"]
+
+
+def test_a_constant_that_holds_where_it_is_named_is_tried_everywhere(crate: pathlib.Path, scripted: Scripted) -> None:
+    named = "fn tiny::three: no holes\nonly=1 holes=0\n"
+    ends = scripted.script((0, named), (1, OPEN.format("one", "one")))
+    assert words(list(tried(ends, plant(crate, ["constant"])))) == {"constant": "one: returns"}
+    assert ends.ends == []
+
+
+def test_a_limit_where_a_constant_is_named_refuses_nothing(crate: pathlib.Path, scripted: Scripted) -> None:
+    limit = (1, f"note: antt ran out of memory\n{OPEN.format('three', 'three')}")
+    ends = scripted.script(limit, (0, "fn tiny::three: no holes\nholes=0\n"))
+    assert words(list(tried(ends, plant(crate, ["constant"])))) == {"constant": "not refused: it is still proved"}
