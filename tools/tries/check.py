@@ -26,7 +26,8 @@ class Checker:
                 shutil.copytree(crate.folder / part, room / part)
         (room / "kept").mkdir()
         words = kit.checked(plan, crate, libraries, 1)
-        kind = next(line.partition(":")[0].split()[1:] for line in plan.lines if line.split(":")[0].split()[0] == crate.name)
+        heads = [line.partition(":")[0].split() for line in plan.lines]
+        kind = next(kind for name, *kind in heads if name == crate.name)
         self.words = [words[0], "check", *words[2:], *(["--crate-type", "staticlib"] if "staticlib" in kind else [])]
         self.words += ["--allow-holes", "--incremental", str(room / "kept")]
 

@@ -72,7 +72,8 @@ def of_gate(plan: Plan, proofs: Proofs, wanted: set[str]) -> int:
             crates = rt.crates_of(copy)
             kept = rt.Kept(crates)
             for crate in (crate for crate in crates if crate.name in wanted):
-                if all(lower.name in kept.rlibs for lower in crate.below()) and kept.give(crate, False, kept.key(crate)):
+                is_over_given = all(lower.name in kept.rlibs for lower in crate.below())
+                if is_over_given and kept.give(crate, False, kept.key(crate)):
                     kept.is_built(crate)
                     give(plan, proofs, crate.name, pathlib.Path(crate.rlib))
                     count += 1

@@ -39,7 +39,7 @@ class Said:
         return bool(self.bad or self.unknown or self.unread)
 
     def goals_of(self, paths: set[str]) -> list[str]:
-        """The open goals of these functions, each after the function's name; none of one whose proof files do not read."""
+        """The open goals of these functions, each after its function's name; none where the proof files do not read."""
         read = sorted((paths & self.functions) - set(self.unread))
         return [f"{path.rpartition('::')[2]}: {goal}" for path in read for goal in self.goals.get(path, [])]
 
@@ -91,7 +91,8 @@ def heard(crate: str, status: int, text: str) -> Said:
     for line in text.splitlines():
         hear_line(said, crate, line)
     if status not in (0, 1):
-        said.unknown = f"the check {'was killed' if status < 0 else 'failed'}, status {status}: {said.unknown}".rstrip(": ")
+        how = "was killed" if status < 0 else "failed"
+        said.unknown = f"the check {how}, status {status}: {said.unknown}".rstrip(": ")
     elif not LAST.search(text) and not said.bad:
         errors = [line for line in text.splitlines() if "error" in line]
         said.bad = next(iter(errors), "the check did not come to its end")

@@ -4,6 +4,7 @@ import os
 import pathlib
 
 import pytest
+
 from tries.kept import Kept, folder
 
 NAME = "a" * 64

@@ -3,18 +3,25 @@
 import pathlib
 
 import pytest
+
 from tries.groups import groups
 from tries.said import Said, heard
 from upkeep.edits import edits_of
 
 CRATE, FUNCTION = "dms_face", "dms_face::checking::check_with"
-RENAMED = "./proofs/checking/check_with/Answers.antt:16:1: error: `then-gt` is no name that rattle asks for in `Answers`"
-REFUSED = "./proofs/checking/check_with/Answers.antt:9:5: error: `returns`: computed as far as they go, the two types differ"
+RENAMED = (
+    "./proofs/checking/check_with/Answers.antt:16:1: error: `then-gt` is no name that rattle asks for in `Answers`"
+)
+REFUSED = (
+    "./proofs/checking/check_with/Answers.antt:9:5: error: `returns`: computed as far as they go, the two types differ"
+)
 OPEN = (
     f"fn {FUNCTION}: no proof: expected answers in ./proofs/checking/check_with/Answers.antt; "
     "`search` did not prove `then-ge`"
 )
-OF_A_NEIGHBOUR = "fn dms_face::checking::check: no proof: expected answers in ./Answers.antt; `search` did not prove `returns`"
+OF_A_NEIGHBOUR = (
+    "fn dms_face::checking::check: no proof: expected answers in ./Answers.antt; `search` did not prove `returns`"
+)
 PROVED = f"fn {FUNCTION}: no holes"
 LAST = "holes=0"
 
@@ -39,12 +46,16 @@ def test_a_goal_beside_a_proof_file_that_does_not_read_says_nothing() -> None:
 
 
 def test_a_goal_at_which_a_limit_was_met_says_nothing() -> None:
-    line = REFUSED.partition("`returns`")[0] + "`returns`: antt ran out of the steps that the check of one declaration may take"
+    line = (
+        REFUSED.partition("`returns`")[0]
+        + "`returns`: antt ran out of the steps that the check of one declaration may take"
+    )
     assert said(line, f"fn {FUNCTION}: not proved").goals_of({FUNCTION}) == []
 
 
 def test_a_goal_of_a_closure_is_that_of_its_function() -> None:
-    closure = "fn dms_face::checking::fn::check_with::some: no proof: expected answers in ./A.antt; `search` did not prove `call`"
+    closure = "fn dms_face::checking::fn::check_with::some: no proof: expected answers in ./A.antt"
+    closure += "; `search` did not prove `call`"
     assert said(closure).goals_of({FUNCTION}) == ["check_with: call"]
 
 
@@ -98,5 +109,7 @@ def test_edits_go_together_where_none_makes_a_text_twice(tmp_path: pathlib.Path)
     edits = edits_of(crate)
     assert [edit.functions for edit in edits] == [{"dms_one::one"}, {"dms_one::two"}, {"dms_one::two"}]
     assert [[edit.name for edit in group] for group in groups(edits)] == [
-        ["must-fail/a"], ["must-fail/b"], ["must-fail/c"]
+        ["must-fail/a"],
+        ["must-fail/b"],
+        ["must-fail/c"],
     ]
