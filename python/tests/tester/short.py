@@ -31,6 +31,7 @@ MODULES = tuple(
         "verdicts",
         "watch",
         "ask_vectors",
+        "describe",
     )
 )
 

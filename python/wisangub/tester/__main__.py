@@ -6,6 +6,7 @@ from wisangub import commands
 
 PARTS = {
     "centre": "wisangub.tester.centre.program",
+    "describe": "wisangub.tester.describe.program",
     "soak": "wisangub.tester.soak.program",
     "vectors": "wisangub.tester.vectors.program",
 }

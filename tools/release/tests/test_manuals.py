@@ -40,7 +40,7 @@ def in_manual(name: str) -> set[str]:
 @pytest.mark.parametrize("name", COMMANDS)
 def test_options(name: str) -> None:
     wanted = set().union(*(options(said(words)) for words in COMMANDS[name]))
-    more = {"port", "seconds"} if name == "wisangub-conform" else set()  # those of its parts
+    more = {"port", "seconds", "characters", "by-texts"} if name == "wisangub-conform" else set()  # those of its parts
     assert wanted == in_manual(name) - more
 
 

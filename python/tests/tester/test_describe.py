@@ -1,0 +1,175 @@
+"""Descriptions that are made from signs of the model, under a simulated clock."""
+
+import math
+import re
+import socket
+import subprocess
+import sys
+
+from model import text
+from model.sign import Sign
+from wisangub.process.places import TOP
+from wisangub.snmp import wire
+from wisangub.snmp.names import RowStatus, scalar
+from wisangub.tester.describe import program
+from wisangub.tester.requests.objects import Column, Row
+from wisangub.tester.requests.steps import get, put
+
+from .described_signs import OTHERS, Made, WithTable, differing, made, misbehaving
+
+SMALL = OTHERS["column"]
+
+
+def read(held: Made, *names: wire.Name) -> list[object]:
+    """What a sign reads."""
+    reply, _ = held.sign.receive(get(*names).octets(1, held.describing.client.communities))
+    return [value for _, (_, value) in wire.read(reply or b"").bindings]
+
+
+def test_signs_of_other_makes_are_described_by_texts_alone() -> None:
+    for name, spelled in OTHERS.items():
+        held = made(spelled)
+        found = held.describing.run()
+        assert not differing(found, spelled), (name, differing(found, spelled))
+        assert held.describing.put_back() == []
+        assert held.clock.now() < 150, (name, held.clock.now())
+        assert re.search(r" by validations; [0-9]+ validations\.$", found.splitlines()[0]), found[:200]
+
+
+def test_versions_are_those_that_permanent_messages_name() -> None:
+    found = made(OTHERS["trailer"]).describing.run()
+    assert "font 9 height 13 space 3 line 2 version beef" in found
+    assert "font 2 height 7 space 1 line 3 version 0001" in found
+
+
+def test_what_no_text_tells_is_a_comment() -> None:
+    found = made(text.BENCH, candidates=(49, 65, 66, 91, 93)).describing.run()
+    lines = found.splitlines()
+    for words, keyword in (
+        ("communities:", "communities"),
+        ("first:", "first"),
+        ("version:", "font"),
+        ("line:", "font"),
+    ):
+        at = next(at for at, line in enumerate(lines) if line.startswith("#") and words in line)
+        assert any(line.startswith(f"{keyword} ") for line in lines[at : at + 4]), (words, lines[at : at + 4])
+    assert "glyph 65 5 ffffffffe0" in lines  # a block of its width, and not its picture
+
+
+def test_characters_beyond_those_asked_for_are_probed() -> None:
+    spelled = SMALL.replace(b"end\n", b"glyph 196 6 " + b"f" * 13 + b"c\nglyph 214 6 " + b"f" * 13 + b"c\nend\n")
+    held = made(spelled, probes=(176, 196))
+    assert not differing(held.describing.run(), spelled)
+
+
+def test_a_font_table_is_taken_within_ten_seconds() -> None:
+    spelled = OTHERS["tunnel"]
+    held = made(spelled, WithTable(spelled))
+    found = held.describing.run()
+    lines = [line for line in found.splitlines() if not line.startswith("#")]
+    assert lines == spelled.decode().splitlines() and held.clock.now() < 10, held.clock.now()
+    held = made(spelled, WithTable(spelled), is_by_table=False)
+    assert not differing(held.describing.run(), spelled) and held.clock.now() > 20
+
+
+def test_loss_doubles_and_delay_change_nothing() -> None:
+    for both_ways in (False, True):
+        held = made(SMALL, faulty=0.1, both_ways=both_ways)
+        assert not differing(held.describing.run(), SMALL)
+        assert held.describing.put_back() == []
+
+
+def ended(held: Made) -> tuple[str | None, int]:
+    """How the command ends."""
+    return program.described(held.describing)
+
+
+def test_a_sign_that_stops_answering_is_not_described() -> None:
+    assert ended(misbehaving(SMALL, (8.0, math.inf))) == (None, 3)
+    assert ended(misbehaving(SMALL, (0.0, math.inf))) == (None, 2)
+    held = misbehaving(SMALL, (8.0, 45.0))
+    assert ended(held) == (None, 3) and is_as_before(held)
+
+
+def is_as_before(held: Made) -> bool:
+    """Whether a sign that was new has its default font, and no row in use."""
+    statuses = [Row(memory, number).cell(Column.STATUS) for memory, number in ((3, 1), (3, 3), (4, 1), (4, 2))]
+    return read(held, scalar("defaultFont"), *statuses) == [2, *[RowStatus.NOT_USED] * len(statuses)]
+
+
+def test_an_interrupt_puts_the_sign_back() -> None:
+    for moment in (0, 1, 3):
+        held = made(SMALL)
+
+        def say(words: str, at: list[int] = [moment]) -> None:
+            if at[0] == 0:
+                raise KeyboardInterrupt
+            at[0] -= 1
+
+        held.describing.say = say
+        assert ended(held) == (None, 3) and is_as_before(held), moment
+
+
+def test_an_unlike_sign_is_not_described() -> None:
+    class Odd(Sign):
+        """A sign that lays nothing out: each text fits."""
+
+        def tick(self) -> None:
+            super().tick()
+            for number in (1, 2):
+                self.receive(
+                    put(Row(4, number).status(RowStatus.NOT_USED_REQ)).octets(1, (b"public", b"administrator"))
+                )
+
+    held = made(SMALL, Odd(text.described(SMALL)))
+    assert ended(held) == (None, 3) and is_as_before(held)
+
+
+def test_a_row_in_use_is_put_back_where_all_are() -> None:
+    held = made(SMALL)
+    communities = held.describing.client.communities
+    for memory, number in ((3, 1), (3, 2), (3, 3), (4, 1), (4, 2)):
+        row = Row(memory, number)
+        for request in (
+            put(row.status(RowStatus.MODIFY_REQ)),
+            put(row.text(b"A%d" % number), row.priority(9)),
+            put(row.status(RowStatus.VALIDATE_REQ)),
+        ):
+            held.sign.receive(request.octets(1, communities))
+        held.sign.tick()
+    text_found, status = ended(held)
+    assert status == 0 and text_found is not None and not differing(text_found, SMALL)
+    row = Row(4, 2)
+    names = [row.cell(column) for column in (Column.TEXT, Column.PRIORITY, Column.STATUS)]
+    assert read(held, *names) == [b"A2", 9, RowStatus.VALID]
+
+
+def test_the_wrong_communities_are_a_word() -> None:
+    for communities in ((b"others", b"strangers"), (b"others", b"administrator"), (b"public", b"strangers")):
+        held = made(SMALL)
+        held.describing.client.communities = communities
+        assert ended(held) == (None, 2), communities
+
+
+def described_by(*options: str) -> subprocess.CompletedProcess[bytes]:
+    """The command."""
+    call = [sys.executable, "-m", "wisangub.tester", "describe", *options]
+    return subprocess.run(call, cwd=TOP, capture_output=True, timeout=300, check=False)
+
+
+def test_a_wrong_command_is_a_word() -> None:
+    with socket.socket(socket.AF_INET, socket.SOCK_DGRAM) as free:
+        free.bind(("127.0.0.1", 0))
+        port = free.getsockname()[1]
+    table = [
+        (["--to", "127.0.0.1"], b"--to"),
+        (["--to", "no.such.host.invalid:161"], b"no.such.host.invalid"),
+        (["--to", f"127.0.0.1:{port}", "--characters", "0"], b"--characters"),
+        (["--to", f"127.0.0.1:{port}", "--wait", "0"], b"--wait"),
+        (["--to", f"127.0.0.1:{port}", "--communities", "a b", "c"], b"--communities"),
+        (["--to", f"127.0.0.1:{port}", "--wait", "0.1"], b"nothing answers the communities public and administrator"),
+    ]
+    for options, words in table:
+        ended_so = described_by(*options)
+        assert ended_so.returncode == 2 and words in ended_so.stderr and not ended_so.stdout, (options, ended_so)
+        assert b"Traceback" not in ended_so.stderr, ended_so

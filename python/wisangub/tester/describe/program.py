@@ -1,0 +1,172 @@
+"""A description made from the sign: wisangub-conform describe --to HOST:PORT [--communities READER WRITER] > my.sign
+
+Size, rows, defaults and permanent messages are read; the order of checksums is that of a permanent message. Fonts are
+taken from the sign's font table where it has one. Else texts that are validated, one a second of the sign, tell which
+fonts and characters it has and how high, how wide and how far apart they are. What cannot be found has a comment at its
+line. Standard error says what was written to the sign, and how it was put back. The exit status is 0 for a description,
+2 where the command is wrong or the sign cannot be reached, and 3 where it could not be described: it stopped
+answering, the command was interrupted, or texts do not tell its fonts; then the sign is put back where it answers.
+"""
+
+import argparse
+import re
+import signal
+import sys
+from types import FrameType
+
+from wisangub.process.places import called
+from wisangub.refusal import Refusal, reason
+from wisangub.tester.sign.clock import RealClock
+from wisangub.tester.sign.link import UdpLink
+from wisangub.tester.sign.port import Port
+from wisangub.tester.sign.way import Stopped
+
+from .characters import PRINTABLE
+from .client import Client, Unreached
+from .describing import Describing
+from .validations import Unlike
+
+_COMMUNITIES = ("public", "administrator")  # those of signs/
+_MOST = 65535  # the greatest number of a character
+
+
+def numbers(word: str) -> tuple[int, ...]:
+    """Characters as `32-126,176`: the type of an option."""
+    found: list[int] = []
+    for part in word.split(","):
+        matched = re.fullmatch(r"([0-9]{1,5})(?:-([0-9]{1,5}))?", part)
+        if matched is None:
+            raise ValueError
+        least, most = int(matched[1]), int(matched[2] or matched[1])
+        if not 1 <= least <= most <= _MOST:
+            raise ValueError
+        found += range(least, most + 1)
+    return tuple(dict.fromkeys(found))
+
+
+def address(word: str) -> tuple[str, int]:
+    """HOST:PORT: the type of an option."""
+    host, _, port = word.rpartition(":")
+    if not host or not port.isdigit() or not 0 < int(port) < 65536:
+        raise ValueError
+    return host.strip("[]"), int(port)
+
+
+def seconds(word: str) -> float:
+    """Seconds above 0: the type of an option."""
+    number = float(word)
+    if not 0 < number < 3600:
+        raise ValueError
+    return number
+
+
+def community(word: str) -> bytes:
+    """A community, as a description can have it: the type of an option."""
+    held = word.encode()
+    if not 1 <= len(held) <= 32 or any(octet in b" \n\r" for octet in held):
+        raise ValueError
+    return held
+
+
+def _arguments() -> argparse.ArgumentParser:
+    parser = argparse.ArgumentParser(
+        prog=called("wisangub-conform describe"),
+        description="makes a description from a sign over UDP, and prints it; it writes to one row of the sign",
+    )
+    parser.add_argument("--to", required=True, type=address, metavar="HOST:PORT", help="where the sign answers")
+    parser.add_argument(
+        "--communities",
+        nargs=2,
+        type=community,
+        metavar=("READER", "WRITER"),
+        default=[held.encode() for held in _COMMUNITIES],
+        help=f"{' and '.join(_COMMUNITIES)} where nothing is said",
+    )
+    parser.add_argument("--wait", type=seconds, default=1.0, metavar="SECONDS", help="how long a reply may take")
+    parser.add_argument(
+        "--characters",
+        type=numbers,
+        default=tuple(PRINTABLE),
+        metavar="NUMBERS",
+        help="those that each font is asked for, as 32-126,176; each that is missing takes a second",
+    )
+    parser.add_argument("--by-texts", action="store_true", help="as if the sign had no font table")
+    return parser
+
+
+def _say(words: str) -> None:
+    """A line on standard error."""
+    print(words, file=sys.stderr, flush=True)
+
+
+def _interrupted(_number: int, _frame: FrameType | None) -> None:
+    """The first signal ends it; the sign is put back, whatever comes after it."""
+    for number in (signal.SIGINT, signal.SIGTERM):
+        signal.signal(number, lambda _number, _frame: None)
+    raise KeyboardInterrupt
+
+
+def described(made: Describing) -> tuple[str | None, int]:
+    """The description, and the exit status; the sign is put back."""
+    text: str | None = None
+    status = 3
+    try:
+        text, status = made.run(), 0
+    except Unreached as why:
+        _say(str(why))
+        status = 2
+    except Stopped as why:
+        _say(f"it stopped: {why}")
+    except Unlike as why:
+        _say(f"texts do not tell what the sign is: {why}")
+    except KeyboardInterrupt:
+        _say("it was interrupted")
+    finally:
+        status = max(status, _put_back(made))
+    return text, status
+
+
+def _put_back(made: Describing) -> int:
+    """The sign as it was: 0, or 3 where it is not."""
+    if made.client.written:
+        _say("written to the sign: " + "; ".join(made.written()))
+    way = made.client.port.way
+    try:
+        way.begin_anew()
+        left = made.put_back()
+    except (Stopped, Unlike, KeyboardInterrupt) as why:
+        left = [f"what was written ({why})"]
+    for line in way.words():
+        _say(line)
+    if left:
+        _say(f"not put back: {', '.join(left)}")
+        return 3
+    if made.client.written:
+        _say("put back: all of it reads as before")
+    return 0
+
+
+def main() -> int:
+    """Describes a sign; the exit status is as above."""
+    asked = _arguments().parse_args()
+    for number in (signal.SIGINT, signal.SIGTERM):
+        signal.signal(number, _interrupted)
+    clock = RealClock()
+    begun = clock.now()
+    try:
+        host, number = asked.to
+        reader, writer = asked.communities
+        client = Client(Port(UdpLink(host, number, clock), clock, asked.wait), (reader, writer))
+        made = Describing(client, _say, asked.characters, is_by_table=not asked.by_texts)
+        text, status = described(made)
+    except OSError as fault:
+        raise Refusal(reason(fault)) from None
+    if text is not None:
+        print(text, end="", flush=True)
+        count = 0 if made.texts is None else made.texts.count
+        _say(f"described in {clock.now() - begun:.0f} s, with {count} validations")
+    return status
+
+
+if __name__ == "__main__":
+    sys.exit(main())
