@@ -8,14 +8,18 @@
 //! let mut centre = Centre::new(alloc, settings, 1)?;
 //! let text = answer(alloc, &mut centre, b"status")?;
 //! assert!(rt; text.as_slice() == b"idle\nlast none\nok\n");
+//! let mut input = Input::new(alloc, lines)?;
+//! converse(alloc, &mut LiveCentre::new(centre), &mut input, &mut out)?;
 //! ```
 #![tactic(auto)]
 
 mod answering;
 mod bad_value;
 pub mod laws;
+mod live;
 mod reading;
 mod status;
 mod text;
 
 pub use answering::answer;
+pub use live::LiveCentre;

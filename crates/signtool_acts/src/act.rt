@@ -25,16 +25,17 @@ ghost use Rattle.signtool_acts.specs.CallAnswers.{reply_answer, answer_to, Carri
 ghost use Rattle.signtool_acts.specs.CallAnswers.{IsRefused};
 ghost use Rattle.signtool_acts.specs.CallAnswers.{OfSign, OfDigits, OfScript};
 
+use crate::centre::live_centre;
 use crate::inputs::{described_before, described_whole, replayed};
 use crate::refusal::Refusal;
 use dms_replay::{ReplayFault, address, bench};
 use dms_sign::{Receipt, Sign};
+use dms_sign_lines::LiveSign;
 use dms_sign_text::Setup;
 use dms_text_streams::{ConversationFault, Counted, Failed, Input, Party, Sink, Source, converse};
 use dms_wire::Out;
 use hex::FromHexError;
 use signtool_calls::{Call, Drawing, Form, SignWanted};
-use signtool_parties::{LiveCentre, LiveSign};
 use signtool_print::{
     ExitStatus, activation, code, decode, list_items, print_count, print_hex_fault, print_made,
     print_memory, print_no_memory, print_pages, print_text, say_why_dropped, status,
@@ -154,7 +155,7 @@ fn be_centre<R: Read, W: Sink, E: Write>(
         Ok(setup) => setup,
         Err(refusal) => return refusal.refuse(alloc, writer, errors),
     };
-    match LiveCentre::new(alloc, &setup) {
+    match live_centre(alloc, &setup) {
         Ok(centre) => talk(alloc, centre, &mut input, writer, errors),
         Err(_) => print_memory(writer, errors),
     }

@@ -12,10 +12,12 @@
 #![tactic(auto)]
 
 pub mod act;
+mod centre;
 mod inputs;
 mod refusal;
 
 pub use act::act_saying;
+pub use centre::live_centre;
 pub use dms_text_streams::Counted;
 pub use inputs::{described_before, described_whole, replayed};
 pub use refusal::Refusal;

@@ -1,0 +1,29 @@
+//! The centre that the lines of a conversation are to.
+
+ghost use Rattle.std.specs.Prelude.{◌≡◌, IfOk, IsOk};
+ghost use Rattle.dms_centre.specs.State.{start};
+
+use dms_centre::{Centre, Settings};
+use dms_centre_lines::LiveCentre;
+use dms_sign::laws::signs_are_kept;
+use dms_sign_text::Setup;
+use std::alloc::{AllocError, Global};
+
+/// The centre of a sign, as it starts: it has the sign's writing community and its order, and the first number that was
+/// described. It is always `Ok`: a sign's communities are a centre's, and no memory is taken.
+pub fn live_centre(alloc: Global, setup: &Setup) -> Result<LiveCentre, AllocError>
+    ensures party { IfOk result (λ party. party
+        ≡ start (record { community = setup.now.sign.config.writer; order = setup.now.sign.table.order })
+        setup.now.first) }
+    ensures always { IsOk result }
+{
+    signs_are_kept(&setup.sign);
+    let settings = Settings {
+        community: setup.sign.writer(),
+        order: setup.sign.order(),
+    };
+    match Centre::new(alloc, settings, setup.first) {
+        Ok(centre) => Ok(LiveCentre::new(centre)),
+        Err(_) => Err(AllocError),
+    }
+}
