@@ -16,7 +16,7 @@ use Rattle.dms_text_forms.proofs.FieldLaws.{last_octets_found, last_octets_only}
 use Rattle.dms_centre_text.specs.CommandLine.{SpellsCommand}
 use Rattle.dms_centre_text.specs.CommandReading.{command_of}
 use Rattle.dms_centre_text.proofs.CommandLaws.{command_found, command_only}
-use Rattle.dms_face_lines.proofs.CallReading.{bare_found, nothing_found}
+use Rattle.dms_text_streams.proofs.CallReading.{bare_found, nothing_found}
 use Rattle.dms_centre_lines.specs.Calls.{CentreCall, command, datagram, tick, restart, status, status_last}
 use Rattle.dms_centre_lines.specs.CallReading.{last_alone_at, status_after, call_after, plain_call_at, or_command, call_of}
 use Rattle.dms_centre_lines.specs.SpelledCalls.{SpellsCallWords, SpellsCentreCall, SpellsNoCall}

@@ -13,8 +13,7 @@ use Rattle.dms_centre.specs.Inputs.{received, ticked, restarted}
 use Rattle.dms_centre.specs.Texts.{command_fault_text, ended_text}
 use Rattle.dms_text_forms.specs.LineText.{ended}
 use Rattle.dms_centre_text.specs.LedgerLine.{ledger_line}
-use Rattle.dms_face_lines.specs.AnswerLines.{ok_line}
-use Rattle.dms_text_streams.specs.Conversation.{bad_line}
+use Rattle.dms_text_streams.specs.Conversation.{bad_line, ok_line}
 use Rattle.dms_centre_lines.specs.BadValue.{value_text, bad_value}
 use Rattle.dms_centre_lines.specs.Calls.{CentreCall, command, datagram, tick, restart, status, status_last}
 use Rattle.dms_centre_lines.specs.CallReading.{call_of}

@@ -5,7 +5,7 @@ ghost use Rattle.dms_centre_jobs.specs.CodeView.{command_model};
 ghost use Rattle.dms_centre.specs.Commands.{commanded, refusal_of};
 ghost use Rattle.dms_centre.specs.Inputs.{received, ticked, restarted};
 ghost use Rattle.dms_centre_text.specs.CommandReading.{command_of};
-ghost use Rattle.dms_face_lines.specs.AnswerLines.{ok_line};
+ghost use Rattle.dms_text_streams.specs.Conversation.{ok_line};
 ghost use Rattle.dms_centre_lines.specs.Answers.{answer_text, after_line, call_answer, after_call, command_line};
 ghost use Rattle.dms_centre_lines.specs.Answers.{sent_line};
 ghost use Rattle.dms_centre_lines.specs.CallReading.{or_command};
@@ -16,8 +16,7 @@ use crate::status::{status, status_last};
 use crate::text::{put_sent, refused, room};
 use dms_centre::{Centre, Command};
 use dms_centre_text::read_command;
-use dms_face_lines::ok_line;
-use dms_text_streams::bad_line;
+use dms_text_streams::{bad_line, ok_line};
 use dms_wire::Out;
 use std::alloc::{AllocError, Global};
 

@@ -5,9 +5,9 @@ ghost use Rattle.dms_text.specs.Words.{words_of};
 ghost use Rattle.dms_centre_lines.specs.CallReading.{status_after, plain_call_at, has_octets};
 ghost use Rattle.dms_centre_lines.specs.CodeView.{call_model};
 
-use dms_face_lines::alone;
 use dms_text::{Words, are_same};
 use dms_text_forms::fields::last_octets;
+use dms_text_streams::alone;
 use std::alloc::{AllocError, Global};
 
 /// What a line asks of a central system, but for an operator's commands.

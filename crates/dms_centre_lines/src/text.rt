@@ -11,7 +11,7 @@ ghost use Rattle.dms_centre_lines.specs.Answers.{refused_line, sent_line, longes
 
 use crate::bad_value::{Value, bad_value};
 use dms_centre::{Command, CommandFault};
-use dms_face_lines::{put, put_digits};
+use dms_text_streams::{put, put_digits};
 use dms_wire::{MAX_DATAGRAM, Out};
 use std::alloc::{AllocError, Global};
 use std::io::Write;

@@ -10,7 +10,7 @@ use Rattle.dms_sign.specs.State.{SignState}
 use Rattle.dms_text_forms.proofs.WordReading.{by_text}
 use Rattle.dms_text_forms.proofs.FieldLaws.{last_number_found, last_number_only, last_octets_found, last_octets_only}
 use Rattle.dms_text_streams.specs.Conversation.{bad_line}
-use Rattle.dms_face_lines.proofs.CallReading.{bare_found, nothing_found}
+use Rattle.dms_text_streams.proofs.CallReading.{bare_found, nothing_found}
 use Rattle.dms_sign_lines.specs.SignCall.{SignCall, datagram, tick, ticks, heard, power_lost, power_back, show, state}
 use Rattle.dms_sign_lines.specs.SignLine.{SpellsCallWords, SpellsSignCall, SpellsNoSignCall}
 use Rattle.dms_sign_lines.specs.SignReading.{keyword_of, call_after, call_of}

@@ -15,9 +15,8 @@ use Rattle.dms_sign.specs.Reply.{Received, received, after_get}
 use Rattle.dms_sign.specs.Events.{after_tick, after_ticks, after_power_loss, after_power_return}
 use Rattle.dms_text_forms.specs.LineText.{ended, code_text}
 use Rattle.dms_sign_text.specs.ShownLine.{shown_line}
-use Rattle.dms_face_lines.specs.PageText.{pages_text}
-use Rattle.dms_face_lines.specs.AnswerLines.{ok_line}
-use Rattle.dms_text_streams.specs.Conversation.{bad_line}
+use Rattle.dms_face_pages.specs.PageText.{pages_text}
+use Rattle.dms_text_streams.specs.Conversation.{bad_line, ok_line}
 use Rattle.dms_sign_lines.specs.SignCall.{SignCall, datagram, tick, ticks, heard, power_lost, power_back, show, state}
 use Rattle.dms_sign_lines.specs.SignReading.{call_of}
 

@@ -6,9 +6,9 @@ ghost use Rattle.dms_sign_lines.specs.declared.keyword.SignKeyword.TheVariants.{
 ghost use Rattle.dms_sign_lines.specs.CallView.{call_model};
 
 use crate::keyword::SignKeyword;
-use dms_face_lines::alone;
 use dms_text::Words;
 use dms_text_forms::fields::{last_number, last_octets};
+use dms_text_streams::alone;
 use std::alloc::{AllocError, Global};
 
 /// What a line asks of a live sign.

@@ -1,4 +1,6 @@
 mod Written
+mod Digits
+pub mod CallReading
 mod Parts
 mod Taken
 mod LineCuts

@@ -14,6 +14,10 @@ longest_line = 65536
 abbrev pub bad_line : List ℕ
 bad_line = codes "bad line\n"
 
+-- what is answered to a line that asks for something to be done, and for no more: it is done
+abbrev pub ok_line : List ℕ
+ok_line = codes "ok\n"
+
 -- what is answered to a line: one that is too long is refused, whatever it says
 abbrev pub answered : {S : Type 0} → (S → List ℕ → List ℕ) → S → List ℕ → List ℕ
 answered reply state line = if nat_lt longest_line (length line) then bad_line else reply state line

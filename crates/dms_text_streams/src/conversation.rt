@@ -10,6 +10,7 @@ ghost use Rattle.dms_text_streams.specs.Conversation.{AnswersWholeLines, Answers
 ghost use Rattle.dms_text_streams.specs.Conversation.{answered, left_by, answers, left_by_all};
 ghost use Rattle.dms_text_streams.specs.declared.fault.ConversationFault.TheVariants as faults;
 
+use crate::answers::bad_line;
 use crate::fault::ConversationFault;
 use crate::input::Input;
 use crate::party::Party;
@@ -131,13 +132,6 @@ fn reply<P: Party>(alloc: Global, party: &mut P, line: &[u8]) -> Result<Vec<u8>,
         return bad_line(alloc);
     }
     party.answer(alloc, line)
-}
-
-/// The line `bad line`.
-pub fn bad_line(alloc: Global) -> Result<Vec<u8>, AllocError>
-    ensures { IfOk result (λ text. text.items ≡ bad_line) }
-{
-    Vec::from_slice(alloc, b"bad line\n")
 }
 
 /// A line without its newline, and without a carriage return before that.

@@ -2,8 +2,7 @@
 
 mod cases;
 
-use dms_face_lines::{numbered_page, pages_text};
-use dms_face_pages::pages;
+use dms_face_pages::{numbered_page, pages, pages_text};
 use dms_replay::bench;
 use dms_replay::fault::ReplayFault;
 use dms_sign_lines::answer;

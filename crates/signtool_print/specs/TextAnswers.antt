@@ -7,7 +7,7 @@ use Rattle.dms_face.specs.Face.{FaceModel}
 use Rattle.dms_face.specs.Fit.{checked_text, most_pages}
 use Rattle.dms_face.specs.declared.multi_fault.MultiFault.{MultiFault}
 use Rattle.dms_face_pages.specs.Drawn.{DrawnPage, drawn_text}
-use Rattle.dms_face_lines.specs.PageText.{page_text, pages_text}
+use Rattle.dms_face_pages.specs.PageText.{page_text, pages_text}
 use Rattle.dms_face_picture.specs.Picture.{picture_of, still_of}
 use Rattle.signtool_print.specs.Printed.{Answer, answer}
 use Rattle.signtool_print.specs.declared.statuses.ExitStatus.TheVariants.{Done, Refused}

@@ -11,8 +11,7 @@ ghost use Rattle.signtool_print.specs.TextAnswers.{all_answer, page_answer, one_
 use crate::reading::print_no_memory;
 use crate::statuses::{ExitStatus, print_made, print_memory, print_text};
 use dms_face::{Face, MultiFault, check};
-use dms_face_lines::{numbered_page, pages_text};
-use dms_face_pages::{Page, PagesFault, pages};
+use dms_face_pages::{Page, PagesFault, numbered_page, pages, pages_text};
 use dms_face_picture::{picture, still};
 use dms_text_streams::{Failed, Sink};
 use signtool_calls::{Drawing, Form};

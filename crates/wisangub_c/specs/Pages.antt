@@ -3,8 +3,8 @@ use Rattle.std.specs.Prelude.{ℕ, List, length, Result, Ok, Err}
 use Rattle.dms_face.specs.declared.multi_fault.MultiFault.{MultiFault}
 use Rattle.dms_face_pages.specs.Drawn.{DrawnPage}
 use Rattle.dms_sign.specs.State.{SignState}
-use Rattle.dms_face_lines.specs.declared.page_octets.Layer.{Layer}
-use Rattle.dms_face_lines.specs.PageOctets.{pages_octets}
+use Rattle.dms_face_pages.specs.declared.page_octets.Layer.{Layer}
+use Rattle.dms_face_pages.specs.PageOctets.{pages_octets}
 use Rattle.dms_sign_lines.specs.Answer.{shown_pages}
 use Rattle.wisangub_c.specs.Answers.{at_fault, given_answer, given_buffer}
 

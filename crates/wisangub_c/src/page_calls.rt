@@ -1,7 +1,7 @@
 //! Pages of what a sign shows and of any text, from C.
 
 ghost use Rattle.std.specs.Prelude.{◌≡◌, ◌<◌, length, is_ok, IsTrue};
-ghost use Rattle.dms_face_lines.specs.PageOctets.{layer_of, pages_octets, row_bits};
+ghost use Rattle.dms_face_pages.specs.PageOctets.{layer_of, pages_octets, row_bits};
 ghost use Rattle.dms_face_pages.specs.Drawn.{drawn_text};
 ghost use Rattle.dms_sign_lines.specs.Answer.{has_pages};
 ghost use Rattle.wisangub_c.specs.Answers.{no_memory, given_answer, given_buffer, unless_memory};
@@ -11,8 +11,7 @@ ghost use Rattle.wisangub_c.specs.Pages.{shown_octets, drawn_answer, drawn_size,
 use crate::answers::{AT_FAULT, DONE, NO_MEMORY, TOO_SMALL, give};
 use crate::shown_calls::{TextFault, text_fault};
 use crate::sign_handle::SignHandle;
-use dms_face_lines::{Layer, bits_needed, pages_octets, put_bits};
-use dms_face_pages::{Page, PagesFault, pages};
+use dms_face_pages::{Layer, Page, PagesFault, bits_needed, pages, pages_octets, put_bits};
 use dms_sign_lines::shown_pages;
 use std::alloc::Global;
 

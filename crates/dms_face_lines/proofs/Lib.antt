@@ -1,3 +1,0 @@
-pub mod TextRuns
-mod Filled
-pub mod CallReading

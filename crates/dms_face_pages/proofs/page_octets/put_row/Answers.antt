@@ -1,0 +1,10 @@
+use Rattle.std.proofs.Common.{[], ◌∷◌, ◌++◌, ap, ◌∙◌}
+use Rattle.dms_face_pages.specs.Drawn.{cell_at}
+use Rattle.dms_face_pages.specs.PageOctets.{cell_octet}
+use Rattle.dms_face_pages.proofs.TextRuns.{number_more}
+use Rattle.dms_face_pages.proofs.page_octets.put_row.Goals as goal
+
+pub loop-x-preserved : goal.loop-x-preserved
+loop-x-preserved c =
+    let more = c.in_ok-put_cell.ensures ∙ ap (λ cell. c.loop-x.octets.items ++ cell_octet c.args.layer cell ∷ []) c.cell.ensures.cell in
+    number_more (λ x. cell_octet c.args.layer (cell_at c.args.page.now x c.args.y) ∷ []) c.loop-x.x _ _ _ c.loop-x.invariant more
