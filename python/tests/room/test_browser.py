@@ -26,6 +26,8 @@ PAGES = (
     "/batches/1",
     "/library",
     "/users",
+    "/groups",
+    "/groups/1",
     "/rules",
     "/audit",
     "/account",

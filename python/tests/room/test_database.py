@@ -26,6 +26,8 @@ BLANK = "blank 1 65535 255 192.0.2.1"
 OTHER = Sign("other", "", "127.0.0.1", 1162, b"", b"public", 10.0, 1)
 SIGN = Sign("one", "a place", "127.0.0.1", 1161, b"", b"public", 10.0, 1)
 
+from .people import person
+
 
 def two_stores(where: str) -> tuple[Store, Store, int]:
     """Two connections to one database with one sign, as two workers have them."""
@@ -173,6 +175,7 @@ def test_of_many_lines_those_are_kept_whose_numbers_are_free(where: str) -> None
     lines = [Line(other, 1, BLANK.encode(), commands[1]), Line(one, 1, BLANK.encode(), commands[0])]
     assert first.lines.insert(lines, "first", [(3, commands[1])]) == {other}
     assert first.commands.begun(one) is None and first.commands.begun(other) == (Command(commands[1], BLANK), 1)
+    person(first.database, "withdrawn")
     assert not first.commands.withdraw(commands[1], "withdrawn") and first.commands.withdraw(commands[0], "withdrawn")
     assert second.lines.insert([Line(one, 2, BLANK.encode(), commands[0])], "second") == set(), "it waits no longer"
     assert second.lines.of(one) == (1, 0, [b"journal"])
@@ -276,6 +279,8 @@ def test_numbers_of_readings_are_used_up_once(where: str) -> None:
 
 def test_a_command_and_its_audit_are_one(where: str) -> None:
     first, second, sign = two_stores(where)
+    for name in ("me", "you"):
+        person(first.database, name)
     lines = [(sign, BLANK), (sign, BLANK)]
     batch = first.commands.ask_all(lines, "me", "nothing", "a confirmation")
     assert second.commands.ask_all(lines, "me", "nothing", "a confirmation") == batch, "it counts once"

@@ -17,6 +17,7 @@ from wisangub.room.store.library import Written
 from wisangub.room.store.messages import RowSaid
 from wisangub.room.web.words import asked
 
+from .people import person
 from .test_compose import GOOD, confirmation
 from .test_database import two_stores
 from .visits import Bench, Visitor, Visitors, run
@@ -36,6 +37,7 @@ def test_words_are_found_however_they_are_spelled() -> None:
 
 def test_no_command_shows_a_forbidden_word(where: str) -> None:
     store, other, sign = two_stores(where)
+    person(store.database, "me")
     rules.forbid(store.database, " Darn   it ", "boss")
     rules.forbid(other.database, "darn it", "boss")
     store.messages.keep([RowSaid(sign, 3, 7, -1, 4, json.dumps({"text": b"DARN IT".hex()}))])

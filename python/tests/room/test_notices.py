@@ -19,6 +19,7 @@ from wisangub.room.notices import Mail, Notices, Quiet, Settings, Webhook
 from wisangub.room.store import alarms
 from wisangub.room.store.readings import Said
 
+from .people import person
 from .test_database import two_stores
 
 SIGN = "one"
@@ -155,6 +156,7 @@ def test_what_is_over_or_seen_is_not_told(where: str) -> None:
         store.readings.keep([Said(sign, -1, fault="no reply")])
         store.alarms.look()
         (number,) = store.database.run("SELECT id FROM alarms")[0]
+        person(store.database, "me")
         assert alarms.see(store.database, int(number or 0), "me")
         teller.tell(store.database)
         store.database.run("UPDATE alarms SET seen_by = NULL, ended = {clock}")

@@ -7,7 +7,7 @@ from . import needs
 
 needs.modules("aiohttp", "jinja2")
 
-from wisangub.room.store import history, library, rules
+from wisangub.room.store import groups, history, library, rules
 from wisangub.room.store.library import Written
 from wisangub.room.store.lines import Line
 from wisangub.room.store.users import Role
@@ -39,6 +39,9 @@ PAGES = {
     "/blank?sign={one}&sign={two}": Role.OPERATOR,
     "/show?sign={one}&memory=3&number=1": Role.OPERATOR,
     "/users": Role.ADMINISTRATOR,
+    "/groups": Role.ADMINISTRATOR,
+    "/groups/1": Role.ADMINISTRATOR,
+    "/groups/2": Role.ADMINISTRATOR,
     "/rules": Role.ADMINISTRATOR,
     "/audit": Role.ADMINISTRATOR,
 }
@@ -52,6 +55,8 @@ POSTS = {
     "/library": Role.OPERATOR,
     "/library/1": Role.OPERATOR,
     "/library/1/approve": Role.ADMINISTRATOR,
+    "/groups": Role.ADMINISTRATOR,
+    "/groups/1": Role.ADMINISTRATOR,
     "/rules": Role.ADMINISTRATOR,
 }
 MARKUP = "<script>alert('&')</script>"
@@ -100,6 +105,9 @@ def filled(bench: Bench) -> None:
     purpose = rules.purposes(bench.store.database)[0].id
     library.add(bench.store.database, Written("<i>Folder</i>", "<b>Name</b>", b"[fo2]FOG", purpose), "operator")
     library.approve(bench.store.database, 1, b"[fo2]FOG", bench.service.faces[bench.one].key, "administrator")
+    group = groups.add(bench.store.database, "<b>Name of a group</b>", "route", "administrator")
+    signs = frozenset([bench.one, bench.two])
+    groups.change_signs(bench.store.database, group, signs, signs, "administrator")
     rules.forbid(bench.store.database, "<i>word</i>", "administrator")
 
 

@@ -5,7 +5,7 @@ from typing import Sequence
 
 from wisangub.snmp.names import RowStatus
 
-from . import queries
+from . import queries, rights
 from .audit import note
 from .connection import Database, Row
 from .queries import Shown, SignView
@@ -73,8 +73,11 @@ def signs_with(database: Database, kind: str) -> set[int]:
 
 
 def see(database: Database, number: int, who: str) -> bool:
-    """Somebody has seen an alarm, which stands in the audit; False where another one has before, or there is none."""
+    """Somebody has seen an alarm, which stands in the audit; False where another one has before, or there is none.
+    Refused where the user may not command its sign."""
     with database.transaction():
+        for (sign,) in database.run("SELECT sign FROM alarms WHERE id = ?", number):
+            rights.need(database, who, whole(sign))
         rows = database.run(
             "UPDATE alarms SET seen_by = ?, seen_at = {clock} WHERE id = ? AND seen_by IS NULL RETURNING sign, what",
             who,

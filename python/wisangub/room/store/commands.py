@@ -3,7 +3,7 @@
 from dataclasses import dataclass
 from typing import Sequence
 
-from . import rules
+from . import rights, rules
 from .audit import note
 from .connection import Database, Taken
 from .shown_by import text_of
@@ -32,9 +32,11 @@ class Commands:
 
     def ask_all(self, lines: Sequence[tuple[int, str]], who: str, what: str, confirmation: str) -> int:
         """A command for each of these signs, or for none: the number of what was asked, which `what` says in words. A
-        confirmation counts once: where it is there already, what was asked with it then. Refused as in `ask`."""
+        confirmation counts once: where it is there already, what was asked with it then. Refused as in `ask`, and where
+        the user may not give one of them."""
         try:
             with self.database.transaction():
+                rights.check(self.database, who, lines)
                 rows = self._run(
                     f"INSERT INTO batches (confirmation, who, at, what) VALUES (?, ?, {CLOCK}, ?) RETURNING id",
                     confirmation,
@@ -90,8 +92,10 @@ class Commands:
 
     def withdraw(self, command: int, who: str) -> bool:
         """Ends a command that waits for its turn, and says so in the audit; False where it was begun, or has ended, or
-        where there is none."""
+        where there is none. Refused where the user may not command its sign."""
         with self.database.transaction():
+            for (sign,) in self._run("SELECT sign FROM commands WHERE id = ?", command):
+                rights.need(self.database, who, whole(sign))
             rows = self._run(
                 f"UPDATE commands SET outcome = ?, ended = {CLOCK}"
                 " WHERE id = ? AND line_number IS NULL AND outcome IS NULL RETURNING sign",

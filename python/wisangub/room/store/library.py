@@ -7,7 +7,7 @@ from wisangub.refusal import Refusal
 from . import rules
 from .audit import note
 from .connection import Database, Row, Taken
-from .values import texts, time_of, whole
+from .values import texts, time_of, whole, whole_or_none
 
 _MOST_TEXT = 512  # octets
 _TEXTS = """
@@ -203,3 +203,15 @@ def withdraw(database: Database, number: int, kind: str, who: str) -> None:
 
 def _called(held: Written) -> str:
     return f"{held.folder} / {held.name}" if held.folder else held.name
+
+
+def priority_of(database: Database, text: bytes, sign: int) -> int | None:
+    """The greatest priority of the purposes of a text, as far as it is approved for the kind of a sign."""
+    rows = database.run(
+        "SELECT max(purposes.priority) FROM texts JOIN purposes ON purposes.id = texts.purpose"
+        " JOIN approvals ON approvals.text = texts.id JOIN signs ON signs.kind = approvals.kind"
+        " WHERE texts.text = ? AND signs.id = ?",
+        text.hex(),
+        sign,
+    )
+    return whole_or_none(rows[0][0])

@@ -5,7 +5,7 @@ import json
 from dataclasses import dataclass
 
 from .database import Database, Row, Value
-from .values import SLACK, text_or_none, time_of, time_or_none, whole, whole_or_none
+from .values import SLACK, places, text_or_none, time_of, time_or_none, whole, whole_or_none
 
 _SIGNS = """
 SELECT signs.id, signs.name, signs.place, signs.address, signs.poll,
@@ -157,13 +157,15 @@ def command_view(row: Row) -> CommandView:
 
 @dataclass(frozen=True)
 class Wanted:
-    """Which commands are looked for, the newest first; `before` is a number that they are below."""
+    """Which commands are looked for, the newest first; `before` is a number that they are below, `signs` are those that
+    they are of, where not of all."""
 
     sign: int | None = None
     who: str = ""
     outcome: str = ""
     before: int | None = None
     most: int = 50
+    signs: frozenset[int] | None = None
 
     def where(self) -> tuple[str, list[Value]]:
         parts: list[str] = []
@@ -176,6 +178,9 @@ class Wanted:
             if value is not None:
                 parts.append(part)
                 values.append(value)
+        if self.signs is not None:
+            parts.append(f"commands.sign IN ({places(self.signs)})" if self.signs else "1 = 0")
+            values.extend(sorted(self.signs))
         outcome = {
             "accepted": "commands.outcome = 'accepted'",
             "open": "commands.outcome IS NULL",

@@ -22,25 +22,25 @@ class Signs:
         """The fleet as rows: each sign by the number of its row. Refused where a sign is to have an address that
         another one has."""
         self._addresses.part()
-        said = {sign.name: (sign.place, sign.address, sign.poll) for sign in signs}
-        held = {str(row[0]): row[1:] for row in self._run("SELECT name, place, address, poll, id FROM signs")}
-        new = [(name, *said[name]) for name in sorted(said) if name not in held or held[name][:3] != said[name]]
+        said = {sign.name: (sign.place, sign.address, sign.poll, sign.kind) for sign in signs}
+        held = {str(row[0]): row[1:] for row in self._run("SELECT name, place, address, poll, kind, id FROM signs")}
+        new = [(name, *said[name]) for name in sorted(said) if name not in held or held[name][:4] != said[name]]
         if new:
             every = {sign.name: sign.every | {sign.address} for sign in signs}
-            moved = {name for name, _, address, _ in new if name not in held or held[name][1] != address}
+            moved = {name for name, _, address, _, _ in new if name not in held or held[name][1] != address}
             known = (
                 _others({name: str(row[1]) for name, row in held.items() if name not in said} if moved else {}) | every
             )
             with self.database.transaction(is_alone=True):
                 self.database.run_all(
-                    "INSERT INTO signs (name, place, address, poll) VALUES (?, ?, ?, ?)"
+                    "INSERT INTO signs (name, place, address, poll, kind) VALUES (?, ?, ?, ?, ?)"
                     " ON CONFLICT (name) DO UPDATE SET place = excluded.place,"
-                    " address = excluded.address, poll = excluded.poll",
+                    " address = excluded.address, poll = excluded.poll, kind = excluded.kind",
                     new,
                 )
                 if moved:
                     self._addresses.know(
-                        {whole(row[3]): known[name] for name, row in held.items() if name not in moved}
+                        {whole(row[4]): known[name] for name, row in held.items() if name not in moved}
                     )
                 for name in sorted(moved):
                     self._move(name, said[name][1], every[name], name not in held)

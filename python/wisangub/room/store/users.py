@@ -65,12 +65,18 @@ def _checked(password: str) -> str:
 
 
 def add(database: Database, name: str, role: Role, password: str, who: str) -> None:
+    """A user, who may on all signs what his role may until an administrator bounds it."""
     if not _NAME.fullmatch(name):
         raise Refusal(_NAMES)
     kept = _checked(password)
     try:
         with database.transaction():
             database.run("INSERT INTO users (name, role, secret) VALUES (?, ?, ?)", name, role.word, kept)
+            database.run(
+                "INSERT INTO rights (name, of_group, level) SELECT CAST(? AS TEXT), id, 3 FROM sign_groups"
+                " WHERE kind = 'all'",
+                name,
+            )
             note(database, who, f"user {name} is added, {role.word}")
     except Taken:
         raise Refusal(f"there is a user {name} already") from None

@@ -1,6 +1,6 @@
 """Values of rows as what they are, and the parts of statements that several tables share."""
 
-from typing import Sequence
+from typing import Collection, Sequence
 
 from .connection import Row, Value
 
@@ -38,6 +38,6 @@ def texts(rows: Sequence[Row]) -> list[str]:
     return [str(row[0]) for row in rows]
 
 
-def places(values: Sequence[object]) -> str:
+def places(values: Collection[object]) -> str:
     """A place for each value."""
     return ", ".join("?" * len(values))

@@ -11,16 +11,18 @@ from typing import AsyncIterator, Awaitable, Callable
 from aiohttp import web
 
 from wisangub.room.output import LOG
-from wisangub.room.store import logins
+from wisangub.room.store import logins, rights
 from wisangub.room.store.audit import note
-from wisangub.room.store.database import Failed, Taken
+from wisangub.room.store.database import Database, Failed, Taken
 from wisangub.room.store.logins import Visitor
+from wisangub.room.store.rights import Rights
 from wisangub.room.store.users import Role
 
 from . import (
     alarm_pages,
     bodies,
     compose,
+    group_pages,
     library_pages,
     log_pages,
     people,
@@ -76,6 +78,10 @@ ROUTES = (
     Route("GET", r"/library/{text:\d{1,9}}", library_pages.text),
     Route("POST", r"/library/{text:\d{1,9}}", library_pages.change, _OPERATOR),
     Route("POST", r"/library/{text:\d{1,9}}/approve", library_pages.approve, _ADMINISTRATOR),
+    Route("GET", "/groups", group_pages.listed, _ADMINISTRATOR),
+    Route("POST", "/groups", group_pages.add, _ADMINISTRATOR),
+    Route("GET", r"/groups/{group:\d{1,9}}", group_pages.group, _ADMINISTRATOR),
+    Route("POST", r"/groups/{group:\d{1,9}}", group_pages.change, _ADMINISTRATOR),
     Route("GET", "/rules", rule_pages.listed, _ADMINISTRATOR),
     Route("POST", "/rules", rule_pages.change, _ADMINISTRATOR),
     Route("GET", r"/batches/{batch:\d{1,9}}", send.batch),
@@ -153,13 +159,13 @@ async def _guard(request: web.Request, handler: _Handler) -> web.StreamResponse:
     service = service_of(request)
     cookie = service.seal.get(request, "login")
     idle, is_asked = service.settings.idle, request.match_info.handler not in _BY_THEMSELVES
-    ask = partial(logins.find, cookie=cookie or "", idle=idle, is_asked=is_asked)
-    visitor = await service.connections.run(ask) if cookie else None
+    ask = partial(_visiting, cookie=cookie or "", idle=idle, is_asked=is_asked)
+    visitor, may = await service.connections.run(ask) if cookie else (None, Rights())
     if visitor is None:
         if request.method != "GET" or request.path == "/events":
             raise web.HTTPUnauthorized(text="You are not logged in, or your log-in has ended.")
         raise web.HTTPSeeOther(sign_in.address(request))
-    request["visitor"] = visitor
+    request["visitor"], request["rights"] = visitor, may
     if visitor.role < role:
         await _note_refusal(request, visitor, f"it is for {role.word}s")
         raise web.HTTPForbidden(text=f"This is for {role.word}s: you are logged in as a {visitor.role.word}.")
@@ -167,6 +173,12 @@ async def _guard(request: web.Request, handler: _Handler) -> web.StreamResponse:
         await _note_refusal(request, visitor, "it came from no page of this service")
         raise web.HTTPForbidden(text="This request did not come from a page of this service, so nothing was done.")
     return await handler(request)
+
+
+def _visiting(database: Database, cookie: str, idle: float, is_asked: bool) -> tuple[Visitor | None, Rights]:
+    """Whose log-in it is, and what he may."""
+    visitor = logins.find(database, cookie, idle, is_asked)
+    return visitor, rights.of_user(database, visitor.name) if visitor else Rights()
 
 
 async def _note_refusal(request: web.Request, visitor: Visitor, why: str) -> None:

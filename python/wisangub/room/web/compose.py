@@ -21,7 +21,7 @@ from .draft import Draft
 from .faces import Face
 from .pictures import Picture
 from .record_pages import number_of
-from .service import Service, service_of, visitor_of
+from .service import Service, commanded, rights_of, service_of, visitor_of
 from .words import asked, text_of
 
 _MOST_SIGNS = 1000
@@ -82,7 +82,8 @@ async def look(request: web.Request) -> web.Response:
     try:
         held: Any = json.loads(await request.text())
         text = drafts.joined(str(held["text"]))[:4096]
-        signs = tuple(sign_id for sign_id in map(int, held["signs"][:_MOST_SIGNS]) if sign_id in service.signs)
+        may = commanded(request)
+        signs = tuple(sign_id for sign_id in map(int, held["signs"][:_MOST_SIGNS]) if sign_id in may)
     except (ValueError, KeyError, TypeError):
         raise web.HTTPBadRequest(text="This is no text and list of signs.") from None
     found = await looks(service, signs, text)
@@ -107,20 +108,18 @@ async def look(request: web.Request) -> web.Response:
     )
 
 
-def _choice(service: Service) -> list[tuple[str, int]]:
-    return [(sign.name, sign_id) for sign_id, sign in service.signs.items()]
-
-
 async def answer(request: web.Request, draft: Draft, status: int = 200) -> web.Response:
-    """The form, with the looks that the text has now."""
-    service = service_of(request)
+    """The form, with the looks that the text has now, for the signs that who asks may command."""
+    service, may = service_of(request), commanded(request)
+    if not may:
+        raise web.HTTPForbidden(text="There is no sign that you may command.")
     found = await looks(service, draft.signs, draft.text) if draft.text and draft.signs else []
 
     def held(database: Database) -> tuple[list[Purpose], list[Text], float]:
         return rules.purposes(database), library.listed(database), queries.now(database)
 
     purposes, texts, now = await service.connections.run(held)
-    faces = [service.faces[sign_id] for sign_id in draft.signs] or list(service.faces.values())
+    faces = [service.faces[sign_id] for sign_id in draft.signs] or list(may.values())
     chosen = [service.faces[sign_id] for sign_id in draft.signs]
     kinds = {face.key for face in chosen}
     return service.page(
@@ -129,7 +128,7 @@ async def answer(request: web.Request, draft: Draft, status: int = 200) -> web.R
         status=status,
         draft=draft,
         looks=found,
-        signs=_choice(service),
+        signs=[(service.signs[sign_id].name, sign_id) for sign_id in may],
         now=now,
         purposes=purposes,
         purpose=next((one for one in purposes if draft.is_of(one, chosen)), None),
@@ -145,15 +144,17 @@ async def answer(request: web.Request, draft: Draft, status: int = 200) -> web.R
 async def form(request: web.Request) -> web.Response:
     """The form, for the signs of the address; with the text of an earlier command, where it names one."""
     service = service_of(request)
-    draft = drafts.read(request.query, service.faces)
+    may = commanded(request)
+    draft = drafts.read(request.query, may)
     again, number = number_of(request, "again"), number_of(request, "text")
     command = await service.connections.run(partial(queries.command, number=again)) if again is not None else None
     if number is not None:
         draft = await _with_text(service, draft, number)
-    if command is not None and (old := asked(command.line)).kind == "publish":
+    is_seen = command is not None and rights_of(request).may_see(command.sign)
+    if command is not None and is_seen and (old := asked(command.line)).kind == "publish":
         draft = dataclasses.replace(
             draft,
-            signs=draft.signs or tuple({command.sign} & set(service.signs)),
+            signs=draft.signs or tuple({command.sign} & set(may)),
             text=text_of(old.text),
             memory=old.memory,
             number=old.number,
@@ -248,7 +249,7 @@ async def confirm(request: web.Request) -> web.Response:
     """The confirmation of a text, or the form again with what is wrong."""
     service = service_of(request)
     fields = await request.post()
-    draft = drafts.read(fields, service.faces)
+    draft = drafts.read(fields, commanded(request))
     purpose = _row_in(fields, "purpose")
     if purpose is not None:
         draft = await _of_purpose(service, draft, purpose)
@@ -261,7 +262,7 @@ async def confirm(request: web.Request) -> web.Response:
 
 async def blank(request: web.Request) -> web.Response:
     """The confirmation of showing nothing."""
-    draft = drafts.read(request.query, service_of(request).faces, "blank")
+    draft = drafts.read(request.query, commanded(request), "blank")
     if "sign" in draft.faults:
         raise web.HTTPBadRequest(text=draft.faults["sign"])
     shown = await service_of(request).connections.run(lambda database: _shown_priorities(database, draft.signs))
@@ -279,7 +280,7 @@ def _shown_priorities(database: Database, signs: tuple[int, ...]) -> list[int]:
 async def row(request: web.Request) -> web.Response:
     """The confirmation of showing a row that the sign has, as its table was last read."""
     service = service_of(request)
-    draft = drafts.read(request.query, service.faces, "activate")
+    draft = drafts.read(request.query, commanded(request), "activate")
     if draft.faults or len(draft.signs) != 1:
         raise web.HTTPBadRequest(text="This is no row of one sign.")
     last = await service.connections.run(lambda database: queries.table(database, draft.signs[0]))

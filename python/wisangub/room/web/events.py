@@ -8,12 +8,13 @@ from typing import Callable
 
 from aiohttp import web
 
-from wisangub.room.store import logins, queries
+from wisangub.room.store import logins, queries, rights
 from wisangub.room.store.database import Database, Failed, Taken
+from wisangub.room.store.rights import Rights
 
 from . import send, sign_pages, wall
 from .connections import Connections
-from .service import Service, service_of, visitor_of
+from .service import Service, rights_of, service_of, visitor_of
 
 _VIEW = re.compile(r"wall|(sign|table|batch)/(\d{1,9})")
 _MOST_STREAMS, MOST_OF_ONE = 400, 12
@@ -22,16 +23,23 @@ AGES = 5.0  # seconds after which what was said may be too old, though nothing w
 _JUMP = 2.0  # seconds by which the database's clock has to be elsewhere
 _MOST_WAITING = 20  # events that a browser has not taken; then it has to begin anew
 _Parts = dict[str, str]
-_OF = {"sign": sign_pages.parts, "table": sign_pages.table_parts, "batch": send.parts}
+_Key = tuple[str, frozenset[int] | None]  # a view, and the signs that may be seen: all for none
+_OF = {"sign": sign_pages.parts, "table": sign_pages.table_parts}
 
 
 class Stream:
-    """A browser that listens to a view."""
+    """A browser that listens to a view of the signs that its user may see: all of them for none."""
 
     def __init__(self, view: str, request: web.Request) -> None:
         self.view, self.request, self.login = view, request, visitor_of(request).login
+        self.seen = _seen(service_of(request), rights_of(request))
         self.looked = time.monotonic()  # when the log-in was found to stand
         self.queue: asyncio.Queue[_Parts | None] = asyncio.Queue(_MOST_WAITING)
+
+    @property
+    def key(self) -> _Key:
+        """What is made once for all that listen to it."""
+        return self.view, self.seen
 
     @property
     def is_gone(self) -> bool:
@@ -47,6 +55,11 @@ class Stream:
         self.queue.put_nowait(parts)
 
 
+def _seen(service: Service, may: Rights) -> frozenset[int] | None:
+    """The signs of the fleet that somebody may see; none for all that there are."""
+    return None if may.sees_all else may.seen(service.signs)
+
+
 class Hub:
     """Looks for what has changed as long as somebody listens, once for all."""
 
@@ -54,18 +67,25 @@ class Hub:
         self.service = service
         self.streams: set[Stream] = set()
         self.connections = Connections(service.settings.database, 1)  # a mark is of one connection
-        self.last: dict[str, _Parts] = {}
+        self.last: dict[_Key, _Parts] = {}
         self.mark, self.looked = "", 0.0
         self.clock: float | None = None  # the database's time, less this machine's since it was started
 
-    def made(self, view: str) -> Callable[[Database], _Parts]:
+    def made(self, key: _Key) -> Callable[[Database], _Parts]:
         """How the parts of a view are made."""
+        view, seen = key
         found = _VIEW.fullmatch(view)
         assert found is not None
         if found[1] is None:
-            return lambda database: wall.parts(self.service, database)
-        of, sign_id = _OF[found[1]], int(found[2])
-        return lambda database: of(self.service, database, sign_id)
+            every = frozenset(self.service.signs) if seen is None else seen
+            return lambda database: wall.parts(self.service, database, every)
+        number = int(found[2])
+        if found[1] == "batch":
+            return lambda database: send.parts(
+                self.service, database, number, lambda sign: seen is None or sign in seen
+            )
+        of = _OF[found[1]]
+        return lambda database: of(self.service, database, number)
 
     async def run(self) -> None:
         """For ever."""
@@ -90,18 +110,18 @@ class Hub:
         """What has changed goes to those who listen to it."""
         await self._tell_time()
         mark, now = await self.connections.run(lambda database: database.mark()), time.monotonic()
-        watched = {stream.view for stream in self.streams}
+        watched = {stream.key for stream in self.streams}
         is_new = mark != self.mark or now - self.looked > AGES
-        self.last = {view: parts for view, parts in self.last.items() if view in watched}
-        for view in watched:
-            if not is_new and view in self.last:
+        self.last = {key: parts for key, parts in self.last.items() if key in watched}
+        for key in watched:
+            if not is_new and key in self.last:
                 continue
-            parts = await self.connections.run(self.made(view))
-            before = self.last.get(view, {})
+            parts = await self.connections.run(self.made(key))
+            before = self.last.get(key, {})
             changed = {name: html for name, html in parts.items() if before.get(name) != html}
-            self.last[view] = parts
+            self.last[key] = parts
             for stream in self.streams:
-                if changed and stream.view == view:
+                if changed and stream.key == key:
                     stream.put(changed)
         self.mark, self.looked = mark, now if is_new else self.looked
 
@@ -111,8 +131,8 @@ class Hub:
         of_one = sum(one.login == stream.login for one in self.streams)
         if len(self.streams) >= _MOST_STREAMS or of_one >= MOST_OF_ONE:
             raise web.HTTPServiceUnavailable(text="Too many pages listen.")
-        if stream.view in self.last:
-            stream.put(self.last[stream.view])
+        if stream.key in self.last:
+            stream.put(self.last[stream.key])
         self.streams.add(stream)
 
     def end_streams(self) -> None:
@@ -133,7 +153,9 @@ async def events(request: web.Request) -> web.StreamResponse:
     """A stream of a view, as long as the log-in stands."""
     service, view = service_of(request), request.query.get("view", "")
     found = _VIEW.fullmatch(view)
-    if found is None or found[1] in ("sign", "table") and int(found[2]) not in service.signs:
+    may_see = rights_of(request).may_see
+    is_of_sign = found is not None and found[1] in ("sign", "table")
+    if found is None or is_of_sign and not (int(found[2]) in service.signs and may_see(int(found[2]))):
         raise web.HTTPNotFound(text="There is no such view.")
     stream = Stream(view, request)
     _hub_of(request).enter(stream)
@@ -152,7 +174,7 @@ async def events(request: web.Request) -> web.StreamResponse:
 
 async def _told(service: Service, stream: Stream) -> bytes | None:
     """The next event, or after a silence a line that says nothing; None where the stream ends. Whatever happens on the
-    view, the log-in is looked at again before it was taken for granted for longer than a silence."""
+    view, log-in and rights are looked at again before they were taken for granted for longer than a silence."""
     try:
         parts = await asyncio.wait_for(stream.queue.get(), SILENCE)
         words = None if parts is None else f"data: {json.dumps(parts)}\n\n".encode()
@@ -161,7 +183,13 @@ async def _told(service: Service, stream: Stream) -> bytes | None:
     now = time.monotonic()
     if words is not None and now - stream.looked >= SILENCE:
         idle = service.settings.idle
-        if await service.connections.run(lambda database: logins.find(database, stream.login, idle)) is None:
+        if not await service.connections.run(lambda database: _still_stands(service, database, stream, idle)):
             return None
         stream.looked = now
     return words
+
+
+def _still_stands(service: Service, database: Database, stream: Stream, idle: float) -> bool:
+    """Whether the log-in stands, and its user still sees the same signs."""
+    visitor = logins.find(database, stream.login, idle)
+    return visitor is not None and _seen(service, rights.of_user(database, visitor.name)) == stream.seen

@@ -13,7 +13,7 @@ from wisangub.room.store.rules import Purpose
 from . import compose
 from .compose import Look
 from .draft import joined
-from .service import Service, service_of, visitor_of
+from .service import Service, rights_of, service_of, visitor_of
 from .words import text_of
 
 _MOST_NAMED = 3  # signs of a kind that are named
@@ -42,13 +42,14 @@ async def _list(
         return library.listed(database), rules.purposes(database), queries.now(database)
 
     texts, purposes, now = await service.connections.run(found)
+    kinds = {service.faces[sign_id].key for sign_id in rights_of(request).seen(service.signs)}
     return service.page(
         request,
         "library.html",
         status=status,
         texts=texts,
-        approved={one.id: len(one.kinds & service.by_key.keys()) for one in texts},
-        kinds=len(service.by_key),
+        approved={one.id: len(one.kinds & kinds) for one in texts},
+        kinds=len(kinds),
         purposes=purposes,
         written=written or Written("", "", b"", 0),
         now=now,
@@ -99,7 +100,8 @@ async def _page(request: web.Request, said: str = "", status: int = 200) -> web.
     if text is None:
         raise web.HTTPNotFound(text="There is no such text in the library.")
     by_kind = {one.kind: one for one in text.approvals}
-    looks = await compose.looks(service, tuple(service.signs), text_of(text.text))
+    seen = tuple(sorted(rights_of(request).seen(service.signs)))
+    looks = await compose.looks(service, seen, text_of(text.text))
     return service.page(
         request,
         "text.html",

@@ -8,7 +8,7 @@ from wisangub.room.store.database import Database
 from wisangub.room.store.queries import SignView, Wanted
 
 from . import words
-from .service import Service, service_of, sign_of
+from .service import Service, rights_of, service_of, sign_of
 
 _OUTCOMES = ("accepted", "failed", "open")
 _MOST = 50
@@ -22,6 +22,8 @@ def number_of(request: web.Request, key: str) -> int | None:
 
 async def history_page(request: web.Request) -> web.Response:
     service = service_of(request)
+    rights = rights_of(request)
+    seen = rights.seen(service.signs)
     outcome, who = request.query.get("outcome", ""), request.query.get("who", "")
     wanted = Wanted(
         number_of(request, "sign"),
@@ -29,13 +31,14 @@ async def history_page(request: web.Request) -> web.Response:
         outcome if outcome in _OUTCOMES else "",
         number_of(request, "before"),
         _MOST,
+        None if rights.sees_all else seen,
     )
 
     def found(database: Database) -> tuple[list[queries.CommandView], list[str], float]:
         return queries.commands(database, wanted), history.people(database), queries.now(database)
 
     rows, people, now = await service.connections.run(found)
-    signs = sorted((sign.name, sign_id) for sign_id, sign in service.signs.items())
+    signs = sorted((service.signs[sign_id].name, sign_id) for sign_id in seen)
     return service.page(
         request,
         "history.html",

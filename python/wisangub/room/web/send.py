@@ -2,6 +2,7 @@
 
 import socket
 from dataclasses import dataclass
+from typing import Callable
 
 from aiohttp import web
 
@@ -16,7 +17,7 @@ from wisangub.room.store.history import Batch
 from . import compose
 from . import draft as drafts
 from .draft import KINDS, Draft
-from .service import Service, service_of, visitor_of
+from .service import Service, commanded, rights_of, service_of, visitor_of
 from .words import asked
 
 _NOWHERE = "0.0.0.0"
@@ -44,7 +45,7 @@ async def send(request: web.Request) -> web.StreamResponse:
     kind, confirmation = str(fields.get("kind", "")), str(fields.get("confirmation", ""))
     if kind not in KINDS or not confirmation:
         raise web.HTTPBadRequest(text="This was not confirmed.")
-    draft = drafts.read(fields, service.faces, kind)
+    draft = drafts.read(fields, commanded(request), kind)
     if draft.faults:
         raise web.HTTPUnprocessableEntity(text=" ".join(draft.faults.values()))
     if not await _is_drawn(service, draft):
@@ -74,27 +75,36 @@ class Part:
     picture: str | None
 
 
-def _parts_of(service: Service, database: Database, number: int) -> tuple[Batch | None, list[Part], float]:
+_Seen = Callable[[int], bool]  # whether who asks may see a sign
+
+
+def _parts_of(
+    service: Service, database: Database, number: int, may_see: _Seen
+) -> tuple[Batch | None, list[Part], float]:
+    """What was asked for of the signs that may be seen; nothing, where none of them may be."""
     found = history.batch(database, number)
     made = []
     for command in found.commands if found else []:
+        if not may_see(command.sign):
+            continue
         line = asked(command.line)
         picture = service.picture(command.sign, line.text) if line.kind in ("publish", "blank") else None
         made.append(Part(command, picture))
-    return found, made, queries.now(database)
+    return (found if made else None), made, queries.now(database)
 
 
 async def batch(request: web.Request) -> web.Response:
     service, number = service_of(request), int(request.match_info["batch"])
-    found, made, now = await service.connections.run(lambda database: _parts_of(service, database, number))
+    may_see = rights_of(request).may_see
+    found, made, now = await service.connections.run(lambda database: _parts_of(service, database, number, may_see))
     if found is None:
         raise web.HTTPNotFound(text="Nothing of this number was asked for.")
     return service.page(request, "batch.html", batch=found, parts=made, now=now, view=f"batch/{number}")
 
 
-def parts(service: Service, database: Database, number: int) -> dict[str, str]:
+def parts(service: Service, database: Database, number: int, may_see: _Seen) -> dict[str, str]:
     """What an event may replace."""
-    _, made, _ = _parts_of(service, database, number)
+    _, made, _ = _parts_of(service, database, number, may_see)
     return {f"command-{one.command.id}": service.part("parts.html", "part", one) for one in made} | {
         "summary": service.part("parts.html", "summary", made)
     }
@@ -104,6 +114,10 @@ async def withdraw(request: web.Request) -> web.StreamResponse:
     """Ends a command that waits for its turn; one that was begun goes on."""
     service, visitor, number = service_of(request), visitor_of(request), int(request.match_info["command"])
 
-    if not await service.connections.run(lambda database: Commands(database).withdraw(number, visitor.name)):
+    try:
+        is_done = await service.connections.run(lambda database: Commands(database).withdraw(number, visitor.name))
+    except Refusal as refused:
+        raise web.HTTPForbidden(text=f"Nothing was done: {refused}.") from None
+    if not is_done:
         raise web.HTTPConflict(text="This command was begun, or has ended: it cannot be withdrawn.")
     raise web.HTTPSeeOther("/history?outcome=open")

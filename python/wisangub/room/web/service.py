@@ -13,6 +13,7 @@ from wisangub.room.fleet import Sign
 from wisangub.room.plain import plain_of
 from wisangub.room.store.keys import key_of
 from wisangub.room.store.logins import Visitor
+from wisangub.room.store.rights import Rights
 from wisangub.room.store.store import Store
 from wisangub.snmp.mib import Mib
 
@@ -88,9 +89,11 @@ class Service:
     def page(self, request: web.Request, template: str, /, status: int = 200, **values: Any) -> web.Response:
         """A whole page for who asks."""
         visitor: Visitor | None = request.get("visitor")
+        rights: Rights = request.get("rights", Rights())
         token = self.seal.token(visitor.login) if visitor else ""
+        common = {"now": None, "view": "", "may_command": rights.commands_some}
         text = self.html(
-            template, visitor=visitor, token=token, path=request.path, **{"now": None, "view": "", **values}
+            template, visitor=visitor, rights=rights, token=token, path=request.path, **{**common, **values}
         )
         return web.Response(text=text, content_type="text/html", charset="utf-8", status=status)
 
@@ -123,9 +126,21 @@ def visitor_of(request: web.Request) -> Visitor:
     return found
 
 
+def rights_of(request: web.Request) -> Rights:
+    """What who asks may do on which sign."""
+    found: Rights = request["rights"]
+    return found
+
+
+def commanded(request: web.Request) -> dict[int, Face]:
+    """The faces of the signs that who asks may command."""
+    rights = rights_of(request)
+    return {sign_id: face for sign_id, face in service_of(request).faces.items() if rights.may_command(sign_id)}
+
+
 def sign_of(request: web.Request) -> int:
-    """The sign that the address names."""
+    """The sign that the address names; one that who asks may not see is none."""
     sign_id = int(request.match_info["sign"])
-    if sign_id not in service_of(request).signs:
+    if sign_id not in service_of(request).signs or not rights_of(request).may_see(sign_id):
         raise web.HTTPNotFound(text="There is no such sign in the fleet.")
     return sign_id

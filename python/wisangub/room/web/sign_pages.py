@@ -10,7 +10,7 @@ from wisangub.room.store.database import Database
 from wisangub.room.store.messages import Messages
 from wisangub.room.store.queries import CommandView, SignView, TableView, Wanted
 
-from .service import Service, service_of, sign_of
+from .service import Service, rights_of, service_of, sign_of
 
 _FEW = 8
 
@@ -47,6 +47,7 @@ async def overview(request: web.Request) -> web.Response:
         now=found.now,
         face=service.faces[sign_id],
         tab="overview",
+        may_command=rights_of(request).may_command(sign_id),
         view=f"sign/{sign_id}",
     )
 
@@ -67,7 +68,16 @@ async def table(request: web.Request) -> web.Response:
         return queries.sign(database, sign_id), queries.table(database, sign_id), queries.now(database)
 
     sign, held, now = await service.connections.run(found)
-    return service.page(request, "table.html", sign=sign, table=held, now=now, tab="table", view=f"table/{sign_id}")
+    return service.page(
+        request,
+        "table.html",
+        sign=sign,
+        table=held,
+        now=now,
+        tab="table",
+        may_command=rights_of(request).may_command(sign_id),
+        view=f"table/{sign_id}",
+    )
 
 
 def table_parts(service: Service, database: Database, sign_id: int) -> dict[str, str]:

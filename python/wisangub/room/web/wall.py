@@ -4,12 +4,12 @@ from dataclasses import dataclass
 
 from aiohttp import web
 
-from wisangub.room.store import alarms, queries
+from wisangub.room.store import alarms, groups, queries
 from wisangub.room.store.database import Database
 from wisangub.room.store.queries import CommandView, SignView
 
 from .progress import Step, states
-from .service import Service, service_of
+from .service import Service, rights_of, service_of
 
 _WIDE = 160  # columns of a matrix that takes two places
 
@@ -48,8 +48,8 @@ def _card(service: Service, sign: SignView, now: float, open_: list[CommandView]
     return Card(sign, picture, sign.is_stale(now), command, step, len(open_), is_wide, is_other)
 
 
-def cards(service: Service, database: Database) -> tuple[list[Card], float]:
-    """All signs of the fleet, and the database's time."""
+def cards(service: Service, database: Database, seen: frozenset[int]) -> tuple[list[Card], float]:
+    """These signs in the fleet's order, and the database's time."""
     open_ = queries.under_way(database)
     of: dict[int, list[CommandView]] = {}
     for command in open_:
@@ -57,19 +57,24 @@ def cards(service: Service, database: Database) -> tuple[list[Card], float]:
     others = alarms.signs_with(database, alarms.OTHER)
     known = {sign.id: sign for sign in queries.signs(database)}
     now = queries.now(database)  # after what it is compared with
-    found = [known[sign_id] for sign_id in service.signs if sign_id in known]
+    found = [known[sign_id] for sign_id in service.signs if sign_id in known and sign_id in seen]
     return [_card(service, sign, now, of.get(sign.id, []), sign.id in others) for sign in found], now
 
 
 async def wall(request: web.Request) -> web.Response:
     service = service_of(request)
-    found, now = await service.connections.run(lambda database: cards(service, database))
-    return service.page(request, "wall.html", cards=found, now=now, view="wall")
+    seen = rights_of(request).seen(service.signs)
+
+    def found(database: Database) -> tuple[list[Card], float, dict[int, list[str]]]:
+        return *cards(service, database, seen), groups.names_of_signs(database)
+
+    made, now, names = await service.connections.run(found)
+    return service.page(request, "wall.html", cards=made, now=now, groups=names, view="wall")
 
 
-def parts(service: Service, database: Database) -> dict[str, str]:
-    """What an event may replace: each card."""
-    found, _ = cards(service, database)
+def parts(service: Service, database: Database, seen: frozenset[int]) -> dict[str, str]:
+    """What an event may replace: each card of these signs."""
+    found, _ = cards(service, database, seen)
     return {f"sign-{one.sign.id}": service.card(one) for one in found} | {
         "counts": service.part("parts.html", "counts", found)
     }
