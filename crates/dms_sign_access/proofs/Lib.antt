@@ -1,3 +1,4 @@
 pub mod Found
 pub mod Settable
 pub mod TakenSlots
+pub mod WrittenObjects

@@ -1,6 +1,8 @@
 -- What the changes of the code write (this profile).
-use Rattle.std.specs.Prelude.{◌<◌, ⊤}
-use Rattle.dms_mib.specs.declared.scalar.Scalar.TheVariants.{ShortPowerLossTime, TimeCommLoss}
+use Rattle.std.specs.Prelude.{ℕ, ◌<◌, ⊤}
+use Rattle.dms_mib.specs.declared.objects.Group.{Group}
+use Rattle.dms_mib.specs.declared.objects.Group.TheVariants.{MultiCfg}
+use Rattle.dms_mib.specs.Objects.{scalar_row}
 use Rattle.dms_table.specs.RowsView.{field_of}
 use Rattle.dms_sign_access.specs.declared.access.Change.{Change}
 use Rattle.dms_sign_access.specs.declared.access.Change.TheVariants as changes
@@ -14,9 +16,11 @@ write_by (changes.Ask id ask) = AskRow id ask
 write_by (changes.Activate octets) = Activate octets
 write_by (changes.Remaining minutes) = SetRemaining minutes
 
--- the number of a default is that of an octet
+-- the numbers of the defaults are octets
+abbrev pub IsNumberOf : Group → ℕ → Type 0
+IsNumberOf MultiCfg number = number < 256
+IsNumberOf _ number = ⊤
+
 abbrev pub IsChange : Change → Type 0
-IsChange (changes.Number ShortPowerLossTime number) = ⊤
-IsChange (changes.Number TimeCommLoss number) = ⊤
-IsChange (changes.Number _ number) = number < 256
+IsChange (changes.Number object number) = IsNumberOf (scalar_row object).group number
 IsChange _ = ⊤

@@ -2,15 +2,18 @@
 
 ghost use Rattle.std.specs.Prelude.{◌≡◌, ◌≤◌, option_map, IfSome};
 ghost use Rattle.dms_wire.specs.View.{object_value};
+ghost use Rattle.dms_face.specs.Face.{FaceModel};
+ghost use Rattle.dms_mib.specs.declared.objects.Access.TheVariants.{Write, Command};
 ghost use Rattle.dms_mib.specs.declared.scalar.Scalar.TheVariants.{DefaultFont};
+ghost use Rattle.dms_mib.specs.Objects.{scalar_row};
 ghost use Rattle.dms_sign_access.specs.Access.{has_writable_rows, is_settable_column, is_settable_object, is_settable};
 ghost use Rattle.dms_sign_access.specs.Access.{is_command, number_in, octets_in, font_in, ask_of, SetNumber, SetCode};
-ghost use Rattle.dms_sign_access.specs.Access.{Activate, SetRemaining, object_write, cell_write, write_of};
-ghost use Rattle.dms_sign_access.specs.ChangeView.{write_by, IsChange};
+ghost use Rattle.dms_sign_access.specs.Access.{Activate, SetRemaining, setting_of, object_write, cell_write, write_of};
+ghost use Rattle.dms_sign_access.specs.ChangeView.{write_by, IsNumberOf, IsChange};
 
 use dms_codes::{Ask, MAX_OWNER, MAX_TEXT, RowId, memory};
 use dms_face::Face;
-use dms_mib::{Column, Instance, Scalar};
+use dms_mib::{Access, Column, Instance, Scalar, Syntax};
 use dms_table::Field;
 use dms_wire::Value;
 
@@ -53,34 +56,14 @@ fn has_writable_rows(kind: u8) -> bool
 fn is_settable_column(column: Column) -> bool
     ensures { result ≡ is_settable_column column }
 {
-    !matches!(column, Column::MemoryType | Column::Number | Column::Crc)
+    column.max_access().is_written()
 }
 
 #[tactic(auto, unfolding(crate::specs::Access::is_settable_object))]
 fn is_settable_object(object: Scalar) -> bool
     ensures { result ≡ is_settable_object object }
 {
-    matches!(
-        object,
-        Scalar::DefaultBackgroundColor
-            | Scalar::DefaultForegroundColor
-            | Scalar::DefaultFlashOn
-            | Scalar::DefaultFlashOff
-            | Scalar::DefaultFont
-            | Scalar::DefaultJustificationLine
-            | Scalar::DefaultJustificationPage
-            | Scalar::DefaultPageOnTime
-            | Scalar::DefaultPageOffTime
-            | Scalar::ActivateMessage
-            | Scalar::MessageTimeRemaining
-            | Scalar::ShortPowerRecoveryMessage
-            | Scalar::LongPowerRecoveryMessage
-            | Scalar::ShortPowerLossTime
-            | Scalar::CommunicationsLossMessage
-            | Scalar::TimeCommLoss
-            | Scalar::PowerLossMessage
-            | Scalar::EndDurationMessage
-    )
+    object.max_access().is_written()
 }
 
 /// Whether an instance can be set.
@@ -144,7 +127,7 @@ fn ask_of(number: u16) -> Ask
 fn number<'a>(object: Scalar, low: u16, high: u16, value: &Value<'_>) -> Option<Change<'a>>
     ensures exact { option_map write_by result
         ≡ option_map (SetNumber object) (number_in low high (object_value value.now)) }
-    ensures change { high ≤ 255 → IfSome result IsChange }
+    ensures change { IsNumberOf (scalar_row object).group high → IfSome result IsChange }
 {
     Some(Change::Number(object, number_in(low, high, value)?))
 }
@@ -184,31 +167,46 @@ fn font<'a>(face: &Face, value: &Value<'_>) -> Option<Change<'a>>
     Some(Change::Number(Scalar::DefaultFont, font_in(face, value)?))
 }
 
+/// What a value writes to an object that is assigned: a number of the object's range, and where it is the default font
+/// one of the face's, or the code of a message.
+fn setting<'a>(face: &Face, object: Scalar, value: &Value<'_>) -> Option<Change<'a>>
+    requires { (scalar_row object).access ≡ Write }
+    ensures exact { option_map write_by result ≡ setting_of face.now object (object_value value.now) }
+    ensures change { IfSome result IsChange }
+{
+    if object == Scalar::DefaultFont {
+        return font(face, value);
+    }
+    match object.value_syntax() {
+        Syntax::Range(low, high) => number(object, low, high, value),
+        Syntax::Octets(..) => code(object, value),
+        _ => None,
+    }
+}
+
+/// What a value writes to an object that is a command.
+fn command<'a>(object: Scalar, value: &Value<'_>) -> Option<Change<'a>>
+    requires { (scalar_row object).access ≡ Command }
+    ensures exact { (face : FaceModel) → option_map write_by result ≡ setting_of face object (object_value value.now) }
+    ensures change { IfSome result IsChange }
+{
+    match object {
+        Scalar::ActivateMessage => activation(value),
+        Scalar::MessageTimeRemaining => remaining(value),
+        _ => None,
+    }
+}
+
 /// What a value writes to an object; none where its type, its length or its range is wrong.
 #[tactic(auto, unfolding(crate::specs::Access::object_write))]
 fn object_write<'a>(face: &Face, object: Scalar, value: &Value<'a>) -> Option<Change<'a>>
     ensures exact { option_map write_by result ≡ object_write face.now object (object_value value.now) }
     ensures change { IfSome result IsChange }
 {
-    match object {
-        Scalar::DefaultBackgroundColor | Scalar::DefaultForegroundColor => {
-            number(object, 0, 9, value)
-        }
-        Scalar::DefaultFlashOn
-        | Scalar::DefaultFlashOff
-        | Scalar::DefaultPageOnTime
-        | Scalar::DefaultPageOffTime => number(object, 0, 255, value),
-        Scalar::DefaultFont => font(face, value),
-        Scalar::DefaultJustificationLine | Scalar::DefaultJustificationPage => {
-            number(object, 2, 4, value)
-        }
-        Scalar::ShortPowerLossTime | Scalar::TimeCommLoss => number(object, 0, u16::MAX, value),
-        Scalar::ShortPowerRecoveryMessage | Scalar::LongPowerRecoveryMessage => code(object, value),
-        Scalar::PowerLossMessage | Scalar::EndDurationMessage => code(object, value),
-        Scalar::CommunicationsLossMessage => code(object, value),
-        Scalar::ActivateMessage => activation(value),
-        Scalar::MessageTimeRemaining => remaining(value),
-        _ => None,
+    match object.max_access() {
+        Access::Read => None,
+        Access::Write => setting(face, object, value),
+        Access::Command => command(object, value),
     }
 }
 
