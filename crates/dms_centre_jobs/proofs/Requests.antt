@@ -1,5 +1,5 @@
 -- Each request of the centre is within the limits of a message, fits a datagram, and is read as it was meant.
-use Rattle.std.proofs.Common.{◌≡◌, ℕ, pos, ◌+◌, ◌^◌, ◌<◌, ◌≤◌, true, List, [], ◌∷◌, length, Some, refl, arith, flat_map, lt-ltb, length-append, All}
+use Rattle.std.proofs.Common.{◌≡◌, ℕ, pos, ◌+◌, ◌^◌, ◌<◌, ◌≤◌, true, List, [], ◌∷◌, ◌++◌, length, Some, refl, arith, flat_map, lt-ltb, length-append, All}
 use Rattle.std.proofs.lemmas.List.Elements.{All-head, All-tail}
 use Rattle.std.proofs.lemmas.Bool.Decides.{nat_tests}
 use Rattle.std.specs.Int.Digits.{AllBelowBase}
@@ -16,7 +16,7 @@ use Rattle.dms_codes.specs.declared.codes.Order.TheVariants.{High, Swapped}
 use Rattle.dms_mib.specs.declared.column.Column.{Column}
 use Rattle.dms_mib.specs.declared.column.Column.TheVariants.{MemoryType, Number, MultiString, Owner, Crc, Beacon, PixelService, RunTimePriority, Status}
 use Rattle.dms_codes.specs.declared.row_id.RowId.{RowId}
-use Rattle.dms_codes.specs.Codes.{octets_of_activation, IsActivation}
+use Rattle.dms_codes.specs.Codes.{octets_of_activation, octets_of_checksum, IsActivation}
 use Rattle.dms_mib.specs.Names.{below_dms, cell_name, column_number}
 use Rattle.dms_centre_jobs.specs.declared.step.Step.{Step}
 use Rattle.dms_centre_jobs.specs.declared.step.Step.TheVariants.{Opening, Opened, Filling, Validating, Polling, Comparing, Activating, Explaining}
@@ -114,8 +114,12 @@ below_all : (octets : List ℕ) → All (λ octet. octet < 2 ^ 8) octets → All
 below_all [] all = tt
 below_all (octet ∷ octets) all = (All-head (λ octet. octet < 2 ^ 8) octet octets all, below_all octets (All-tail (λ octet. octet < 2 ^ 8) octet octets all))
 
+checksum_below : (order : Order) (crc : ℕ) (after : List ℕ) → crc < 2 ^ 16 → AllBelowBase 256 after → AllBelowBase 256 (octets_of_checksum order crc ++ after)
+checksum_below High crc after small below = (omega (arith, small), (omega arith, below))
+checksum_below Swapped crc after small below = (omega arith, (omega (arith, small), below))
+
 code_below : (order : Order) (code : Activation) → IsActivation code → AllBelowBase 256 (octets_of_activation order code)
-code_below High code is = (
+code_below order code is = (
   omega (arith, is.minutes),
   (
     omega arith,
@@ -127,26 +131,7 @@ code_below High code is = (
           omega (arith, is.id.number),
           (
             omega arith,
-            (omega (arith, is.id.crc), (omega arith, below_all code.address is.octets)),
-          ),
-        ),
-      ),
-    ),
-  ),
-)
-code_below Swapped code is = (
-  omega (arith, is.minutes),
-  (
-    omega arith,
-    (
-      omega (arith, is.priority),
-      (
-        omega (arith, is.id.memory),
-        (
-          omega (arith, is.id.number),
-          (
-            omega arith,
-            (omega arith, (omega (arith, is.id.crc), below_all code.address is.octets)),
+            checksum_below order code.id.crc code.address is.id.crc (below_all code.address is.octets),
           ),
         ),
       ),

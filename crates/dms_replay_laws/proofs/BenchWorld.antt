@@ -38,7 +38,7 @@ use Rattle.dms_sign.specs.OwnCodes.{put_up_code}
 use Rattle.dms_sign.specs.Events.{after_settling, after_duration, after_silence, after_tick, after_power_loss, after_power_return}
 use Rattle.dms_centre_jobs.specs.Steps.{request_of}
 use Rattle.dms_centre.specs.Sending.{sends}
-use Rattle.dms_centre_jobs.specs.Commands.{Publish, Activate}
+use Rattle.dms_centre_jobs.specs.Commands.{CommandModel, Publish, Activate}
 use Rattle.dms_centre.specs.Commands.{commanded}
 use Rattle.dms_centre.specs.Inputs.{received, ticked, restarted}
 use Rattle.dms_world.specs.Event.{EventModel, command, sign_tick, to_sign, to_centre, forge_sign}
@@ -67,9 +67,9 @@ unfoldable pub hex : List ℕ → List ℕ
 unfolding decode_pairs
 hex digits = unwrap_or (result_ok (decode_of digits)) []
 
--- a text is published in the first changeable row, with the run-time priority 200, without an end
-abbrev pub publish : (text : List ℕ) (priority : ℕ) (address : List ℕ) → EventModel
-publish text priority address = command (Publish (record {
+-- a text in the first changeable row, with the run-time priority 200, without an end
+abbrev pub publication : (text : List ℕ) (priority : ℕ) (address : List ℕ) → CommandModel
+publication text priority address = Publish (record {
   memory = 3;
   number = 1;
   text = text;
@@ -80,7 +80,11 @@ publish text priority address = command (Publish (record {
   minutes = 65535;
   priority = priority;
   address = address;
-}))
+})
+
+-- it is published
+abbrev pub publish : (text : List ℕ) (priority : ℕ) (address : List ℕ) → EventModel
+publish text priority address = command (publication text priority address)
 
 -- the code of these digits is sent
 abbrev pub activate : List ℕ → EventModel

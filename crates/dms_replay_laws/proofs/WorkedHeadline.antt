@@ -14,32 +14,17 @@ use Rattle.dms_wire.specs.Message.{octet_string, SnmpMessage}
 use Rattle.dms_wire.specs.Canonical.{canonical}
 use Rattle.dms_mib.specs.Names.{activate_message}
 use Rattle.dms_table.specs.Rows.{RowModel}
-use Rattle.dms_centre_jobs.specs.Commands.{CommandModel, Publish}
 use Rattle.dms_world.specs.Event.{EventModel, sign_tick, centre_tick, to_sign, to_centre}
 use Rattle.dms_world.specs.World.{world_at, world_after}
 use Rattle.dms_world.specs.Backed.{WasPutUp, WasHeld}
 use Rattle.dms_world.specs.Honest.{WasSent, WasOrdered, Carries, shown_checksum}
-use Rattle.dms_replay_laws.proofs.BenchWorld.{bench, after, hex, publish, activate, both}
+use Rattle.dms_replay_laws.proofs.BenchWorld.{bench, after, hex, publication, publish, activate, both}
 
 -- ---- "A" is published
 
 abbrev published : List EventModel
 published =
     publish (codes "A") 255 (192 ∷ 0 ∷ 2 ∷ 1 ∷ []) ∷ both 0 ++ both 1 ++ both 2 ++ both 3 ++ sign_tick ∷ both 4 ++ both 5 ++ centre_tick ∷ both 6
-
-abbrev publication : CommandModel
-publication = Publish (record {
-  memory = 3;
-  number = 1;
-  text = codes "A";
-  owner = [];
-  beacon = 0;
-  pixel = 0;
-  run_priority = 200;
-  minutes = 65535;
-  priority = 255;
-  address = 192 ∷ 0 ∷ 2 ∷ 1 ∷ [];
-})
 
 abbrev code : Activation
 code = activation_of High (hex (codes "ffffff0300019a66c0000201"))
@@ -69,7 +54,7 @@ in_the_ledger = refl
 -- which is that of a command that the centre took
 was_ordered : WasOrdered bench published entry
 unfolding after hex
-was_ordered = record { before = 0; asked = publication; event = refl; taken = refl; code = refl }
+was_ordered = record { before = 0; asked = publication (codes "A") 255 (192 ∷ 0 ∷ 2 ∷ 1 ∷ []); event = refl; taken = refl; code = refl }
 
 -- its request was sent by the fifteenth event
 was_sent : WasSent bench published 7 15

@@ -83,21 +83,22 @@ line_length octets = grind (arith, length-take, stripped)
 too_long : (octets : List ℕ) → 65539 ≤ length octets → nat_lt longest_line (length (line_of octets)) ≡ true
 too_long octets long = let most = line_length octets in grind (arith, nat_tests)
 
--- what is answered to a line that is too long does not depend on its end
-pub cut_is_answered : {S : Type 0} (reply : S → List ℕ → List ℕ) (state : S) (octets : List ℕ) (short : Bool) → nat_lt (length octets) 65539 ≡ short
-    → answered reply state (line_of (take 65539 octets)) ≡ answered reply state (line_of octets)
-cut_is_answered reply state octets true short = ap (λ l. answered reply state (line_of l)) (take_all 65539 octets (grind (arith, nat_tests)))
-cut_is_answered reply state octets false long =
+-- what is made of a line that is not too long, and of none that is, does not depend on the end of one that is
+cut_alike : {A : Type 0} (none : A) (made : List ℕ → A) (octets : List ℕ) (short : Bool) → nat_lt (length octets) 65539 ≡ short
+    → cond (nat_lt longest_line (length (line_of (take 65539 octets)))) none (made (line_of (take 65539 octets)))
+    ≡ cond (nat_lt longest_line (length (line_of octets))) none (made (line_of octets))
+cut_alike none made octets true short =
+    ap (λ l. cond (nat_lt longest_line (length (line_of l))) none (made (line_of l))) (take_all 65539 octets (grind (arith, nat_tests)))
+cut_alike none made octets false long =
     let most : 65539 ≤ length octets = grind (arith, nat_tests) in
     let cut = line_of (take 65539 octets) in
-    ap (λ b. cond b bad_line (reply state cut)) (too_long (take 65539 octets) (omega (arith, length-take 65539 octets)))
-    ∙ sym (ap (λ b. cond b bad_line (reply state (line_of octets))) (too_long octets most))
+    ap (λ b. cond b none (made cut)) (too_long (take 65539 octets) (omega (arith, length-take 65539 octets)))
+    ∙ sym (ap (λ b. cond b none (made (line_of octets))) (too_long octets most))
+
+pub cut_is_answered : {S : Type 0} (reply : S → List ℕ → List ℕ) (state : S) (octets : List ℕ) (short : Bool) → nat_lt (length octets) 65539 ≡ short
+    → answered reply state (line_of (take 65539 octets)) ≡ answered reply state (line_of octets)
+cut_is_answered reply state octets short size = cut_alike bad_line (reply state) octets short size
 
 pub cut_leaves : {S : Type 0} (after : S → List ℕ → S) (state : S) (octets : List ℕ) (short : Bool) → nat_lt (length octets) 65539 ≡ short
     → left_by after state (line_of (take 65539 octets)) ≡ left_by after state (line_of octets)
-cut_leaves after state octets true short = ap (λ l. left_by after state (line_of l)) (take_all 65539 octets (grind (arith, nat_tests)))
-cut_leaves after state octets false long =
-    let most : 65539 ≤ length octets = grind (arith, nat_tests) in
-    let cut = line_of (take 65539 octets) in
-    ap (λ b. cond b state (after state cut)) (too_long (take 65539 octets) (omega (arith, length-take 65539 octets)))
-    ∙ sym (ap (λ b. cond b state (after state (line_of octets))) (too_long octets most))
+cut_leaves after state octets short size = cut_alike state (after state) octets short size

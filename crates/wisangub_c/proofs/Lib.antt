@@ -1,3 +1,4 @@
 mod Entries
+mod Heap
 mod Places
 mod Values

@@ -1,6 +1,5 @@
 -- `none` puts null into a place.
 use Rattle.std.proofs.Common.{◌≡◌, List, [], ◌∷◌, ◌++◌, refl, sym, subst, lit<}
-use mir.Syntax.{impl, tnil, dnil}
 use mir.Val.{Val, has_ty}
 use base.Logic.{SProp, ent, emp, id⊢}
 use base.Fml.{ftrue}
@@ -13,7 +12,7 @@ use contract.Monad.{fact, fact_i}
 use contract.Running.{tables}
 use denote.Builtin.{RawPtr}
 use denote.Exit.{yes}
-use denote.RattleType.{RattleType, Valss, owns}
+use denote.RattleType.{Valss, owns}
 use denote.RawPtr.{null_ptr, ptr_val}
 use denote.Param.{layout}
 use denote.Signature.{types_at, plain}
@@ -21,27 +20,19 @@ use denote.Steps.{nothing}
 use denote.Struct.Struct.{within}
 use denote.Struct.Owning.{shape, to}
 use denote.Triple.Walked.{Stays, stay_dropped, walk_of, Goes-dropped}
-use Rattle.core.proofs.alloc.Calls.{Al, handle_tells}
+use Rattle.core.proofs.alloc.Calls.{handle_tells}
 use Rattle.core.proofs.cell.Inside.{Good}
 use Rattle.std_alloc.proofs.ResultValues.{and_tt}
 use Rattle.std.proofs.raw_atomic.Walks.{proved_at, leaves}
 use Rattle.std.specs.Prelude.{Option, None}
-use Rattle.std.specs.contracts.alloc.Global as heap
-use Rattle.std.proofs.alloc.Global.TheLaws as heap_laws
-use Rattle.std.specs.contracts.impls.GlobalAllocator.TheImpl.{ghosts}
 use Rattle.dms_centre.specs.contracts.centre.Centre.{the_row as R}
 use Rattle.wisangub_c.specs.contracts.centre_place.CentrePlace.{the_row as P, the_type}
+use Rattle.wisangub_c.proofs.Heap.{Z, al}
 use Rattle.wisangub_c.proofs.Values.{both}
 use Rattle.wisangub_c.specs.contracts.centre_place.CentrePlace.none.{ended, clauses}
 use Rattle.wisangub_c.specs.contracts.centre_place.CentrePlace.none.Key.{name as #self}
 use Rattle.wisangub_c.proofs.centre_place.CentrePlace.none.Statement.{statement}
 use Rattle.wisangub_c.proofs.centre_place.CentrePlace.none.Code as code
-
-abbrev Z : RattleType
-Z = heap.the_row
-
-abbrev al : Al
-al = record { row = Z; laws = heap_laws.the_row_laws; g = ghosts; d = impl [] tnil dnil; drops = impl [] tnil dnil }
 
 abbrev nothing_there : Option R.Denot
 nothing_there = None

@@ -12,7 +12,7 @@ use contract.Monad.{fact, fact_i}
 use contract.Running.{tables}
 use denote.Builtin.{RawPtr}
 use denote.Exit.{yes}
-use denote.RattleType.{RattleType, Valss, owns}
+use denote.RattleType.{Valss, owns}
 use denote.RawPtr.{block_ptr}
 use denote.Signature.{types_at, plain}
 use denote.Steps.{nothing}
@@ -22,30 +22,24 @@ use denote.Triple.Walked.{Stays, stay_dropped, walk_of}
 use Rattle.core.proofs.alloc.Calls.{Goes-blank}
 use Rattle.std.proofs.raw_atomic.Walks.{proved_at, leaves}
 use Rattle.std.specs.Prelude.{Some}
-use Rattle.std.specs.contracts.alloc.Global as heap
 use Rattle.std.proofs.alloc.Global.TheLaws as heap_laws
 use Rattle.std.specs.contracts.impls.GlobalAllocator.TheImpl.{ghosts}
 use Rattle.dms_centre.specs.contracts.centre.Centre.{the_row as R}
 use Rattle.wisangub_c.specs.contracts.centre_place.CentrePlace.{the_row as P, the_type}
-use Rattle.wisangub_c.proofs.Values.{both, Loose, loose_good, loose_out}
+use Rattle.wisangub_c.proofs.Heap.{Z, Parts}
+use Rattle.wisangub_c.proofs.Values.{both, loose_good, loose_out}
 use Rattle.wisangub_c.specs.contracts.centre_place.CentrePlace.of.{ended, clauses}
 use Rattle.wisangub_c.specs.contracts.centre_place.CentrePlace.of.Key.{name as #self}
 use Rattle.wisangub_c.proofs.centre_place.CentrePlace.of.Statement.{statement}
 use Rattle.wisangub_c.proofs.centre_place.CentrePlace.of.Code as code
 
-abbrev Z : RattleType
-Z = heap.the_row
-
-abbrev Lr : RattleType
-Lr = Loose R Z heap_laws.the_row_laws ghosts
-
 abbrev stayed : Stays ended.signature.params ended.kept
-stayed = (stay_dropped (plain (λ _. Lr)) yes, tt)
+stayed = (stay_dropped (plain (λ _. (Parts R))) yes, tt)
 
 pub of_spec : {M : Type 1} → statement M
 of_spec 𝓤 𝓛 𝓜 𝓡 wired =
     let 𝓣 = tables 𝓤 𝓛.H 𝓜 𝓡 𝓡.env in let c = clauses 𝓛 𝓜.mem 𝓡.returns in let fn = code.function in let LZ = heap_laws.the_row_laws in
-    proved_at 𝓛 ended stayed c 𝓜 𝓡 (Goes-blank 𝓛 0 (plain (λ _. Lr)) yes (λ κs x f. tt), tt) #self fn (code.unfolded 𝓤 𝓛.H 𝓜 𝓡 wired) (λ z are.
+    proved_at 𝓛 ended stayed c 𝓜 𝓡 (Goes-blank 𝓛 0 (plain (λ _. (Parts R))) yes (λ κs x f. tt), tt) #self fn (code.unfolded 𝓤 𝓛.H 𝓜 𝓡 wired) (λ z are.
     let κs = z.0.0 in let l = z.0.3.0 in let Post : Val → SProp 𝓤 = (walk_of 𝓛 ended stayed c).post z in let Run : List Val → SProp 𝓤 = λ ws. WpFn 𝓤 𝓛.H 𝓣.C 𝓣.Λ fn ws Post in
     qed 𝓛 ((‵ ftrue ⊛ ‵ (owns (types_at ended.signature.params κs) z.0.3 z.0.4)) ∷ raw ((c κs z.0.3).requires z.1) ∷ []) ∵ split ! $ move ! (1 ∷ []) $ fsplit ! $
     loose_out R Z LZ ghosts ! l z.0.4.0 (λ b o h at_b is fits.

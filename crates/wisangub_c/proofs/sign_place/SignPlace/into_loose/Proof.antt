@@ -1,6 +1,5 @@
 -- `into_loose` takes a place apart: at null nothing is there, and elsewhere a box.
 use Rattle.std.proofs.Common.{◌≡◌, List, [], ◌∷◌, ◌++◌, refl, sym, subst, lit<}
-use mir.Syntax.{impl, tnil, dnil}
 use mir.Val.{Val, vptr, vstruct, vcons, vnil, of_list, has_ty}
 use base.Logic.{SProp, ent, emp, id⊢}
 use base.Fml.{ftrue}
@@ -19,36 +18,27 @@ use denote.Param.{layout}
 use denote.Signature.{types_at, type_at, plain}
 use denote.Steps.{nothing}
 use denote.Triple.Walked.{Stays, stay_dropped, walk_of}
-use Rattle.core.proofs.alloc.Calls.{Al, Goes-blank, handle_tells}
+use Rattle.core.proofs.alloc.Calls.{Goes-blank, handle_tells}
 use Rattle.core.proofs.alloc.Shapes.{after}
 use Rattle.core.proofs.cell.Inside.{Good}
 use Rattle.core.proofs.option.Made.{Some-of, none_of}
 use Rattle.std_alloc.proofs.ResultValues.{and_tt}
 use Rattle.std.proofs.raw_atomic.Walks.{proved_at, leaves}
 use Rattle.std.specs.Prelude.{Option, Some, None, option_map}
-use Rattle.std.specs.contracts.alloc.Global as heap
 use Rattle.std.proofs.alloc.Global.TheLaws as heap_laws
 use Rattle.std.specs.contracts.impls.GlobalAllocator.TheImpl.{ghosts}
 use Rattle.dms_sign.specs.contracts.sign.Sign.{the_row as R}
 use Rattle.wisangub_c.specs.contracts.sign_place.SignPlace.{the_row as P}
 use Rattle.wisangub_c.proofs.Places.{either_held}
-use Rattle.wisangub_c.proofs.Values.{both, Loose, loose_good, loose_in}
+use Rattle.wisangub_c.proofs.Heap.{Z, al, Parts}
+use Rattle.wisangub_c.proofs.Values.{both, loose_good, loose_in}
 use Rattle.wisangub_c.specs.contracts.sign_place.SignPlace.into_loose.{ended, clauses}
 use Rattle.wisangub_c.specs.contracts.sign_place.SignPlace.into_loose.Key.{name as #self}
 use Rattle.wisangub_c.proofs.sign_place.SignPlace.into_loose.Statement.{statement}
 use Rattle.wisangub_c.proofs.sign_place.SignPlace.into_loose.Code as code
 
-abbrev Z : RattleType
-Z = heap.the_row
-
-abbrev Lr : RattleType
-Lr = Loose R Z heap_laws.the_row_laws ghosts
-
-abbrev al : Al
-al = record { row = Z; laws = heap_laws.the_row_laws; g = ghosts; d = impl [] tnil dnil; drops = impl [] tnil dnil }
-
-abbrev value_of : Option Lr.Denot → Option R.Denot
-value_of = option_map (λ (l : Lr.Denot). l.value)
+abbrev value_of : Option (Parts R).Denot → Option R.Denot
+value_of = option_map (λ (l : (Parts R).Denot). l.value)
 
 abbrev stayed : Stays ended.signature.params ended.kept
 stayed = (stay_dropped (plain (λ _. P)) yes, tt)
@@ -73,12 +63,12 @@ into_loose_spec 𝓤 𝓛 𝓜 𝓡 wired =
     sets ! (of_opd ! (get_in ! (fld ! refl (stop !)) (sub ! 0 refl (whole !)))) refl (tt, record { fits = lit< tt }) $ sets ! (of_opd ! (get_in ! (fld ! refl (stop !)) (sub ! 1 refl (whole !)))) refl fits $
     sets ! (bin ! (get ! refl) (lit ! tt) tt) refl (tt, tt) $ first ! $ branches ! (get ! refl)
     (λ _. sets_last ! (agg ! (and_then ! (lit ! tt) (no_more !))) refl good $ exec ! 𝓣.C 𝓣.Λ Ev (after 4 fn.body) (at_ret Ev Post) $ sets ! (of_opd ! (get ! refl)) refl good $
-    drop ! $ use0 𝓛 (‵ (Out.own_val None (live 0 vnil ∷ []))) (none_of 𝓛 Lr) $
+    drop ! $ use0 𝓛 (‵ (Out.own_val None (live 0 vnil ∷ []))) (none_of 𝓛 (Parts R)) $
     use0 𝓛 (raw (fact 𝓤 (value_of None ≡ p.value))) (fact_i 𝓤 (value_of None ≡ p.value) (emp 𝓤) (sym empty)) $ nothing ! $ nothing ! $ fjoin ! $
     returns ! (look_at ! 0 refl) $ free_all ! refl $ keep ! (4 ∷ 0 ∷ 2 ∷ 1 ∷ []) $ by ! (leaves 𝓛 ended stayed c z (live 0 vnil) None (tt, tt) (tt, tt))) (λ wrong. absurd wrong)))
     (λ b o x full at_b t.
     let w : Val = both (vptr b o) h in let typed = loose_good R Z LZ ghosts b o h fits in
-    let v : Val = live 1 (vcons w vnil) in let d : Lr.Denot = record { at = block_ptr b o; alloc = p.alloc; value = x } in
+    let v : Val = live 1 (vcons w vnil) in let d : (Parts R).Denot = record { at = block_ptr b o; alloc = p.alloc; value = x } in
     let good : Good (layout Out) v = (and_tt _ typed.0, (record { fits = lit< tt }, (typed.1, tt))) in
     suffices ! (Run (w ∷ [])) (subst (λ (us : List Val). ent 𝓤 (Run (w ∷ [])) (Run us)) (sym (λ i. had (block_ptr b o) at_b i ++ [])) (id⊢ 𝓤 (Run (w ∷ [])))) $
     enter ! 𝓣.C 𝓣.Λ fn (w ∷ []) Post $ alloc_all ! (λ l. pass_all ! refl (typed, tt) $ let Ev = env fn.locals l in
@@ -87,6 +77,6 @@ into_loose_spec 𝓤 𝓛 𝓜 𝓡 wired =
     sets ! (of_opd ! (get ! refl)) refl (tt, tt) $
     sets ! (agg ! (and_then ! (get ! refl) (and_then ! (get ! refl) (no_more !)))) refl typed $ sets_last ! (agg ! (and_then ! (lit ! tt) (and_then ! (get ! refl) (no_more !)))) refl good $
     exec ! 𝓣.C 𝓣.Λ Ev (after 4 fn.body) (at_ret Ev Post) $ sets ! (of_opd ! (get ! refl)) refl good $ loose_in R Z LZ ghosts ! b o h p.alloc x $
-    use1 𝓛 (‵ (Out.own_val (Some d) (v ∷ []))) (Some-of 𝓛 Lr d w) $
+    use1 𝓛 (‵ (Out.own_val (Some d) (v ∷ []))) (Some-of 𝓛 (Parts R) d w) $
     use0 𝓛 (raw (fact 𝓤 (value_of (Some d) ≡ p.value))) (fact_i 𝓤 (value_of (Some d) ≡ p.value) (emp 𝓤) (sym full)) $ nothing ! $ nothing ! $ fjoin ! $
     returns ! (look_at ! 0 refl) $ free_all ! refl $ keep ! (4 ∷ 0 ∷ 2 ∷ 1 ∷ []) $ by ! (leaves 𝓛 ended stayed c z v (Some d) (tt, tt) (tt, tt))))))))))
