@@ -61,10 +61,7 @@ pub(crate) fn named_sign(alloc: Global, octets: &[u8]) -> Result<(Setup, Lines<'
     ensures number { IfErr result (NamesLine (λ number. number ≡ refused_number (all_numbered (lines octets.now)))) }
 {
     if let Some(rest) = after_bench(octets) {
-        return match dms_sign_text::bench(alloc) {
-            Ok(setup) => Ok((setup, rest)),
-            Err(_) => Err(ReplayFault::Memory),
-        };
+        return Ok((dms_sign_text::bench(alloc)?, rest));
     }
     match sign_of_lines(alloc, Lines::of(octets)) {
         Ok((setup, rest)) => Ok((setup, rest)),

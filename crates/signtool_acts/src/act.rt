@@ -235,10 +235,7 @@ fn bench_setup(alloc: Global) -> Result<Setup, Refusal>
     ensures sign { IfOk result (λ setup. (it : Description) × SpellsSign (kept_lines bench_text) it × IsMade it setup) }
     ensures memory { IfErr result (λ refusal. refusal.fault ≡ faults.Memory) }
 {
-    match bench(alloc) {
-        Ok(setup) => Ok(setup),
-        Err(_) => Err(Refusal::from(ReplayFault::Memory)),
-    }
+    Ok(bench(alloc)?)
 }
 
 /// The sign that the whole input describes.

@@ -2,8 +2,8 @@ use Rattle.std.proofs.Common.{inl, inr}
 use Rattle.dms_replay.proofs.ScriptRead.{sign_is_named, none_is_named}
 use Rattle.dms_replay.proofs.script.named_sign.Goals as goal
 
-pub returns-in-Ok-sign_of_lines-clause-read : goal.returns-in-Ok-sign_of_lines-clause-read
-returns-in-Ok-sign_of_lines-clause-read c = sign_is_named c.args.octets.now c.of.result _ _ c.of.ensures c.in-Ok-sign_of_lines.ensures.read
+pub returns-in-Ok-clause-read : goal.returns-in-Ok-clause-read
+returns-in-Ok-clause-read c = sign_is_named c.args.octets.now c.of.result _ _ c.of.ensures c.in-Ok.ensures.read
 
 pub returns-in-Err-Line-clause-line : goal.returns-in-Err-Line-clause-line
 returns-in-Err-Line-clause-line c = elim c.in-Err-Line.ensures.line [
