@@ -1,11 +1,14 @@
 """Whether the tester finds the wrong signs: python3 -m trials.wrong_signs [--only NAME] [--sign FILE] [--jobs N]
 
-A line for each that is not found as it should be, with --loud for each at all; last `N passed, N failed`.
+A line for each that is not found as it should be, with --loud for each at all; last `N passed, N failed`. With
+--default those that have a group are tried as a test without options tries them: each has to be found, be it by
+whichever chapter, and of each group half within 150 seconds of the sign.
 """
 
 import argparse
 import concurrent.futures
 import pathlib
+import statistics
 import sys
 from dataclasses import dataclass
 
@@ -20,6 +23,7 @@ from .load import Mutant, sign_of, unload
 from .table import MUTANTS
 
 MOST_DATAGRAMS = 10
+MOST_SECONDS = 150.0  # of the sign, at the median of a group, with --default
 # the bench sign with a second font of other spacings, so that averages are to be rounded
 BENCH = text.BENCH.replace(b"font 2 height 5 space 1 line 1", b"font 2 height 5 space 2 line 2")
 
@@ -29,6 +33,7 @@ class Outcome:
     name: str
     is_found: bool
     words: str
+    seconds: float = 0.0  # of the sign, until it was found and shown small
 
 
 def judges(program: str, description: bytes) -> tuple[Oracle, Judge]:
@@ -38,28 +43,47 @@ def judges(program: str, description: bytes) -> tuple[Oracle, Judge]:
     return made(program, description), SignJudge(program, description)
 
 
-def tried(mutant: Mutant, description: bytes, program: str, is_short: bool = False) -> Outcome:
-    """The whole test of a wrong sign, up to its first difference; the short form begins with its rule's chapter."""
+def description_for(mutant: Mutant, description: bytes) -> bytes:
+    """The sign that a wrong one is like: what the wrong one has of its own stands in the lines of the bench sign's."""
+    lines = ((b"has 1 0", b"has " + mutant.has), (b"order high", b"order " + mutant.order))
+    for before, after in (*lines, (b"size 23 14", b"size " + mutant.size)):
+        description = (b"\n" + description).replace(b"\n" + before + b"\n", b"\n" + after + b"\n")[1:]
+    return description
+
+
+def tried(
+    mutant: Mutant, description: bytes, program: str, is_short: bool = False, is_default: bool = False
+) -> Outcome:
+    """The whole test of a wrong sign, up to its first difference; the short form begins with its rule's chapter, and
+    the default one asks for no slow cases."""
     wanted = RULES[mutant.rule].chapter
-    description = description.replace(b"\nhas 1 0\n", b"\nhas " + mutant.has + b"\n")
-    description = description.replace(b"\norder high\n", b"\norder " + mutant.order + b"\n")
+    description = description_for(mutant, description)
     oracle, judge = judges(program, description)
     sign = sign_of([mutant], description)
     try:
-        session = bench.session(description, sign, oracle, judge, requests=400, is_slow=True, most_differences=1)
+        is_slow = not is_default
+        session = bench.session(description, sign, oracle, judge, requests=400, is_slow=is_slow, most_differences=1)
         chapters = sorted(ALL, key=lambda chapter: chapter.name != wanted) if is_short else ALL
         found = session.run(chapters).differences()
     finally:
         oracle.end()
         judge.end()
         unload([mutant])
+    seconds = session.pair.clock.now()
     if not found:
-        return Outcome(mutant.name, False, f"{wanted}: nothing differs")
+        return Outcome(mutant.name, False, f"{wanted}: nothing differs", seconds)
     first = found[0]
     good = first.rule.chapter == wanted and first.datagrams <= MOST_DATAGRAMS and first.is_repeated
     found_as = f"found as {first.rule.chapter} ({first.rule.key}), {first.title}, {first.datagrams} datagrams"
-    said = f"{wanted} ({mutant.rule}): {found_as}"
-    return Outcome(mutant.name, good, said)
+    said = f"{wanted} ({mutant.rule}): {found_as}, in {first.found_in}, {seconds:.0f} s"
+    return Outcome(mutant.name, first.is_repeated if is_default else good, said, seconds)
+
+
+def medians(chosen: list[Mutant], outcomes: list[Outcome]) -> list[tuple[str, float]]:
+    """The seconds at the median of each group."""
+    groups = dict.fromkeys(mutant.group for mutant in chosen)
+    seconds = {held.name: held.seconds for held in outcomes}
+    return [(group, statistics.median(seconds[one.name] for one in chosen if one.group == group)) for group in groups]
 
 
 def main() -> int:
@@ -71,17 +95,25 @@ def main() -> int:
     parser.add_argument("--signtool", default="model", help="the program that is the oracle; else the model")
     parser.add_argument("--jobs", type=int, default=1)
     parser.add_argument("--loud", action="store_true")
+    parser.add_argument("--default", action="store_true", help="those with a group, as a test without options")
     asked = parser.parse_args()
     description = asked.sign.read_bytes() if asked.sign else BENCH
     chosen = [mutant for mutant in MUTANTS if not asked.only or any(part in mutant.name for part in asked.only)]
-    passed = failed = 0
+    chosen = [mutant for mutant in chosen if mutant.group or not asked.default]
+    outcomes: list[Outcome] = []
     with concurrent.futures.ProcessPoolExecutor(asked.jobs) as pool:
-        for outcome in pool.map(tried, chosen, [description] * len(chosen), [asked.signtool] * len(chosen)):
-            passed, failed = passed + outcome.is_found, failed + (not outcome.is_found)
+        waiting = [pool.submit(tried, one, description, asked.signtool, False, asked.default) for one in chosen]
+        for done in waiting:
+            outcome = done.result()
+            outcomes.append(outcome)
             if asked.loud or not outcome.is_found:
                 print(f"{'' if outcome.is_found else 'NOT FOUND '}{outcome.name}: {outcome.words}", flush=True)
-    print(f"{passed} passed, {failed} failed")
-    return 1 if failed else 0
+    found = sum(outcome.is_found for outcome in outcomes)
+    slow = [held for held in medians(chosen, outcomes) if asked.default and held[1] > MOST_SECONDS]
+    for group, seconds in medians(chosen, outcomes) if asked.default else ():
+        print(f"{group}: {seconds:.0f} s at the median")
+    print(f"{found} passed, {len(outcomes) - found + len(slow)} failed")
+    return 0 if found == len(outcomes) and not slow else 1
 
 
 if __name__ == "__main__":

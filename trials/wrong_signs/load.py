@@ -41,6 +41,8 @@ class Mutant:
     new: str
     has: bytes = b"1 0"  # whether the sign that is tried has beacons and pixel services
     order: bytes = b"high"  # of the checksums' octets of the sign that is tried
+    size: bytes = b"23 14"  # columns and rows of the sign that is tried
+    group: str = ""  # of those that a default run has to find, what they are wrong in
 
 
 def edited(mutant: Mutant, source: str | None = None) -> str:

@@ -5,15 +5,17 @@ import pathlib
 from .load import Mutant
 
 FOLDER = pathlib.Path(__file__).resolve().parent
-FILES = ("wire.txt", "objects.txt", "rows.txt", "showing.txt")
+_USUAL = {"has": "1 0", "order": "high", "size": "23 14"}
+FILES = ("wire.txt", "objects.txt", "rows.txt", "showing.txt", "edges.txt")
 
 
 def mutant(lines: list[str]) -> Mutant:
-    """The wrong sign of a paragraph: name, `rule:`, perhaps `has:`, `order:`, `file:`, the lines before and after."""
+    """The wrong sign of a paragraph: name, `rule:`, `file:`, the lines before and after, and perhaps `group:`, `has:`,
+    `order:` and `size:`."""
     words = dict(line.split(": ", 1) for line in lines[1:] if line[0] not in "-+")
     old, new = ("".join(line[1:] + "\n" for line in lines if line[0] == sign) for sign in "-+")
-    has, order = words.get("has", "1 0").encode(), words.get("order", "high").encode()
-    return Mutant(lines[0], words["rule"], words["file"], old, new, has, order)
+    has, order, size = (words.get(word, usual).encode() for word, usual in _USUAL.items())
+    return Mutant(lines[0], words["rule"], words["file"], old, new, has, order, size, words.get("group", ""))
 
 
 def read(name: str) -> list[Mutant]:

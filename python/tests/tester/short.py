@@ -24,6 +24,7 @@ MODULES = tuple(
         "parts",
         "reports",
         "resume",
+        "texts",
         "claims",
         "besides",
         "ways",

@@ -9,7 +9,7 @@ from wisangub.snmp import wire
 from wisangub.snmp.names import Memory, RowStatus, scalar
 from wisangub.tester.findings.results import Verdict
 from wisangub.tester.requests.objects import Column, Row, integer, octets
-from wisangub.tester.requests.steps import Ask, get, put
+from wisangub.tester.requests.steps import Ask, get, get_next, put
 from wisangub.tester.session import Session
 from wisangub.tester.sign.clock import SimulatedClock
 from wisangub.tester.sign.port import Port
@@ -190,3 +190,30 @@ def test_asks_of_a_sequence_keep_their_numbers() -> None:
     numbers = [session.pair.number_of(ask) for _ in range(2)]
     session.pair.begin()
     assert numbers[0] == numbers[1] != session.pair.number_of(ask)
+
+
+def test_a_number_that_is_used_again_is_not_slow() -> None:
+    clock = SimulatedClock()
+    link = Silent(clock)
+    port = Port(link, clock)
+    asked = get(HEIGHT).octets(7, WRITER)
+    reply = wire.written(wire.Message(wire.RESPONSE, b"admin", 7, 0, 0, [(HEIGHT, integer(14))]))
+    for _ in range(2):
+        clock.sleep_until(clock.now() + 60)
+        link.replies = [reply]
+        assert port.ask_once(asked, 7).reply == reply
+    assert port.way.slowest < 1 and not port.way.doubled
+
+
+def test_a_late_reply_to_a_get_is_none_to_a_getnext_of_its_number() -> None:
+    clock = SimulatedClock()
+    link = Silent(clock)
+    port = Port(link, clock)
+
+    def reply(name: tuple[int, ...]) -> bytes:
+        return wire.written(wire.Message(wire.RESPONSE, b"admin", 7, 0, 0, [(name, integer(30))]))
+
+    assert port.ask_once(get(TIME).octets(7, WRITER), 7).reply is None
+    after = scalar("defaultPageOffTime")
+    link.replies = [reply(TIME), reply(after)]
+    assert port.ask_once(get_next(TIME).octets(7, WRITER), 7).reply == reply(after)

@@ -65,6 +65,11 @@ def count(word: str) -> int:
     return int(word)
 
 
+def texts(word: str) -> int:
+    """A whole number, or the word for more than there are: the type of an option."""
+    return sys.maxsize if word == "all" else whole(word)
+
+
 def _arguments() -> argparse.ArgumentParser:
     parser = argparse.ArgumentParser(
         prog=called("wisangub-conform"), description="compares a sign over UDP with the proved one, reply by reply"
@@ -89,6 +94,12 @@ def _arguments() -> argparse.ArgumentParser:
     )
     parser.add_argument(
         "--slow", action="store_true", help="whole minutes of durations and silence too: about forty minutes"
+    )
+    parser.add_argument(
+        "--texts",
+        type=texts,
+        metavar="N|all",
+        help="how many texts are validated; the report says how many of how many",
     )
     parser.add_argument("--html", type=pathlib.Path, metavar="FILE", help="the report as a page")
     parser.add_argument("--junit", type=pathlib.Path, metavar="FILE")
@@ -159,7 +170,17 @@ def _about_of(asked: argparse.Namespace, description: bytes) -> words.About:
     claims = asked.claims.read_bytes() if asked.claims else b""
     digest = hashlib.sha256(description + claims).hexdigest()
     return words.About(
-        asked.to, str(asked.sign), oracle, communities, asked.seed, asked.requests, asked.slow, when, program, digest
+        asked.to,
+        str(asked.sign),
+        oracle,
+        communities,
+        asked.seed,
+        asked.requests,
+        asked.slow,
+        when,
+        program,
+        digest,
+        asked.texts,
     )
 
 
@@ -172,7 +193,8 @@ def _session(asked: argparse.Namespace, description: bytes, oracle: Oracle, judg
         port.way.deadline = clock.now() + 60 * asked.budget
     claims = claims_of(asked.claims, sign)
     pair = Pair(port, ClaimedOracle(oracle, claims), clock, Ticks(clock), communities)
-    context = Context(sign, communities, judge, asked.seed, asked.requests, asked.slow, claims)
+    many = sys.maxsize if asked.texts is None and asked.slow else asked.texts
+    context = Context(sign, communities, judge, asked.seed, asked.requests, asked.slow, claims, many)
     session = Session(pair, context, watcher)
     session.results.lossy, session.is_anyway = asked.lossy, asked.anyway
     return session

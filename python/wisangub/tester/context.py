@@ -17,7 +17,7 @@ _NOBODY = bytes(4)
 _NO_END = 65535  # minutes
 
 
-@dataclass
+@dataclass(eq=False)
 class Context:
     """The sign as the chapters know it. `seed` and `requests` are of the random ones."""
 
@@ -28,6 +28,7 @@ class Context:
     requests: int = 2000
     is_slow: bool = False
     claims: Claims = field(default_factory=Claims)
+    texts: int | None = None  # how many texts are sent, where that is said
 
     @functools.cached_property
     def rows(self) -> list[Row]:

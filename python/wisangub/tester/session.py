@@ -1,9 +1,13 @@
 """A test from its beginning to its report."""
 
 from dataclasses import dataclass, field, replace
-from typing import Sequence
+from typing import Iterator, Sequence
 
 from .chapters import ALL, Block, Chapter
+from .chapters.carrying import CHAPTERS as CARRYING
+from .chapters.carrying import carried
+from .chapters.edge_texts import Sample
+from .chapters.texts import known, more
 from .chapters.tracing import traced
 from .context import Context
 from .findings import classify
@@ -34,6 +38,7 @@ class Session:
     watcher: Watcher
     most_differences: int | None = None  # the test ends at so many
     most_seconds: float = 40.0
+    is_text_wrong: bool = False  # whether a text differed that a chapter carried
     is_anyway: bool = False  # whether it goes on where the sign has another size or other rows than described
     results: Results = field(default_factory=Results)
 
@@ -41,6 +46,14 @@ class Session:
         self.reset = Reset(self.pair, self.context)
         self.runner = Runner(self.pair, self.reset, self.most_seconds)
         self.preflight = Preflight(self.pair, self.reset, self.context, self.results, self.watcher)
+        self.texts = iter(self._more_texts())  # that chapters carry besides their own
+
+    def _more_texts(self) -> Iterator[Sample]:
+        """Texts that validation leaves, up to the first that differs."""
+        for sample in more(self.context) if self.context.rows else ():
+            if self.is_text_wrong:
+                return
+            yield sample
 
     def is_enough(self) -> bool:
         """Whether as many differences were found as are asked for."""
@@ -51,6 +64,7 @@ class Session:
         back as far as it can be."""
         self.results.asked, self.results.is_slow = chapters, self.context.is_slow
         self.results.way = self.pair.port.way
+        self.results.texts_known = len(known(self.context)) if self.context.rows else 0
         claims, trace = self.context.claims, self.results.trace
         trace.missing, trace.ranges = claims.missing | {f"[{tag}]" for tag in claims.tags}, claims.ranges
         try:
@@ -106,7 +120,10 @@ class Session:
 
     def _claimed(self, chapter: Chapter) -> list[Block]:
         """The cases of a chapter, but for those about what the sign does not claim; each has its place in the trace."""
-        found = [traced(chapter.name, block, self.context.claims) for block in chapter.blocks(self.context)]
+        blocks = list(chapter.blocks(self.context))
+        if chapter.name in CARRYING:
+            blocks = carried(self.context, blocks, self.texts)
+        found = [traced(chapter.name, block, self.context.claims) for block in blocks]
         self.results.trace.cases += [case for case, _ in found]
         return [block for _, block in found if block is not None]
 
@@ -126,6 +143,7 @@ class Session:
     def block(self, result: ChapterResult, block: Block, history: list[Step] | None) -> list[Step] | None:
         """What was done since the known state after this block; None where it is to be reached anew."""
         self.pair.doubts = 0
+        block = block.plain if block.plain is not None and self.is_text_wrong else block
         try:
             if history is None or block.is_fresh:
                 is_alike = history is not None
@@ -145,6 +163,7 @@ class Session:
             return None
         result.told += datagrams(block.steps if run is None else run.steps)
         _end(block, ALIKE if run is None else DIFFERS)
+        self.results.texts.update(block.texts)
         if run is None:
             return [*history, *block.steps]
         self.difference(result, block, Run(run.exchange, [*history, *run.steps], run.sent), run.steps)
@@ -179,9 +198,9 @@ class Session:
     def is_told(self, result: ChapterResult, rule: Rule, run: Run) -> bool:
         """Whether one like it was told, or enough of the chapter were; it is counted then."""
         about = subject(run.exchange)
-        for known in self.results.differences():
-            if known.rule.key == rule.key and known.mismatch.kind is run.signature.kind and known.subject == about:
-                known.alike += 1
+        for told in self.results.differences():
+            if told.rule.key == rule.key and told.mismatch.kind is run.signature.kind and told.subject == about:
+                told.alike += 1
                 return True
         if len(result.differences) >= MOST_TOLD:
             result.differences[-1].alike += 1
@@ -210,7 +229,12 @@ class Session:
     def difference(self, result: ChapterResult, block: Block, run: Run, steps: list[Step]) -> None:
         """A difference is made small and told; one like it is counted."""
         self.pair.is_dirty = True
-        if self.differs_in_part(result, block) or self.is_told(result, self.rule_of(block, run), run):
+        if self.differs_in_part(result, block):
+            if block.plain is not None and not self.is_enough():
+                self.is_text_wrong = True
+                self.block(result, block.plain, None)
+            return
+        if self.is_told(result, self.rule_of(block, run), run):
             return
         seen, whole = run.exchange, [*run.steps[: len(run.steps) - len(steps)], *block.steps]
         is_shrunk = sum(held.is_shrunk for held in result.differences) < MOST_SHRUNK

@@ -22,6 +22,8 @@ class Block:
     steps: Sequence[Step]
     is_fresh: bool = False
     parts: Sequence["Block"] = ()  # what tells it more closely where this block differs
+    texts: tuple[bytes, ...] = ()  # of those that validation knows, what it sends
+    plain: "Block | None" = None  # the same without a text that it carries besides
     case: Case | None = None  # its place in the report
 
 

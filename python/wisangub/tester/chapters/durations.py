@@ -4,7 +4,7 @@ from typing import Iterator
 
 from wisangub.snmp.names import Memory, scalar
 from wisangub.tester.context import Context, activate, remaining
-from wisangub.tester.requests.objects import Binding, Row, octets
+from wisangub.tester.requests.objects import Binding, Row, integer, octets
 from wisangub.tester.requests.steps import Step, Wait, get, put
 
 from .block import Block, Chapter, fill, look, message, modify, reports, validate
@@ -70,8 +70,26 @@ def _minutes(context: Context) -> Iterator[Block]:
         yield Block(
             f"an activation of {value} minutes", "shown", [activate(context.blank_code(4, 255, value)), *look()], True
         )
+    yield from _units(context)
     longer: list[Step] = [put(remaining(1)), put(remaining(65535)), Wait(1), *look()]
     yield Block("no end after all", "remaining", longer, True)
+
+
+def _units(context: Context) -> Iterator[Block]:
+    """Minutes are no seconds and no tenths: what a minute is for does not come within seconds."""
+    end, lost = (context.message_code(Row(Memory.BLANK, number), 0) for number in (7, 8))
+    shown = activate(context.blank_code(200, 255, 1, bytes([10, 9, 8, 7])))
+    least: list[Step] = [put(_end_code(end)), shown, Wait(2), *look(), put(remaining(1)), Wait(2), *look()]
+    yield Block("a minute is no second", "ends", least, True)
+    quiet = put((scalar("dmsCommunicationsLossMessage"), octets(lost)), (scalar("dmsTimeCommLoss"), integer(1)))
+    silent: list[Step] = [activate(context.blank_code(200)), quiet, Wait(3), *look(), put(_no_limit()), *look()]
+    yield Block("a minute of silence is no second", "silence", silent, True)
+    most: list[Step] = [activate(context.blank_code(4, 255, 65534)), Wait(1), *look(), put(remaining(600)), Wait(1)]
+    yield Block("minutes in a second", "minutes", [*most, *look()], True)
+
+
+def _no_limit() -> Binding:
+    return scalar("dmsTimeCommLoss"), integer(0)
 
 
 def _nothing_left(context: Context) -> Iterator[Block]:

@@ -22,7 +22,7 @@ def made(rule: str, texts: list[bytes], first: int) -> list[Sample]:
     return [Sample(text, rule, at < first) for at, text in enumerate(dict.fromkeys(texts)) if len(text) <= 512]
 
 
-def _average(first: int, second: int) -> int:
+def average(first: int, second: int) -> int:
     """The spacing between two fonts' characters, half a column rounded up."""
     return (first + second + 1) // 2
 
@@ -73,7 +73,7 @@ def _spread(context: Context, unit: bytes, most: int) -> list[tuple[int, bytes]]
     return [(count * width + (count - 1) * font.space, unit * count) for count in range(1, most // width + 1)]
 
 
-def _stacked(unit: bytes, height: int, total: int) -> bytes:
+def stacked(unit: bytes, height: int, total: int) -> bytes:
     """Lines that are so high together, with gaps between them; nothing where no gaps make it so."""
     for count in range(1, total // height + 1):
         gaps = total - count * height
@@ -97,7 +97,7 @@ def touching(context: Context) -> list[Sample]:
         found += list(itertools.islice(pairs, 1))
     height = face.known_font(context.defaults[4]).height
     for total in (face.height, face.height + 1):
-        bottom = _stacked(one, height, total - height)
+        bottom = stacked(one, height, total - height)
         found += [b"[jp2]" + one + b"[jp4]" + bottom] if bottom else []
     return made("room", found, 4)
 
@@ -130,7 +130,7 @@ def _mixtures(context: Context, font: Font) -> list[tuple[int, bytes]]:
         pair = [unit, b"[fo%d]" % font.number + bytes([other]) + b"[fo]"]
         widths = own.glyphs[unit[0]].width + font.glyphs[other].width
         for turns in (1, 2, 3):
-            width = turns * widths + (2 * turns - 1) * _average(own.space, font.space)
+            width = turns * widths + (2 * turns - 1) * average(own.space, font.space)
             found += [(width, b"".join(pair) * turns), (width, b"".join(pair[::-1]) * turns)]
     return found
 
@@ -147,14 +147,19 @@ def mixed_parts(context: Context) -> list[Sample]:
     return made("room", found, 0)
 
 
+def _drawing(context: Context) -> list[Font]:
+    """The fonts that have a character which a text writes as it is."""
+    return [font for font in context.described.face.fonts if unit_of(font)]
+
+
+def unit_of(font: Font) -> bytes:
+    """The first character of a font that a text writes as it is; nothing where there is none."""
+    return next((bytes([number]) for number in font.glyphs if number < 256 and number not in b"[]"), b"")
+
+
 def _units(context: Context) -> list[tuple[int, bytes]]:
     """A character of each font that has one, with the font's height."""
-    found = []
-    for font in context.described.face.fonts:
-        number = next((number for number in font.glyphs if number < 256 and number not in b"[]"), None)
-        if number is not None:
-            found.append((font.height, b"[fo%d]" % font.number + bytes([number])))
-    return found
+    return [(font.height, b"[fo%d]" % font.number + unit_of(font)) for font in _drawing(context)]
 
 
 def heights(context: Context) -> list[Sample]:
@@ -167,7 +172,7 @@ def heights(context: Context) -> list[Sample]:
             first = next((at for at, text in enumerate(texts) if context.fault(text) is not None), None)
             if first is not None:
                 found += texts[max(0, first - 1) : first + 1]
-    return made("room", found, 0)
+    return made("room", found, 4)
 
 
 def _edge(context: Context, front: bytes) -> list[bytes]:
@@ -183,13 +188,25 @@ def _edge(context: Context, front: bytes) -> list[bytes]:
 
 
 def spacings(context: Context) -> list[Sample]:
-    """Lines of two fonts, and lines without a character, with the gap of their spacings above and below."""
-    one, found = context.character(), []
-    for (_, first), (_, second) in itertools.permutations(_units(context), 2):
-        for line in (first + second, first[:-1]):
-            below = one + b"[nl]" + line + b"[nl0][fo]" + one
-            found += _edge(context, line + b"[nl][fo]" + one) + _edge(context, below)
-    return made("room", found, 0)
+    """Lines of one font above lines of another, lines of both, and lines without a character, with the gap of their
+    spacings above and below; those of the first two fonts whose average is rounded are looked at first."""
+    one, found, first = context.character(), [], 0
+    for above, below in _pairs(context):
+        for line in (below, above + below, above[:-1]):
+            under = one + b"[nl]" + line + b"[nl0][fo]" + one
+            found += _edge(context, line + b"[nl][fo]" + one) + _edge(context, under)
+        found += _edge(context, above + b"[nl]" + below + b"[nl0][fo]" + one)
+        first = first or 2 * len(found)  # the first pair in both orders
+    return made("room", found, first)
+
+
+def _pairs(context: Context) -> list[tuple[bytes, bytes]]:
+    """A character of each of two fonts, in each order: first of those the average of whose line spacings is rounded,
+    then of those whose spacings differ."""
+    units = {font.number: unit for font, (_, unit) in zip(_drawing(context), _units(context))}
+    pairs = list(itertools.combinations(_drawing(context), 2))
+    pairs.sort(key=lambda pair: ((pair[0].line + pair[1].line) % 2 == 0, pair[0].line == pair[1].line))
+    return [(units[a.number], units[b.number]) for pair in pairs for a, b in (pair, pair[::-1])]
 
 
 def gaps(context: Context) -> list[Sample]:

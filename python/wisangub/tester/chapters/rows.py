@@ -2,12 +2,13 @@
 
 from typing import Iterator
 
-from wisangub.snmp.names import RowStatus
-from wisangub.tester.context import Context
+from wisangub.snmp.names import Memory, RowStatus
+from wisangub.tester.context import Context, activate
 from wisangub.tester.requests.objects import COUNTS, Column, Row
 from wisangub.tester.requests.steps import Step, Wait, put
+from wisangub.tester.sign.judge import MOST_TEXT
 
-from .block import Block, Chapter, fill, look, look_at, message, modify, settle, unuse, validate
+from .block import Block, Chapter, fill, look, look_at, message, modify, reports, settle, unuse, validate
 
 _BAD_TEXT = b"[zz]"
 
@@ -125,6 +126,28 @@ def _settling(context: Context, row: Row) -> Iterator[Block]:
     yield Block("nothing settles twice", "settled", [Wait(int(context.is_slow)), *look(row), modify(row), *look(row)])
 
 
+def _at_their_edges(context: Context, row: Row) -> Iterator[Block]:
+    """A row with the least and with the most that its fields hold is stored, validated and shown; all of it is read."""
+    beacon, pixel = int(context.described.beacons), int(context.described.pixels)
+    longest = b"[cf]" * (MOST_TEXT // 4)
+    for text, owner, sides, priority in ((b"", b"", (0, 0), 1), (longest, b"o" * 127, (beacon, pixel), 255)):
+        crc = context.crc(text, *sides)
+        shown: list[Step] = [
+            *message(row, text, owner, *sides, priority),
+            *look_at_each(row),
+            activate(context.code(row, crc)),
+            *look_at_each(Row(Memory.CURRENT, 1), rule="shown"),
+            *[activate(context.blank_code(1, priority - 1)), activate(context.blank_code(1, priority)), reports()],
+            *look_at_each(Row(Memory.CURRENT, 1), rule="shown"),
+        ]
+        yield Block(f"{len(text)} octets are stored and shown", "set", shown, True)
+
+
+def look_at_each(row: Row, rule: str = "") -> list[Step]:
+    """A read of each field of a row, the status and the checksum among them, in a request of its own."""
+    return [look_at(row.cell(column), rule=rule) for column in Column]
+
+
 def _blocks(context: Context) -> Iterator[Block]:
     rows = context.rows
     if not rows:
@@ -140,6 +163,7 @@ def _blocks(context: Context) -> Iterator[Block]:
         yield from _two_rows(context, first, rows[1])
     yield from _counts(context)
     yield from _settling(context, last)
+    yield from _at_their_edges(context, last)
 
 
 CHAPTER = Chapter("rows", "A row's statuses", _blocks)

@@ -1,9 +1,11 @@
 """Texts for the chapters: good ones, and one for each fault, made for the faces that a sign has."""
 
+import functools
 import random
 from dataclasses import replace
 
 from wisangub.tester.context import Context
+from wisangub.tester.requests.texts import tags_of
 
 from .edge_texts import (
     Sample,
@@ -20,6 +22,9 @@ from .edge_texts import (
     spacings,
     touching,
 )
+from .measured_texts import centred, exact
+from .staying_texts import staying
+from .tag_texts import ends
 
 _MARKUP = [  # each with one fault of the markup, by the rule that it breaks
     ("markup code", [b"[zz]", b"[", b"]", b"[ nl]", b"[]", b"[nl", b"A]", b"[/f]", b"[/FLx", b"[n]", b"[[]"]),
@@ -68,6 +73,8 @@ _MARKUP = [  # each with one fault of the markup, by the rule that it breaks
     ),
 ]
 FIRST_MARKUP, OTHERS = 3, 1
+_OPEN = 4  # texts to whose end another may be joined
+_MOST_CARRIED = 200  # octets of a text of another chapter, so that a look at two of them has room in a datagram
 _GOOD_MARKUP = [  # the last three have no place behind the others
     b"[cf][cf9][cb0][pb][pb9][cf00009][pb04]",
     b"[fl][FLt][flo][flt99o99][flo0t0][flto][flot][flt5][flo5][flt1o][flo1t][/fl][/FL]",
@@ -164,20 +171,6 @@ def pages(context: Context) -> list[Sample]:
     return made("pages", found, 2)
 
 
-def _kept(context: Context) -> list[Sample]:
-    """The font stays over a new page, line and part: as many of its characters as fit, and one more."""
-    face, found = context.described.face, []
-    for font in face.fonts:
-        unit = next((bytes([number]) for number in font.glyphs if number < 256 and number not in b"[]"), b"")
-        if font.number == context.defaults[4] or not unit:
-            continue
-        for between in (b"[np]", b"[nl0]", b"[jp2][jp3]"):
-            front = b"[fo%d]" % font.number + between
-            count = longest(context, unit, front=front)
-            found += [front + unit * (count + more) for more in (0, 1)] if count else []
-    return made("room", found, 0)
-
-
 def both(context: Context) -> list[Sample]:
     """A fault of the markup before, and after, one of the layout."""
     one = context.character()
@@ -195,20 +188,30 @@ def both(context: Context) -> list[Sample]:
     return made("layout", found, 3)
 
 
-def _joined(context: Context, chosen: list[Sample]) -> list[Sample]:
-    """Those that fit one page after the other in one text, as long as that fits: one validation tells of all."""
+def _followed(text: bytes, after: bytes) -> bytes:
+    """A text, and another on a page of its own, where font and justifications are the defaults' again."""
+    tags = tags_of(text)
+    return text + b"[np]" + b"".join(b"[%s]" % tag.encode() for tag in ("fo", "jl", "jp") if tag in tags) + after
+
+
+def joined(context: Context, chosen: list[Sample], most: int = 512) -> list[Sample]:
+    """Those that fit one page after the other in one text, of so many octets at most: one validation tells of all."""
     found: list[Sample] = []
     for sample in chosen:
-        longer = [replace(held, text=held.text + b"[np]" + sample.text) for held in found]
-        fitting = (at for at, held in enumerate(longer) if len(held.text) <= 512 and context.fault(held.text) is None)
+        longer = [replace(held, text=_followed(held.text, sample.text)) for held in found[-_OPEN:]]
+        fits = (len(held.text) <= most and context.fault(held.text) is None for held in longer)
+        fitting = (len(found) - len(longer) + at for at, is_fitting in enumerate(fits) if is_fitting)
         at = next(fitting, len(found))
-        text, parts = (longer[at].text, found[at].parts) if at < len(found) else (sample.text, ())
+        text, parts = (
+            (_followed(found[at].text, sample.text), found[at].parts) if at < len(found) else (sample.text, ())
+        )
         found[at : at + 1] = [Sample(text, sample.rule, parts=(*parts, sample))]
     return found
 
 
-def samples(context: Context) -> list[Sample]:
-    """All of them with --slow; else the first of each rule and some others by the seed, those that fit joined."""
+@functools.lru_cache(maxsize=2)
+def known(context: Context) -> list[Sample]:
+    """All texts, each once."""
     found = (
         parts(context)
         + pages(context)
@@ -221,21 +224,46 @@ def samples(context: Context) -> list[Sample]:
         + mixed(context)
         + mixed_parts(context)
         + heights(context)
-        + _kept(context)
+        + staying(context)
         + touching(context)
+        + exact(context)
+        + centred(context)
+        + spacings(context)
         + both(context)
-        + (spacings(context) if context.is_slow else [])
     )
     found += made("markup", [b"".join(_GOOD_MARKUP[:-3]), *_GOOD_MARKUP], 1)
     for rule, texts in _MARKUP:
         found += made(rule, [context.character() + text for text in texts], FIRST_MARKUP)
-    known: dict[bytes, Sample] = {}
+    found += ends(context)
+    held: dict[bytes, Sample] = {}
     for sample in found:
-        known.setdefault(sample.text, sample)
-    if context.is_slow:
-        return list(known.values())
-    rest = [sample for sample in known.values() if not sample.is_first]
-    others = random.Random(context.seed).sample(rest, min(OTHERS, len(rest)))
-    chosen = [sample for sample in known.values() if sample.is_first or sample in others]
+        before = held.setdefault(sample.text, sample)
+        if sample.is_first and not before.is_first:
+            held[sample.text] = replace(before, is_first=True)
+    return list(held.values())
+
+
+def _chosen(context: Context) -> tuple[list[Sample], list[Sample]]:
+    """The texts that are sent, and those that are left: the first of each rule and some others by the seed, or as many
+    as --texts says."""
+    found = known(context)
+    first, rest = ([sample for sample in found if sample.is_first is is_first] for is_first in (True, False))
+    order = random.Random(context.seed).sample(rest, len(rest))
+    many = len(first) + OTHERS if context.texts is None else context.texts
+    order = (first + order)[:many]
+    return [sample for sample in found if sample in order], [sample for sample in found if sample not in order]
+
+
+def samples(context: Context) -> list[Sample]:
+    """Those that are sent: those that fit, joined unless all are sent, and each fault alone."""
+    chosen, left = _chosen(context)
+    if not left:
+        return chosen
     faulty = [sample for sample in chosen if context.fault(sample.text) is not None]
-    return faulty + _joined(context, [sample for sample in chosen if sample not in faulty])
+    return joined(context, [sample for sample in chosen if sample not in faulty]) + faulty
+
+
+def more(context: Context) -> list[Sample]:
+    """Those that fit of the texts that are left, joined: other chapters send them in rows that they validate."""
+    left = _chosen(context)[1]
+    return joined(context, [sample for sample in left if context.fault(sample.text) is None], _MOST_CARRIED)

@@ -39,14 +39,17 @@ def claimed(block: Block, claims: Claims) -> Block | None:
         return block
     steps = [_claimed_step(step, claims) for step in block.steps]
     parts = [held for part in block.parts if (held := claimed(part, claims)) is not None]
-    return replace(block, steps=steps, parts=parts)
+    plain = None if block.plain is None else claimed(block.plain, claims)
+    return replace(block, steps=steps, parts=parts, plain=plain)
 
 
 def traced(chapter: str, block: Block, claims: Claims) -> tuple[Case, Block | None]:
     """The case of a block in the report, and the block as it is asked, with that case."""
     held = claimed(block, claims)
     case = Case(chapter, block.name, block.rule, sorted(shown_by(block)), NOT_SUPPORTED if held is None else NOT_JUDGED)
-    return case, None if held is None else replace(held, case=case)
+    if held is None:
+        return case, None
+    return case, replace(held, case=case, plain=held.plain and replace(held.plain, case=case))
 
 
 def _claimed_step(step: Step, claims: Claims) -> Step:

@@ -54,14 +54,16 @@ def _blocks(context: Context) -> Iterator[Block]:
     row = context.rows[0]
     yield from _verdicts(context, row, context.rows[-1])
     for sample in samples(context):
-        yield _told(context, row, sample)
+        yield told(context, row, sample)
 
 
-def _told(context: Context, row: Row, sample: Sample) -> Block:
+def told(context: Context, row: Row, sample: Sample) -> Block:
     """A text's block; where one of joined texts differs, each of them tells."""
     rule = _rule_of(context, sample.text, sample.rule)
-    parts = [_told(context, row, part) for part in sample.parts] if len(sample.parts) > 1 else []
-    return Block(f"the text {sample.text[:60].decode('latin-1')!r}", rule, judged(row, sample.text), parts=parts)
+    parts = [told(context, row, part) for part in sample.parts] if len(sample.parts) > 1 else []
+    texts = tuple(part.text for part in sample.parts or (sample,))
+    name = f"the text {sample.text[:60].decode('latin-1')!r}"
+    return Block(name, rule, judged(row, sample.text), parts=parts, texts=texts)
 
 
 CHAPTER = Chapter("validation", "Validation", _blocks)

@@ -79,6 +79,8 @@ class Results:
     configuration: list[tuple[str, str, str]] = field(default_factory=list)  # object, as described, as read
     besides: list[str] = field(default_factory=list)  # objects that the sign has besides the profile's
     set_back: list[tuple[str, str, str]] = field(default_factory=list)  # what the known state changes, likewise
+    texts: set[bytes] = field(default_factory=set)  # that were judged, of so many:
+    texts_known: int = 0
     trace: Trace = field(default_factory=Trace)
     taken_up: str = ""  # when the test was begun that this one goes on with
     is_silent: bool = False

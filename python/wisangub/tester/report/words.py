@@ -38,10 +38,17 @@ class About:
     when: str
     program: str = ""
     digest: str = ""  # of the octets of the description and of the claims
+    texts: int | None = None
 
     def test(self) -> dict[str, Any]:
         """What a report has to have been asked for that goes on with another."""
-        return {"digest": self.digest, "seed": self.seed, "requests": self.requests, "slow": self.is_slow}
+        return {
+            "digest": self.digest,
+            "seed": self.seed,
+            "requests": self.requests,
+            "slow": self.is_slow,
+            "texts": self.texts,
+        }
 
     def command(self, difference: Difference) -> str:
         """The command line that repeats a difference."""
@@ -67,6 +74,10 @@ def not_tested(context: Context, results: Results, chapters: list[Chapter]) -> l
     found = list(NOT_SEEN)
     if not context.is_slow:
         found.append("whole minutes of durations, and silence: they take minutes and run with --slow")
+    if len(results.texts) < results.texts_known:
+        found.append(
+            f"{results.texts_known - len(results.texts)} of {results.texts_known} texts: --texts all sends them"
+        )
     missing = [chapter.title for chapter in chapters if not chapter.is_slow and chapter not in results.asked]
     if missing:
         found.append("not asked for: " + ", ".join(missing))

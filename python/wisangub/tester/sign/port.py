@@ -178,5 +178,7 @@ def _may_answer(reply: wire.Message, octets: bytes) -> bool:
         return False
     if reply.status or request.kind == wire.SET:
         return reply.bindings == request.bindings
-    names = [name for name, _ in request.bindings]
-    return request.kind == wire.GET_NEXT or [name for name, _ in reply.bindings] == names
+    pairs = [(name, answered) for (name, _), (answered, _) in zip(request.bindings, reply.bindings)]
+    if request.kind == wire.GET_NEXT:
+        return all(answered > name for name, answered in pairs)
+    return all(answered == name for name, answered in pairs)

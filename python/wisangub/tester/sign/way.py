@@ -72,12 +72,13 @@ class Way:
     def send(self, number: int, octets: bytes) -> None:
         """A request is sent whose reply is waited for. Raises Stopped where it is no use to go on."""
         self._give_up()
-        if number not in self._recent or self._recent[number].octets != octets:
+        known = self._recent.get(number)
+        if known is None or known.octets != octets or known.replies >= known.sends:
             self._recent[number] = Sent(self.clock.now(), octets)
             if len(self._recent) > _MOST_KEPT:
                 self._recent.pop(next(iter(self._recent)))
         else:
-            self._recent[number].sends += 1
+            known.sends += 1
 
     def answered(self, number: int, is_counted: bool = True) -> None:
         """A request has its reply."""

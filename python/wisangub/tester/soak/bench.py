@@ -1,6 +1,7 @@
 """A sign under a simulated clock, beside the oracle: what the tests, the wrong signs and the long runs are made of."""
 
 import random
+import sys
 from typing import Sequence
 
 from wisangub.tester.context import Context
@@ -36,7 +37,7 @@ def session(
     link = SimulatedLink(sign, clock, random.Random(seed), faulty, both_ways=both_ways)
     communities = (made.reader, made.writer)
     pair = Pair(Port(link, clock), oracle, clock, Ticks(clock), communities)
-    context = Context(made, communities, judge, seed, requests, is_slow)
+    context = Context(made, communities, judge, seed, requests, is_slow, texts=sys.maxsize if is_slow else None)
     return Session(pair, context, watcher or Quiet(), most_differences, most_seconds=1e9)
 
 
