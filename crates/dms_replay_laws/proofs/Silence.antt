@@ -1,5 +1,5 @@
 -- A loss of communications on the bench sign, computed.
-use Rattle.std.proofs.Common.{◌≡◌, ℕ, [], ◌∷◌, ◌++◌, refl}
+use Rattle.std.proofs.Common.{◌≡◌, ℕ, List, [], ◌∷◌, ◌++◌, refl}
 use Rattle.std.specs.Prelude.{pos, codes}
 use Rattle.dms_wire.specs.declared.message.Kind.TheVariants.{Get, GetNext, Response}
 use Rattle.dms_wire.specs.Message.{octet_string, null}
@@ -12,17 +12,19 @@ use Rattle.dms_replay_laws.proofs.BenchWorld.{bench, after, report, hex, seconds
 abbrev one_minute : EventModel
 one_minute = forge_sign (hex (codes "302b020100040561646d696ea31f02010902010002010030143012060d2b060104018936040203060d00020101"))
 
+-- the report of so many events, after which the blank message is up with this mode
+abbrev blank_report : (events mode : List ℕ) → List ℕ
+blank_report events mode =
+    codes "events " ++ events ++ codes "\nsent 0 1\nshown 7 1 0000 mode " ++ mode
+    ++ codes " priority 1 remaining 65535 text -\n"
+
 before_a_minute : report (one_minute ∷ seconds 59)
-    ≡ codes "events 60\n"
-    ++ codes "sent 0 1\n"
-    ++ codes "shown 7 1 0000 mode 10 priority 1 remaining 65535 text -\n"
+    ≡ blank_report (codes "60") (codes "10")
 unfolding report hex
 before_a_minute = refl
 
 after_a_minute : report (one_minute ∷ seconds 60)
-    ≡ codes "events 61\n"
-    ++ codes "sent 0 1\n"
-    ++ codes "shown 7 1 0000 mode 12 priority 1 remaining 65535 text -\n"
+    ≡ blank_report (codes "61") (codes "12")
 unfolding report hex
 after_a_minute = refl
 
@@ -35,16 +37,12 @@ abbrev a_response : EventModel
 a_response = request Response []
 
 dropped_before : report (one_minute ∷ seconds 30 ++ octets_of_nothing ∷ a_response ∷ seconds 29)
-    ≡ codes "events 62\n"
-    ++ codes "sent 0 1\n"
-    ++ codes "shown 7 1 0000 mode 10 priority 1 remaining 65535 text -\n"
+    ≡ blank_report (codes "62") (codes "10")
 unfolding report hex request
 dropped_before = refl
 
 dropped_after : report (one_minute ∷ seconds 30 ++ octets_of_nothing ∷ a_response ∷ seconds 30)
-    ≡ codes "events 63\n"
-    ++ codes "sent 0 1\n"
-    ++ codes "shown 7 1 0000 mode 12 priority 1 remaining 65535 text -\n"
+    ≡ blank_report (codes "63") (codes "12")
 unfolding report hex request
 dropped_after = refl
 
