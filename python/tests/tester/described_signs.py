@@ -11,7 +11,7 @@ from model.objects import Objects
 from model.sign import Sign
 from model.state import State
 from trials.wrong_signs.misbehaving import Misbehaving
-from wisangub.snmp.names import DMS
+from wisangub.snmp.names import DMS, TABLE, scalar
 from wisangub.tester.describe.client import Client
 from wisangub.tester.describe.describing import Describing
 from wisangub.tester.describe.spelling import block
@@ -114,7 +114,8 @@ def misbehaving(spelled: bytes, silent: tuple[float, float]) -> Made:
 
 def differing(found: str, spelled: bytes) -> list[str]:
     """What a description that was found says otherwise than the one that a sign was made with, but for versions,
-    pictures, the first request's number, and what it says itself that no text tells."""
+    pictures, the first request's number, and what it says itself that no text tells. The model takes it."""
+    text.described(found.encode())
     ours, theirs = described(found.encode()), described(spelled)
     words = ("reader", "writer", "swapped", "beacons", "pixels", "permanent", "changeable", "volatile")
     said = [f"{word}: {getattr(ours, word)}" for word in words if getattr(ours, word) != getattr(theirs, word)]
@@ -183,8 +184,30 @@ class _More(Objects):
 
 
 class WithTable(Sign):
-    """A sign that has a font table too."""
+    """A sign that has a font table too, of its own fonts and of more."""
 
-    def __init__(self, spelled: bytes) -> None:
+    def __init__(self, spelled: bytes, more: bytes = b"") -> None:
         super().__init__(text.described(spelled))
-        self.objects = _More(self.state, table_of(spelled))
+        self.objects = _More(self.state, table_of(spelled + more))
+
+
+class _Fewer(Objects):
+    """The profile's objects but for columns of the message table, and positions of faults that begin with 1."""
+
+    def __init__(self, state: State, without: tuple[int, ...], offset: int) -> None:
+        super().__init__(state)
+        self.offset = offset
+        self.names = [name for name in self.names if name[: len(TABLE)] != TABLE or name[len(TABLE)] not in without]
+
+    def value(self, name: wire.Name) -> wire.Tagged | None:
+        if self.offset and name == scalar("dmsMultiSyntaxErrorPosition"):
+            return wire.INTEGER, self.state.syntax_at + self.offset
+        return super().value(name) if name in self.names else None
+
+
+class Other(Sign):
+    """A sign that lacks columns of the message table, or counts positions of faults from another number."""
+
+    def __init__(self, spelled: bytes, without: tuple[int, ...] = (), offset: int = 0) -> None:
+        super().__init__(text.described(spelled))
+        self.objects = _Fewer(self.state, without, offset)

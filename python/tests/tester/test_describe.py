@@ -15,7 +15,7 @@ from wisangub.tester.describe import program
 from wisangub.tester.requests.objects import Column, Row
 from wisangub.tester.requests.steps import get, put
 
-from .described_signs import OTHERS, Made, WithTable, differing, made, misbehaving
+from .described_signs import OTHERS, Made, Other, WithTable, differing, fixed, font, made, misbehaving
 
 SMALL = OTHERS["column"]
 
@@ -62,6 +62,32 @@ def test_characters_beyond_those_asked_for_are_probed() -> None:
     assert not differing(held.describing.run(), spelled)
 
 
+def test_fonts_are_asked_for_what_permanent_messages_have() -> None:
+    message = "permanent c4 - 0 0 7\nfont 2"
+    spelled = SMALL.replace(b"font 2", message.encode()).replace(b"end\n", b"glyph 196 6 " + b"f" * 13 + b"c\nend\n")
+    found = made(spelled).describing.run()
+    assert not differing(found, spelled) and "glyph 196 " in found
+
+
+def test_signs_without_optional_columns_are_described() -> None:
+    held = made(SMALL, Other(SMALL, without=(6, 7)))
+    found = held.describing.run()
+    assert "\nhas 0 0\n" in found and not differing(found.replace("has 0 0", "has 0 1"), SMALL)
+    assert held.describing.put_back() == []
+
+
+def test_offsets_from_one_are_a_word() -> None:
+    held = made(SMALL, Other(SMALL, offset=1))
+    assert ended(held) == (None, 3) and is_as_before(held)
+
+
+def test_more_fonts_than_a_description_has() -> None:
+    spelled = OTHERS["tunnel"]
+    more = "\n".join(font(number, 5, 1, 1, fixed("0123", 4)) for number in (1, 4, 5)).encode()
+    found = made(spelled, WithTable(spelled, more)).describing.run()
+    assert re.findall(r"(?m)^font (\d+)", found) == ["1", "2", "3", "4"] and "too: 5, 200." in found
+
+
 def test_a_font_table_is_taken_within_ten_seconds() -> None:
     spelled = OTHERS["tunnel"]
     held = made(spelled, WithTable(spelled))
@@ -77,6 +103,8 @@ def test_loss_doubles_and_delay_change_nothing() -> None:
         held = made(SMALL, faulty=0.1, both_ways=both_ways)
         assert not differing(held.describing.run(), SMALL)
         assert held.describing.put_back() == []
+        held.clock.sleep_until(held.clock.now() + 3)  # what was late has come
+        assert is_as_before(held)
 
 
 def ended(held: Made) -> tuple[str | None, int]:

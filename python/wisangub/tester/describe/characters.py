@@ -23,7 +23,8 @@ class Characters:
     height: int
 
     def begin(self, font: Found, candidates: Sequence[int]) -> bool:
-        """Whether the font has one of these characters; then how often that finds room in a line and in a column."""
+        """Whether there is such a font; then its first of these characters, and how often that finds room in a line and
+        in a column. A font that has none of them is noted to be so."""
         likely = [held for held in _FIRST if held in candidates]
         for character in [*likely, *(held for held in candidates if held not in likely)]:
             if character in font.missing:
@@ -38,7 +39,8 @@ class Characters:
             font.characters = [character]
             font.lines = self._column(font.number, character)
             return True
-        return False
+        font.notes.append("all: it has none of the characters that were asked for; --characters names others")
+        return True
 
     def _row(self, number: int, character: int) -> int | None:
         """How many of a character find room in a line: 0 where the font lacks it, None where there is no such font."""

@@ -1,25 +1,26 @@
 """A sign described: what it says, what texts tell of it, and how it is put back."""
 
-import re
 from collections.abc import Hashable
 from dataclasses import dataclass, field
 from typing import Callable, Sequence
 
 from wisangub.snmp import wire
 from wisangub.snmp.names import scalar
-from wisangub.tester.requests.objects import integer, spoken
+from wisangub.tester.requests.objects import Column, integer, spoken
 
-from . import font_table, reading, spelling, validations, widths
+from . import font_table, mentioned, reading, spelling, validations, widths
 from .characters import PRINTABLE, PROBES, Characters
 from .client import Client, Unreached
 from .fillers import Fillers
 from .fonts import MOST_FONTS, Found
 from .heights import Heights
-from .lines import MOST_TEXT, LineFrame
+from .lines import LineFrame
 from .spacings import Spacings
-from .validations import Validations
+from .validations import Unlike, Validations
 
 _DEFAULT_FONT = scalar("defaultFont")
+_MOST_TRIED = 40  # versions of fonts that one text has room for
+_TIMES = 3  # that the sign is put back, where requests come late
 
 
 @dataclass
@@ -36,6 +37,7 @@ class Describing:
     texts: Validations | None = None
     fonts: list[Found] = field(default_factory=list)
     is_font_changed: bool = False
+    comments: list[str] = field(default_factory=list)  # of the whole description
 
     def run(self) -> str:
         """The description. Raises Unreached, Stopped or Unlike; the sign is to be put back in any case."""
@@ -50,21 +52,45 @@ class Describing:
         is_table = bool(self.fonts)
         texts = self.texts = Validations(client, validations.unused(client, read.rows))
         texts.begin()
+        self._check_offsets(texts)
         has = self._has(texts)
-        if not is_table:
-            self.fonts = [Found(number) for number in self._numbers()]
+        numbers = [font.number for font in self.fonts] if is_table else self._numbers()
+        chosen = mentioned.chosen(read, numbers)
+        if len(chosen) < len(numbers):
+            left_out = ", ".join(str(number) for number in numbers if number not in chosen)
+            self.comments.append(f"A description has {MOST_FONTS} fonts at most; the sign has these too: {left_out}.")
+        if is_table:
+            self.fonts = [font for font in self.fonts if font.number in chosen]
+        else:
+            self.fonts = [Found(number) for number in chosen]
             self._find(texts, read)
         if not read.order:
             self._learn_order(texts, read)
         self._versions(texts, read)
-        return spelling.spelled(read, client.communities, has, self.fonts, self._head(is_table, texts.count))
+        how = "by the sign's font table" if is_table else "by validations"
+        head = f"Made from the sign by wisangub-conform describe, its fonts {how}; {texts.count} validations."
+        return spelling.spelled(read, client.communities, has, self.fonts, [head, *self.comments])
 
     # --- what it has -----------------------------------------------------------------------------------------
 
+    def _check_offsets(self, texts: Validations) -> None:
+        """Raises Unlike where the sign does not say of a fault what and where it is, as all that follows needs."""
+        text = b"[jl2][zz]"
+        verdict = texts.ask(text)
+        if (verdict.error, verdict.code, verdict.at) != (validations.SYNTAX, validations.NO_TAG, 5):
+            raise Unlike(
+                f"of the text {text.decode()} it says dmsValidateMessageError {verdict.error}, dmsMultiSyntaxError "
+                f"{verdict.code} and dmsMultiSyntaxErrorPosition {verdict.at}, where it is to be 5, 3 and 5"
+            )
+
     def _has(self, texts: Validations) -> tuple[int, int]:
         """Whether it has beacons, and pixel service."""
-        beacon, pixel = texts.ask(b"", beacon=1), texts.ask(b"", pixel=1)
-        return int(beacon.error != validations.BEACONS), int(pixel.error != validations.PIXELS)
+        beacon = pixel = 0
+        if texts.has(Column.BEACON):
+            beacon = int(texts.ask(b"", beacon=1).error != validations.BEACONS)
+        if texts.has(Column.PIXEL_SERVICE):
+            pixel = int(texts.ask(b"", pixel=1).error != validations.PIXELS)
+        return beacon, pixel
 
     def _learn_order(self, texts: Validations, read: reading.Read) -> None:
         """The order of a checksum's octets, of an empty text."""
@@ -73,17 +99,13 @@ class Describing:
     # --- fonts -----------------------------------------------------------------------------------------------
 
     def _numbers(self) -> list[int]:
-        """The fonts that the sign takes as its default, the most likely to matter first."""
+        """The fonts that the sign takes as its default."""
         assert self.sign is not None
-        default = self.sign.defaults[4]
         self.is_font_changed = True
-        found = [number for number in range(1, 256) if self._takes(number)]
+        found = sorted({self.sign.defaults[4], *(number for number in range(1, 256) if self._takes(number))})
         self._put_font_back()
-        found = sorted({*found, default}, key=lambda number: (number != default, number))
-        self.say(f"fonts {', '.join(map(str, sorted(found)))}, by SETs of defaultFont")
-        if len(found) > MOST_FONTS:
-            self.say(f"a description has {MOST_FONTS} fonts at most; {len(found) - MOST_FONTS} are left out")
-        return sorted(found[:MOST_FONTS])
+        self.say(f"fonts {', '.join(map(str, found))}, by SETs of defaultFont")
+        return found
 
     def _takes(self, number: int) -> bool:
         status = self.client.put((_DEFAULT_FONT, integer(number)))
@@ -94,14 +116,15 @@ class Describing:
     def _find(self, texts: Validations, read: reading.Read) -> None:
         """Characters, heights, spacings and widths."""
         asking = Characters(texts, read.width, read.height)
-        self.fonts = [font for font in self.fonts if asking.begin(font, self.candidates) or self._is_empty(font)]
+        candidates = tuple(dict.fromkeys([*self.candidates, *mentioned.characters(read)]))
+        self.fonts = [font for font in self.fonts if asking.begin(font, candidates)]
         known = [font for font in self.fonts if font.repeated]
         self._told(texts, "the first character of each font")
         Heights(texts, read.height).find(known)
         self._told(texts, "heights and line spacings")
         for font in known:
-            asking.find(font, self.candidates)
-            asking.probe(font, self.probes, self.candidates)
+            asking.find(font, candidates)
+            asking.probe(font, self.probes, candidates)
             self._told(texts, f"font {font.number} has {len(font.characters)} characters")
         heights = {font.number: font.most_height(read.height) for font in known}
 
@@ -119,26 +142,18 @@ class Describing:
             done.append(font)
             self._told(texts, f"spacing and widths of font {font.number}")
 
-    def _is_empty(self, font: Found) -> bool:
-        """A font with none of the characters that were asked for is kept, and said to be so."""
-        font.notes.append("characters: it has none of those that were asked for; --characters names others")
-        return True
-
     def _versions(self, texts: Validations, read: reading.Read) -> None:
         """Whether a font's version is one of those that a permanent message names, or 0001."""
-        named = [
-            (int(number), int(version, 16))
-            for held in read.permanent
-            for number, version in re.findall(rb"(?i)\[fo([0-9]{1,5}),([0-9a-f]{4})\]", held.text)
-        ]
+        named = mentioned.versions(read)
         left = [font for font in self.fonts if font.version is None]
         tried = [(font, version) for font in left for version in dict.fromkeys((*_of(named, font.number), 1))]
+        tried = tried[:_MOST_TRIED]
         while tried:
             text, starts = b"", []
             for font, version in tried:
                 starts.append(len(text))
                 text += b"[fo%d,%04x]" % (font.number, version)
-            verdict = texts.ask(text[:MOST_TEXT])
+            verdict = texts.ask(text)
             at = len(tried) if verdict.is_fit else max(at for at, start in enumerate(starts) if start <= verdict.at)
             for font, version in tried[:at]:
                 font.version = version
@@ -146,10 +161,6 @@ class Describing:
 
     def _told(self, texts: Validations, words: str) -> None:
         self.say(f"{words}; {texts.count} validations")
-
-    def _head(self, is_table: bool, count: int) -> list[str]:
-        how = "by the sign's font table" if is_table else "by validations"
-        return [f"Made from the sign by wisangub-conform describe, its fonts {how}; {count} validations."]
 
     # --- the way back ----------------------------------------------------------------------------------------
 
@@ -161,14 +172,34 @@ class Describing:
 
     def put_back(self) -> list[str]:
         """The sign as it was; in words what is not. Raises Stopped where it does not answer."""
-        left: list[str] = []
-        if self.is_font_changed and not self._put_font_back():
-            left.append("defaultFont")
-        if self.texts is not None and self.texts.before:
-            left += self.texts.put_back()
-            if not self.texts.is_verdict_back():
-                self.say("the last verdict on a text reads otherwise: it was that of a fault, and no request sets it")
+        for _ in range(_TIMES):
+            left = self._once_back()
+            way, clock = self.client.port.way, self.client.port.clock
+            if not left and not way.late and not way.doubled:
+                break
+            clock.sleep_until(clock.now() + max(way.slowest, self.client.port.wait))  # a request may be late
+            left = self._not_back()
+            if not left:
+                break
+        if self.texts is not None and self.texts.before and not self.texts.is_verdict_back():
+            self.say("the last verdict on a text reads otherwise: it was that of a fault, and no request sets it")
         return left
+
+    def _once_back(self) -> list[str]:
+        if self.is_font_changed:
+            self._put_font_back()
+        if self.texts is not None and self.texts.before:
+            self.texts.put_back()
+        return self._not_back()
+
+    def _not_back(self) -> list[str]:
+        """What does not read as before."""
+        left: list[str] = []
+        if self.sign is not None and _DEFAULT_FONT in self.client.written:
+            font = self.sign.defaults[4]
+            self.is_font_changed = self.client.numbers([_DEFAULT_FONT]).get(_DEFAULT_FONT) != font
+            left += ["defaultFont"] if self.is_font_changed else []
+        return left if self.texts is None else left + self.texts.not_back()
 
     def written(self) -> list[str]:
         """What was written to the sign, an object a line."""

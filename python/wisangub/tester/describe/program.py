@@ -121,6 +121,9 @@ def described(made: Describing) -> tuple[str | None, int]:
         _say(f"texts do not tell what the sign is: {why}")
     except KeyboardInterrupt:
         _say("it was interrupted")
+    except OSError as fault:
+        _say(reason(fault))
+        status = 3 if made.client.written else 2
     finally:
         status = max(status, _put_back(made))
     return text, status
@@ -134,7 +137,7 @@ def _put_back(made: Describing) -> int:
     try:
         way.begin_anew()
         left = made.put_back()
-    except (Stopped, Unlike, KeyboardInterrupt) as why:
+    except (Stopped, Unlike, KeyboardInterrupt, OSError) as why:
         left = [f"what was written ({why})"]
     for line in way.words():
         _say(line)

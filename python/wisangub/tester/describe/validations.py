@@ -10,7 +10,7 @@ from wisangub.tester.sign.way import Stopped
 from .client import Client
 
 NONE, BEACONS, PIXELS, SYNTAX = 2, 3, 4, 5  # values of dmsValidateMessageError
-TOO_BIG, NO_FONT, NO_CHARACTER, VERSION = 5, 6, 7, 13  # values of dmsMultiSyntaxError
+NO_TAG, TOO_BIG, NO_FONT, NO_CHARACTER = 3, 5, 6, 7  # values of dmsMultiSyntaxError
 _VERDICT = [scalar(word) for word in ("dmsValidateMessageError", "dmsMultiSyntaxError", "dmsMultiSyntaxErrorPosition")]
 _FIELDS = (Column.TEXT, Column.OWNER, Column.BEACON, Column.PIXEL_SERVICE, Column.PRIORITY)
 _LONGEST, _TRIES = 20.0, 12  # seconds that a row may validate; times that a text is written until it stays
@@ -53,6 +53,10 @@ class Validations:
         self.before = self.client.read(names)
         self.verdict = self.client.read(_VERDICT)
 
+    def has(self, column: Column) -> bool:
+        """Whether the row has this column."""
+        return self.row.cell(column) in self.before
+
     def ask(self, text: bytes, beacon: int = 0, pixel: int = 0) -> Verdict:
         """What the sign says of a text. Raises Unlike where it does not take it, Stopped where it does not answer."""
         for _ in range(_TRIES):
@@ -70,7 +74,10 @@ class Validations:
         if client.put(row.status(RowStatus.MODIFY_REQ)) != wire.NO_ERROR:
             self._wait()  # it may be validating since a request came late
             return False
-        if client.put(row.text(text), row.beacon(beacon), row.pixel(pixel)) != wire.NO_ERROR:
+        fields = [row.text(text)]
+        fields += [row.beacon(beacon)] if self.has(Column.BEACON) else []
+        fields += [row.pixel(pixel)] if self.has(Column.PIXEL_SERVICE) else []
+        if client.put(*fields) != wire.NO_ERROR:
             return False
         client.put(row.status(RowStatus.VALIDATE_REQ))  # refused where it came before and its reply was lost
         return True
@@ -107,25 +114,29 @@ class Validations:
             return None
         return Verdict(error, code, at, found.get(checksum, 0))
 
-    def put_back(self) -> list[str]:
-        """The row as it was, in words what could not be put back."""
-        row = self.row
-        status = row.cell(Column.STATUS)
-        if [held for _, held in self.verdict.values()][:1] == [NONE]:
-            self.ask(b"")  # so that the last verdict is that again
+    def put_back(self) -> None:
+        """The row as it was, and if it can be the last verdict."""
+        row, status = self.row, self.row.cell(Column.STATUS)
+        if not self.is_verdict_back() and self.verdict.get(_VERDICT[0]) == integer(NONE):
+            self.ask(b"")
+        self._wait()
         if self.before.get(status) in (None, integer(RowStatus.NOT_USED)):
-            self._wait()
             self.client.put(row.status(RowStatus.NOT_USED_REQ))
-        else:
+            return
+        self.client.put(row.status(RowStatus.MODIFY_REQ))
+        for name in (row.cell(column) for column in _FIELDS):
+            if name in self.before:
+                self.client.put((name, self.before[name]))
+        if self.before[status] != integer(RowStatus.MODIFYING):
+            self.client.put(row.status(RowStatus.VALIDATE_REQ))
             self._wait()
-            self.client.put(row.status(RowStatus.MODIFY_REQ))
-            for name in (row.cell(column) for column in _FIELDS):
-                if name in self.before:
-                    self.client.put((name, self.before[name]))
-            if self.before[status] != integer(RowStatus.MODIFYING):
-                self.client.put(row.status(RowStatus.VALIDATE_REQ))
-                self._wait()
-        return [] if self.client.read([status]).get(status) == self.before.get(status) else [self._name()]
+
+    def not_back(self) -> list[str]:
+        """The row in words, where it does not read as before; of one that was not used the status alone counts."""
+        status = self.row.cell(Column.STATUS)
+        is_used = self.before.get(status) != integer(RowStatus.NOT_USED)
+        before = self.before if is_used else {status: self.before[status]}
+        return [] if self.client.read(list(before)) == before else [self._name()]
 
     def is_verdict_back(self) -> bool:
         """Whether the last verdict on a text reads as before."""
