@@ -46,7 +46,7 @@ font_of_copy : (after bench (letter ++ font_two ∷ [])).sign.shown.defaults.fon
 unfolding after request hex
 font_of_copy = refl
 
-font_of_now : (after bench (letter ++ font_two ∷ [])).sign.defaults.font ≡ 2
+font_of_now : (after bench (letter ++ font_two ∷ [])).sign.settings.defaults.font ≡ 2
 unfolding after request hex
 font_of_now = refl
 
@@ -99,7 +99,7 @@ judged_under_the_new = refl
 abbrev sets_both : EventModel
 sets_both = request Set (set_number 4 5 2 ∷ set_code 6 3 (codes "ffffff0200017502c0000201") ∷ [])
 
-nothing_is_set : (after bench (sets_both ∷ [])).sign.defaults.font ≡ 1
+nothing_is_set : (after bench (sets_both ∷ [])).sign.settings.defaults.font ≡ 1
 unfolding after request hex
 nothing_is_set = refl
 

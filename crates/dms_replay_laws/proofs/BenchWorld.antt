@@ -30,6 +30,7 @@ use Rattle.dms_table.specs.Activation.{minutes_left}
 use Rattle.dms_sign.specs.Values.{scalar_value, value_at, value_after}
 use Rattle.dms_sign.specs.Values as values
 use Rattle.dms_sign_access.specs.Access.{is_settable_object, object_write, cell_write, write_of}
+use Rattle.dms_sign_access.specs.Settings.{set_by}
 use Rattle.dms_sign.specs.SetRequest.{settable_instance, write_at, causes, assigned}
 use Rattle.dms_sign.specs.Requests.{answer_of_any_size, set}
 use Rattle.dms_sign.specs.Reply.{reply_to}
@@ -52,7 +53,7 @@ bench = beginning_of bench_sign
 
 -- Who unfolds it unfolds both ends, so that the events compute.
 unfoldable pub after : WorldModel → List EventModel → WorldModel
-unfolding element integer_octets name_octets binding_octets numbers_octets pdu_octets canonical message_of fault_of outcomes_within item_at item_after_opening item_after_closing tag_at body_item name_at letters_name end_name item_of flash_of font_of times_of page_time_of number_of decimal_of value_of cut version_of octet_bits name_of instances scalar_value value_at values.value_of value_after is_settable_object object_write cell_write write_of settable_instance write_at causes assigned answer_of_any_size reply_to sign.received put_up_code after_settling after_duration after_silence after_tick after_power_loss after_power_return request_of sends commanded received ticked restarted
+unfolding element integer_octets name_octets binding_octets numbers_octets pdu_octets canonical message_of fault_of outcomes_within item_at item_after_opening item_after_closing tag_at body_item name_at letters_name end_name item_of flash_of font_of times_of page_time_of number_of decimal_of value_of cut version_of octet_bits name_of instances scalar_value value_at values.value_of value_after is_settable_object object_write cell_write write_of settable_instance write_at causes set_by assigned answer_of_any_size reply_to sign.received put_up_code after_settling after_duration after_silence after_tick after_power_loss after_power_return request_of sends commanded received ticked restarted
 after world events = world_after world events
 
 -- The report of the events on the bench sign.

@@ -140,7 +140,7 @@ short_code : status_and_index bench (set_number 6 10 5 ∷ set_code 6 15 (codes 
 unfolding status_and_index hex
 short_code = refl
 
-nothing_set : (after bench (request Set (set_number 6 10 5 ∷ set_code 6 15 (codes "07000100") ∷ []) ∷ [])).sign.short_power_loss_time ≡ 0
+nothing_set : (after bench (request Set (set_number 6 10 5 ∷ set_code 6 15 (codes "07000100") ∷ []) ∷ [])).sign.settings.short_power_loss_time ≡ 0
 unfolding after request hex
 nothing_set = refl
 

@@ -15,18 +15,14 @@ use Rattle.dms_sign.specs.State.{SignState}
 use Rattle.dms_sign.specs.SetRequest.{assigned}
 use Rattle.dms_sign.specs.Requests.{writes_of, commanded, as_decided}
 use Rattle.dms_sign.specs.InRange.{AreOctets, IsShownInRange, IsSignInRange}
-use Rattle.dms_sign.specs.SetView.{AreSettings}
+use Rattle.dms_sign.specs.SetView.{AreLeft}
 use Rattle.dms_sign.proofs.Assigned.{accepted_new, accepted_shown, refused_cause, activation_answer}
-
--- the settings are those that the bindings leave
-abbrev pub AreLeft : SignSettings → List VarBind → SignState → Type 0
-AreLeft settings bindings s = AreSettings settings (assigned s (writes_of s bindings))
 
 -- what is shown once the values are assigned and the code is accepted
 abbrev pub shown_after : SignState → List VarBind → Activation → ShownModel
 shown_after s bindings code =
     let new = assigned s (writes_of s bindings) in
-    shown_by new.defaults new.table new.shown code
+    shown_by new.settings.defaults new.table new.shown code
 
 -- the answer is that to this decision
 abbrev pub IsDecided : SignState → List VarBind → ℕ → List ℕ → Result ShownModel Cause → Type 0

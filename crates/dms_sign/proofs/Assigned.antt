@@ -34,7 +34,7 @@ use Rattle.dms_sign.specs.Transitions.{HasFitDefaults}
 use Rattle.dms_sign.specs.Kept.{IsKept}
 use Rattle.dms_sign.specs.SignView.{state_of, IsWhole}
 use Rattle.dms_sign_access.specs.Settings.{set_by}
-use Rattle.dms_sign.specs.SetView.{AreSettings}
+use Rattle.dms_sign.specs.SetView.{AreLeft}
 use Rattle.dms_sign.specs.SetView.{IsCommandInRange}
 use Rattle.dms_table.proofs.Decisions.{accepted_decision, accepted_elsewhere}
 use Rattle.dms_sign.proofs.InRangeShown.{with_table_in_range, activation_is, IsDecisionInRange, decided_in_range}
@@ -48,15 +48,8 @@ use Rattle.dms_sign.proofs.Writes.{writes_like, asked_alike, decided_alike}
 
 -- ---- settings
 
-pub set_by_is : (settings : SignSettings) (s : SignState) (ws : List Write) → AreSettings settings s → AreSettings (set_by settings ws) (assigned s ws)
-unfolding set_by assigned
-set_by_is settings s ws is = grind arith
-
-pub judged_settings : (old : Inside) (settings : SignSettings) (ws : List Write) → settings ≡ set_by old.settings ws → AreSettings settings (assigned (state_of old) ws)
-judged_settings old settings ws e = grind (arith, set_by_is)
-
 pub state_assigned : (old : Inside) (ws : List Write) (settings : SignSettings) (table : TableModel) → table ≡ with_writes old.table ws
-    → AreSettings settings (assigned (state_of old) ws) → state_of (record old { table = table; settings = settings }) ≡ assigned (state_of old) ws
+    → settings ≡ set_by old.settings ws → state_of (record old { table = table; settings = settings }) ≡ assigned (state_of old) ws
 unfolding assigned
 state_assigned old ws settings table t is = grind arith
 
@@ -65,7 +58,7 @@ unfolding assigned
 assigned_config s ws = refl
 
 pub assigned_whole : (old : Inside) (bindings : List VarBind) (settings : SignSettings) (table : TableModel) → IsWhole old → AreBindingsInLimits bindings
-    → table ≡ with_writes old.table (writes_of (state_of old) bindings) → AreSettings settings (assigned (state_of old) (writes_of (state_of old) bindings))
+    → table ≡ with_writes old.table (writes_of (state_of old) bindings) → AreLeft settings bindings (state_of old)
     → IsWhole (record old { table = table; settings = settings })
 assigned_whole old bindings settings table is within t are =
     let s = state_of old in
@@ -113,63 +106,65 @@ pub accepted_whole : (old : Inside) (shown : ShownModel) (source octets : List �
     → IsWhole (record old { shown = shown; source = source; reports = reports })
 accepted_whole old shown source octets reports is range twelve s r = grind arith
 
-pub decided_new : (s : SignState) (ws : List Write) (settings : SignSettings) (octets : List ℕ) (code : Activation) → AreSettings settings (assigned s ws)
+pub decided_new : (s : SignState) (ws : List Write) (settings : SignSettings) (octets : List ℕ) (code : Activation) → settings ≡ set_by s.settings ws
     → code ≡ activation_of s.table.order octets
     → decided s.config.face settings.defaults s.table s.shown code
-    ≡ decided (assigned s ws).config.face (assigned s ws).defaults (assigned s ws).table (assigned s ws).shown (activation_of s.table.order octets)
+    ≡ decided (assigned s ws).config.face (assigned s ws).settings.defaults (assigned s ws).table (assigned s ws).shown (activation_of s.table.order octets)
 unfolding assigned
 decided_new s ws settings octets code is c =
-    ap (λ (d : Defaults). decided s.config.face d s.table s.shown code) is.defaults
+    ap (λ (d : Defaults). decided s.config.face d s.table s.shown code) (ap (λ (x : SignSettings). x.defaults) is)
     ∙ decided_alike s.config.face _ s.table (with_writes s.table ws) s.shown code (writes_like s.table ws)
     ∙ ap (decided s.config.face _ (with_writes s.table ws) s.shown) c
 
 -- a code that is let pass before the values are assigned puts up what is there after it
 pub accepted_new : {A : Type 0} (a : A) (s : SignState) (ws : List Write) (settings : SignSettings) (octets : List ℕ) (code : Activation)
-    → AreSettings settings (assigned s ws) → code ≡ activation_of s.table.order octets
+    → settings ≡ set_by s.settings ws → code ≡ activation_of s.table.order octets
     → Ok a ≡ unless_refused a (refusal s.config.face settings.defaults s.table s.shown code)
-    → Ok (shown_by (assigned s ws).defaults (assigned s ws).table (assigned s ws).shown code) ≡ decided s.config.face settings.defaults s.table s.shown code
+    → Ok (shown_by (assigned s ws).settings.defaults (assigned s ws).table (assigned s ws).shown code) ≡ decided s.config.face settings.defaults s.table s.shown code
 accepted_new a s ws settings octets code is c e =
     let new = assigned s ws in
     let same = decided_new s ws settings octets code is c in
     let old = accepted_decision a s.config.face settings.defaults s.table s.shown code e in
-    ap (λ (code : Activation). Ok (shown_by new.defaults new.table new.shown code)) c
-    ∙ accepted_elsewhere new.config.face new.defaults new.shown (shown_by settings.defaults s.table s.shown code) new.table
+    ap (λ (code : Activation). Ok (shown_by new.settings.defaults new.table new.shown code)) c
+    ∙ accepted_elsewhere new.config.face new.settings.defaults new.shown (shown_by settings.defaults s.table s.shown code) new.table
     (activation_of s.table.order octets) (old ∙ same)
     ∙ sym same
 
-fit_of : (s : SignState) (ws : List Write) → HasFitDefaults (assigned s ws) → IsTrue (fit s.config.face.fonts (assigned s ws).defaults)
+fit_of : (s : SignState) (ws : List Write) → HasFitDefaults (assigned s ws) → IsTrue (fit s.config.face.fonts (set_by s.settings ws).defaults)
 unfolding assigned
 fit_of s ws is = is
 
-pub fit_new : (s : SignState) (bindings : List VarBind) (settings : SignSettings) → HasFitDefaults s → AreSettings settings (assigned s (writes_of s bindings))
+pub fit_new : (s : SignState) (bindings : List VarBind) (settings : SignSettings) → HasFitDefaults s → AreLeft settings bindings s
     → IsTrue (fit s.config.face.fonts settings.defaults)
-fit_new s bindings settings is are = grind (arith, fit_of, assigned_fit, writes_fit)
+fit_new s bindings settings is are =
+    subst (λ (x : SignSettings). IsTrue (fit s.config.face.fonts x.defaults)) (sym are)
+    (fit_of s (writes_of s bindings) (assigned_fit s (writes_of s bindings) (writes_fit s bindings) is))
 
 decision_new : (s : SignState) (bindings : List VarBind) (settings : SignSettings) (octets : List ℕ) (code : Activation) → IsSignInRange s → AreBindingsInLimits bindings
-    → AreSettings settings (assigned s (writes_of s bindings)) → code ≡ activation_of s.table.order octets → AreOctets 12 octets
+    → AreLeft settings bindings s → code ≡ activation_of s.table.order octets → AreOctets 12 octets
     → IsDecisionInRange (decided s.config.face settings.defaults s.table s.shown code)
 decision_new s bindings settings octets code is within are c twelve =
     let ws = writes_of s bindings in
     let new = assigned s ws in
     let range : IsSignInRange new = assigned_in_range s ws is (writes_in_range s bindings within) in
     subst IsDecisionInRange (sym (decided_new s ws settings octets code are c))
-    (decided_in_range new.config.face new.defaults new.table new.shown (activation_of s.table.order octets) range.defaults range.table range.shown
+    (decided_in_range new.config.face new.settings.defaults new.table new.shown (activation_of s.table.order octets) range.settings.defaults range.table range.shown
     (activation_is s.table.order octets twelve.below))
 
 pub accepted_shown : (s : SignState) (bindings : List VarBind) (settings : SignSettings) (octets : List ℕ) (code : Activation) (shown : ShownModel) → IsSignInRange s
-    → AreBindingsInLimits bindings → AreSettings settings (assigned s (writes_of s bindings)) → code ≡ activation_of s.table.order octets → AreOctets 12 octets
+    → AreBindingsInLimits bindings → AreLeft settings bindings s → code ≡ activation_of s.table.order octets → AreOctets 12 octets
     → Ok shown ≡ decided s.config.face settings.defaults s.table s.shown code → IsShownInRange shown
 accepted_shown s bindings settings octets code shown is within are c twelve ok =
     subst IsDecisionInRange (sym ok) (decision_new s bindings settings octets code is within are c twelve)
 
 pub refused_cause : (s : SignState) (bindings : List VarBind) (settings : SignSettings) (octets : List ℕ) (code : Activation) (cause : Cause) → IsSignInRange s
-    → AreBindingsInLimits bindings → AreSettings settings (assigned s (writes_of s bindings)) → code ≡ activation_of s.table.order octets → AreOctets 12 octets
+    → AreBindingsInLimits bindings → AreLeft settings bindings s → code ≡ activation_of s.table.order octets → AreOctets 12 octets
     → Err cause ≡ decided s.config.face settings.defaults s.table s.shown code → IsCauseInRange cause
 refused_cause s bindings settings octets code cause is within are c twelve err =
     subst IsDecisionInRange (sym err) (decision_new s bindings settings octets code is within are c twelve)
 
 pub activation_answer : (s : SignState) (ws : List Write) (bindings : List VarBind) (index : ℕ) (settings : SignSettings) (octets : List ℕ) (code : Activation)
-    (r : Result ShownModel Cause) → AreSettings settings (assigned s ws) → code ≡ activation_of s.table.order octets
+    (r : Result ShownModel Cause) → settings ≡ set_by s.settings ws → code ≡ activation_of s.table.order octets
     → r ≡ decided s.config.face settings.defaults s.table s.shown code
     → commanded s (assigned s ws) bindings index (Activate octets) ≡ as_decided s (assigned s ws) bindings index octets r
 activation_answer s ws bindings index settings octets code r are c e =

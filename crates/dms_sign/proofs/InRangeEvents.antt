@@ -72,7 +72,7 @@ settled_in_range face table is =
 settling_in_range : (s : SignState) → IsSignInRange s → IsSignInRange (after_settling s)
 unfolding after_settling
 settling_in_range s is =
-    let face = under s.config.face s.defaults in
+    let face = under s.config.face s.settings.defaults in
     telling_in_range (record s { table = settled face s.table }) (settled_reports s.reports (verdict face s.table))
     (with_table_in_range s (settled face s.table) is (settled_in_range face s.table is.table))
     (verdict_reported s.reports (verdict face s.table) is.reports (settled_verdict face s.table))
@@ -91,7 +91,7 @@ with_silence s silent_seconds is few = grind arith
 
 silence_by : (s : SignState) (b : Bool) → ltb s.silent_seconds (longest_silence s) ≡ b → IsSignInRange s
     → IsSignInRange (cond b
-    (cond (s.silent_seconds + 1 == longest_silence s) (put_up_code (quieter s) s.fallbacks.communications_loss communications_loss_mode) (quieter s))
+    (cond (s.silent_seconds + 1 == longest_silence s) (put_up_code (quieter s) s.settings.fallbacks.communications_loss communications_loss_mode) (quieter s))
     s)
 silence_by s b e is = grind (arith, ltb-true, with_silence, either, code_in_range)
 
@@ -132,11 +132,8 @@ pub restored_in_range : (s : SignState) → IsSignInRange s → IsSignInRange (r
 restored_in_range s is = record {
   config = is.config;
   table = after_power_in_range s.table is.table;
-  fallbacks = is.fallbacks;
-  short_power_loss_time = is.short_power_loss_time;
-  time_comm_loss = is.time_comm_loss;
+  settings = is.settings;
   silent_seconds = omega arith;
-  defaults = is.defaults;
   shown = is.shown_at_power_loss;
   shown_at_power_loss = is.shown_at_power_loss;
   reports = is.reports;

@@ -32,13 +32,15 @@ use Rattle.dms_mib.specs.declared.instance.Instance.{Instance}
 use Rattle.dms_mib.specs.declared.instance.Instance.TheVariants as kinds
 use Rattle.dms_mib.specs.Names.{scalar_number}
 use Rattle.dms_sign_access.specs.declared.reports.Reports.{Reports}
+use Rattle.dms_sign_access.specs.declared.settings.SignSettings.{SignSettings}
 use Rattle.dms_sign.specs.State.{SignState}
 use Rattle.dms_sign_access.specs.Access.{Write, SetNumber, SetCode, SetField, AskRow, Activate, SetRemaining, number_in, octets_in, font_in, ask_of, object_write, cell_write, write_of}
 use Rattle.dms_sign_access.specs.Assignment.{given, number_for, code_for}
+use Rattle.dms_sign_access.specs.Settings.{set_by}
 use Rattle.dms_sign.specs.SetRequest.{SetCause, settable_instance, write_at, with_write, with_writes, assigned}
 use Rattle.dms_sign.specs.Requests.{found_unless, as_decided, as_asked, with_remaining, commanded, commanded_if, writes_of, set_unless, answer_by, answer_of_any_size}
 use Rattle.dms_sign.specs.Reply.{is_heard, dropped, heard, on_message, on_message_if, received}
-use Rattle.dms_sign.specs.InRange.{AreOctets, AreOctetsUpTo, IsRowInRange, IsTableInRange, AreReportsInRange, IsSignInRange, IsBindingInLimits}
+use Rattle.dms_sign.specs.InRange.{AreOctets, AreOctetsUpTo, IsRowInRange, IsTableInRange, AreSettingsInRange, AreReportsInRange, IsSignInRange, IsBindingInLimits}
 use Rattle.dms_sign.proofs.NumbersRead.{number_passes}
 use Rattle.dms_sign.proofs.InRangeLists.{either, if_mapped, if_then, if_at, all_filtered}
 use Rattle.dms_sign.proofs.InRangeShown.{IsDecisionInRange, showing_in_range, activation_is, decided_in_range, seconds_in_range, with_time, code_in_range}
@@ -286,11 +288,9 @@ with_writes_in_range : (table : TableModel) (writes : List Write) → IsTableInR
 with_writes_in_range table [] is all = is
 with_writes_in_range table (w ∷ ws) is all = with_writes_in_range (with_write table w) ws (with_write_in_range table w is all.0) all.1
 
-pub assigned_in_range : (s : SignState) (writes : List Write) → IsSignInRange s → AllByRecursion IsWriteInRange writes → IsSignInRange (assigned s writes)
-unfolding assigned
-assigned_in_range s writes is all = record {
-  config = is.config;
-  table = with_writes_in_range s.table writes is.table all;
+set_by_in_range : (s : SignSettings) (writes : List Write) → AllByRecursion IsWriteInRange writes → AreSettingsInRange s → AreSettingsInRange (set_by s writes)
+unfolding set_by
+set_by_in_range s writes all is = record {
   fallbacks = record {
     short_power_recovery = given_code ShortPowerRecoveryMessage writes s.fallbacks.short_power_recovery all is.fallbacks.short_power_recovery;
     long_power_recovery = given_code LongPowerRecoveryMessage writes s.fallbacks.long_power_recovery all is.fallbacks.long_power_recovery;
@@ -300,7 +300,6 @@ assigned_in_range s writes is all = record {
   };
   short_power_loss_time = given_number ShortPowerLossTime writes s.short_power_loss_time all is.short_power_loss_time;
   time_comm_loss = given_number TimeCommLoss writes s.time_comm_loss all is.time_comm_loss;
-  silent_seconds = is.silent_seconds;
   defaults = record {
     background = given_number DefaultBackgroundColor writes s.defaults.background all is.defaults.background;
     foreground = given_number DefaultForegroundColor writes s.defaults.foreground all is.defaults.foreground;
@@ -312,6 +311,15 @@ assigned_in_range s writes is all = record {
     on = given_number DefaultPageOnTime writes s.defaults.on all is.defaults.on;
     off = given_number DefaultPageOffTime writes s.defaults.off all is.defaults.off;
   };
+}
+
+pub assigned_in_range : (s : SignState) (writes : List Write) → IsSignInRange s → AllByRecursion IsWriteInRange writes → IsSignInRange (assigned s writes)
+unfolding assigned
+assigned_in_range s writes is all = record {
+  config = is.config;
+  table = with_writes_in_range s.table writes is.table all;
+  settings = set_by_in_range s.settings writes all is.settings;
+  silent_seconds = is.silent_seconds;
   shown = is.shown;
   shown_at_power_loss = is.shown_at_power_loss;
   reports = is.reports;
@@ -341,8 +349,8 @@ commanded_after : (old new : SignState) (bindings : List VarBind) (index : ℕ) 
 commanded_after old new bindings index (AskRow id ask) was is write = grind (arith, as_asked_after, asked_in_range, as_decided_after, decided_in_range, activation_is, remaining_in_range)
 commanded_after old new bindings index (Activate octets) was is write =
     as_decided_after old new bindings index octets
-    (decided new.config.face new.defaults new.table new.shown (activation_of old.table.order octets)) was is write
-    (decided_in_range new.config.face new.defaults new.table new.shown (activation_of old.table.order octets) is.defaults is.table is.shown
+    (decided new.config.face new.settings.defaults new.table new.shown (activation_of old.table.order octets)) was is write
+    (decided_in_range new.config.face new.settings.defaults new.table new.shown (activation_of old.table.order octets) is.settings.defaults is.table is.shown
     (activation_is old.table.order octets write.below))
 commanded_after old new bindings index (SetRemaining minutes) was is write = remaining_in_range new minutes is write
 commanded_after old new bindings index (SetNumber object n) was is write = is

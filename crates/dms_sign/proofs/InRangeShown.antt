@@ -180,5 +180,5 @@ code_in_range s octets mode is below small =
     let id = id_of s.table.order octets in
     let known : IsMessageId id = id_is s.table.order octets below in
     either IsSignInRange (id.memory == current_buffer) (staying s mode) _ (staying_in_range s mode is small)
-    (as_decided_in_range s id mode (decided s.config.face s.defaults s.table s.shown (own_activation id)) is known small
-    (decided_in_range s.config.face s.defaults s.table s.shown (own_activation id) is.defaults is.table is.shown (own_is id known)))
+    (as_decided_in_range s id mode (decided s.config.face s.settings.defaults s.table s.shown (own_activation id)) is known small
+    (decided_in_range s.config.face s.settings.defaults s.table s.shown (own_activation id) is.settings.defaults is.table is.shown (own_is id known)))

@@ -88,7 +88,7 @@ commanded_is : (old new : SignState) (bindings : List VarBind) (index : ℕ) (wr
     → IsSetAnswer bindings (commanded old new bindings index write)
 commanded_is old new bindings index (AskRow id ask) within = asked_is old new bindings index (asked new.table id ask) within
 commanded_is old new bindings index (Activate octets) within =
-    decided_is old new bindings index octets (decided new.config.face new.defaults new.table new.shown (activation_of old.table.order octets)) within
+    decided_is old new bindings index octets (decided new.config.face new.settings.defaults new.table new.shown (activation_of old.table.order octets)) within
 commanded_is old new bindings index (SetRemaining minutes) within = granted_is (with_remaining new minutes) bindings
 commanded_is old new bindings index (SetNumber object number) within = granted_is new bindings
 commanded_is old new bindings index (SetCode object octets) within = granted_is new bindings

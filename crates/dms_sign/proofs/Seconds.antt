@@ -13,7 +13,7 @@ use Rattle.dms_sign.specs.Events.{after_settling, after_duration, after_silence,
 unsettled : (s : SignState) → is_settling s.table ≡ false → after_settling s ≡ s
 unfolding after_settling
 unsettled s free =
-    let face = under s.config.face s.defaults in
+    let face = under s.config.face s.settings.defaults in
     ap (λ table. record s { table = table; reports = settled_reports s.reports (verdict face s.table) }) (sym (nothing_settled face s.table free))
     ∙ ap (λ found. record s { reports = settled_reports s.reports found }) (sym (no_verdict face s.table free))
 

@@ -26,6 +26,7 @@ use Rattle.dms_sign.specs.State.{SignState}
 use Rattle.dms_sign.specs.OwnCodes.{put_up_code}
 use Rattle.dms_sign_access.specs.Access.{Write, SetNumber, SetCode, SetField, AskRow, Activate, SetRemaining, number_in, octets_in, font_in, ask_of, object_write, cell_write, write_of}
 use Rattle.dms_sign_access.specs.Assignment.{given, number_for}
+use Rattle.dms_sign_access.specs.Settings.{set_by}
 use Rattle.dms_sign.specs.SetRequest.{SetCause, settable_instance, write_at, assigned}
 use Rattle.dms_sign.specs.Requests.{found_unless, as_decided, as_asked, with_remaining, commanded, commanded_if, writes_of, set_unless, answer_by, answer_of_any_size}
 use Rattle.dms_sign.specs.Reply.{heard, dropped, on_message_if, received}
@@ -158,16 +159,16 @@ fit_of_parts : (face : FaceModel) (d : Defaults) → AreFit face d → fit face.
 fit_of_parts face d are = grind arith
 
 pub assigned_fit : (s : SignState) (writes : List Write) → AllByRecursion (WriteFits s.config.face) writes → HasFitDefaults s → HasFitDefaults (assigned s writes)
-unfolding assigned
+unfolding assigned set_by
 assigned_fit s writes all is =
-    let old = parts_of_fit s.config.face s.defaults is in
+    let old = parts_of_fit s.config.face s.settings.defaults is in
     let face = s.config.face in
-    fit_of_parts face (assigned s writes).defaults (record {
-      background = given_fits face DefaultBackgroundColor writes s.defaults.background all old.background;
-      foreground = given_fits face DefaultForegroundColor writes s.defaults.foreground all old.foreground;
-      line = given_fits face DefaultJustificationLine writes s.defaults.line all old.line;
-      page = given_fits face DefaultJustificationPage writes s.defaults.page all old.page;
-      font = given_fits face DefaultFont writes s.defaults.font all old.font;
+    fit_of_parts face (assigned s writes).settings.defaults (record {
+      background = given_fits face DefaultBackgroundColor writes s.settings.defaults.background all old.background;
+      foreground = given_fits face DefaultForegroundColor writes s.settings.defaults.foreground all old.foreground;
+      line = given_fits face DefaultJustificationLine writes s.settings.defaults.line all old.line;
+      page = given_fits face DefaultJustificationPage writes s.settings.defaults.page all old.page;
+      font = given_fits face DefaultFont writes s.settings.defaults.font all old.font;
     })
 
 -- ---- codes of the sign's own

@@ -154,21 +154,20 @@ decided_displays face defaults table shown code new e =
 pub record KeepsRest (old new : SignState) : Type 0 where
   pub config : new.config ≡ old.config
   pub table : new.table ≡ old.table
-  pub fallbacks : new.fallbacks ≡ old.fallbacks
-  pub defaults : new.defaults ≡ old.defaults
+  pub settings : new.settings ≡ old.settings
   pub shown_at_power_loss : new.shown_at_power_loss ≡ old.shown_at_power_loss
 
 pub record PutsUp (old : SignState) (id : MessageId) (new : SignState) : Type 0 where
   pub kept_rest : KeepsRest old new
-  pub shown : Displays old.config.face old.defaults old.table old.shown id new.shown
+  pub shown : Displays old.config.face old.settings.defaults old.table old.shown id new.shown
 
 by_decision : (s : SignState) (id : MessageId) (mode : ℕ) (r : Result ShownModel Cause)
-    → decided s.config.face s.defaults s.table s.shown (own_activation id) ≡ r → PutsUp s id (put_up_as_decided s id mode r)
+    → decided s.config.face s.settings.defaults s.table s.shown (own_activation id) ≡ r → PutsUp s id (put_up_as_decided s id mode r)
 by_decision s id mode (Ok shown) e = record {
-  kept_rest = record { config = refl; table = refl; fallbacks = refl; defaults = refl; shown_at_power_loss = refl };
-  shown = displays_as s.config.face s.defaults s.table s.shown id shown (record shown { mode = mode })
+  kept_rest = record { config = refl; table = refl; settings = refl; shown_at_power_loss = refl };
+  shown = displays_as s.config.face s.settings.defaults s.table s.shown id shown (record shown { mode = mode })
       (record { text = refl; owner = refl; beacon = refl; pixel = refl; priority = refl; source = refl; defaults = refl })
-      (decided_displays s.config.face s.defaults s.table s.shown (own_activation id) shown e);
+      (decided_displays s.config.face s.settings.defaults s.table s.shown (own_activation id) shown e);
 }
 by_decision s id mode (Err cause) e = grind (arith, displays_as, decided_displays)
 

@@ -56,7 +56,7 @@ shown_whole old shown source is range octets = grind arith
 placed : (o : Option Verdict) → IfSome o IsVerdictInRange → IfSome o (λ v. IfSome v.fault (λ f. f.place ≤ 512))
 placed o is = grind arith
 
-pub verdict_placed : (s : SignState) (o : Option Verdict) → o ≡ verdict (under s.config.face s.defaults) s.table
+pub verdict_placed : (s : SignState) (o : Option Verdict) → o ≡ verdict (under s.config.face s.settings.defaults) s.table
     → IfSome o (λ v. IfSome v.fault (λ f. f.place ≤ 512))
 verdict_placed s o e = grind (arith, placed, settled_verdict)
 
@@ -78,7 +78,7 @@ room_for place table is placed = room_by place.memory place.index table is (only
 pub unsettled : (s : SignState) → IsPlaced None s.table.changeable s.table.volatile → s ≡ after_settling s
 unfolding after_settling
 unsettled s nowhere =
-    let face : FaceModel = under s.config.face s.defaults in
+    let face : FaceModel = under s.config.face s.settings.defaults in
     let none = placed_settling None s.table nowhere in
     ap (λ (table : TableModel). record s { table = table }) (nothing_settled face s.table none)
     ∙ ap (λ (o : Option Verdict). record s { table = settled face s.table; reports = settled_reports s.reports o }) (no_verdict face s.table none)
@@ -123,52 +123,52 @@ restored_whole old table shown source is t e octets = record {
 -- ---- codes of the sign's own
 
 own_decision : (s : SignState) (octets : List ℕ) (id : MessageId) (code : Activation) → IsSignInRange s → AllBelowBase 256 octets
-    → id ≡ id_of s.table.order octets → code ≡ own_activation id → IsDecisionInRange (decided s.config.face s.defaults s.table s.shown code)
+    → id ≡ id_of s.table.order octets → code ≡ own_activation id → IsDecisionInRange (decided s.config.face s.settings.defaults s.table s.shown code)
 own_decision s octets id code is below e own =
     let known : IsMessageId id = subst IsMessageId (sym e) (id_is s.table.order octets below) in
-    subst (λ code. IsDecisionInRange (decided s.config.face s.defaults s.table s.shown code)) (sym own)
-    (decided_in_range s.config.face s.defaults s.table s.shown (own_activation id) is.defaults is.table is.shown (own_is id known))
+    subst (λ code. IsDecisionInRange (decided s.config.face s.settings.defaults s.table s.shown code)) (sym own)
+    (decided_in_range s.config.face s.settings.defaults s.table s.shown (own_activation id) is.settings.defaults is.table is.shown (own_is id known))
 
 pub put_up_shown : {A : Type 0} (a : A) (s : SignState) (octets : List ℕ) (id : MessageId) (code : Activation) (mode : ℕ) → IsSignInRange s
     → AllBelowBase 256 octets → id ≡ id_of s.table.order octets → code ≡ own_activation id → mode ≤ 255
-    → Ok a ≡ unless_refused a (refusal s.config.face s.defaults s.table s.shown code)
-    → IsShownInRange (record (shown_by s.defaults s.table s.shown code) { mode = mode })
+    → Ok a ≡ unless_refused a (refusal s.config.face s.settings.defaults s.table s.shown code)
+    → IsShownInRange (record (shown_by s.settings.defaults s.table s.shown code) { mode = mode })
 put_up_shown a s octets id code mode is below e own small ok =
-    let up = shown_by s.defaults s.table s.shown code in
+    let up = shown_by s.settings.defaults s.table s.shown code in
     let decision : IsDecisionInRange (Ok up) =
-    subst IsDecisionInRange (sym (accepted_decision a s.config.face s.defaults s.table s.shown code ok)) (own_decision s octets id code is below e own)
+    subst IsDecisionInRange (sym (accepted_decision a s.config.face s.settings.defaults s.table s.shown code ok)) (own_decision s octets id code is below e own)
     in
     with_mode up mode decision small
 
 pub put_up_refused : {A : Type 0} (a : A) (s : SignState) (octets : List ℕ) (id : MessageId) (code : Activation) (cause : Cause) → IsSignInRange s
     → AllBelowBase 256 octets → id ≡ id_of s.table.order octets → code ≡ own_activation id
-    → Err cause ≡ unless_refused a (refusal s.config.face s.defaults s.table s.shown code) → IsCauseInRange cause
+    → Err cause ≡ unless_refused a (refusal s.config.face s.settings.defaults s.table s.shown code) → IsCauseInRange cause
 put_up_refused a s octets id code cause is below e own err =
-    subst IsDecisionInRange (sym (refused_decision a s.config.face s.defaults s.table s.shown code cause err)) (own_decision s octets id code is below e own)
+    subst IsDecisionInRange (sym (refused_decision a s.config.face s.settings.defaults s.table s.shown code cause err)) (own_decision s octets id code is below e own)
 
 -- what comes of a decision on a code that is not of the current buffer
 own_as_decided : (s : SignState) (octets : List ℕ) (id : MessageId) (code : Activation) (mode : ℕ) (r : Result ShownModel Cause)
     → id ≡ id_of s.table.order octets → code ≡ own_activation id → (id.memory ≡ current_buffer → ⊥)
-    → r ≡ decided s.config.face s.defaults s.table s.shown code → put_up_as_decided s id mode r ≡ put_up_code s octets mode
+    → r ≡ decided s.config.face s.settings.defaults s.table s.shown code → put_up_as_decided s id mode r ≡ put_up_code s octets mode
 unfolding put_up_code
 own_as_decided s octets id code mode r i own other e = grind arith
 
 pub own_accepted : {A : Type 0} (a : A) (s : SignState) (octets : List ℕ) (id : MessageId) (code : Activation) (mode : ℕ) → id ≡ id_of s.table.order octets
     → code ≡ own_activation id → (id.memory ≡ current_buffer → ⊥)
-    → Ok a ≡ unless_refused a (refusal s.config.face s.defaults s.table s.shown code)
-    → showing s (record (shown_by s.defaults s.table s.shown code) { mode = mode }) ≡ put_up_code s octets mode
+    → Ok a ≡ unless_refused a (refusal s.config.face s.settings.defaults s.table s.shown code)
+    → showing s (record (shown_by s.settings.defaults s.table s.shown code) { mode = mode }) ≡ put_up_code s octets mode
 own_accepted a s octets id code mode i own other e =
-    own_as_decided s octets id code mode (Ok (shown_by s.defaults s.table s.shown code)) i own other
-    (accepted_decision a s.config.face s.defaults s.table s.shown code e)
+    own_as_decided s octets id code mode (Ok (shown_by s.settings.defaults s.table s.shown code)) i own other
+    (accepted_decision a s.config.face s.settings.defaults s.table s.shown code e)
 
 pub own_refused : {A : Type 0} (a : A) (s : SignState) (octets : List ℕ) (id : MessageId) (code : Activation) (mode : ℕ) (cause : Cause) (blank : ShownModel)
     (told : List ℕ) → id ≡ id_of s.table.order octets → code ≡ own_activation id → (id.memory ≡ current_buffer → ⊥)
-    → Err cause ≡ unless_refused a (refusal s.config.face s.defaults s.table s.shown code) → blank ≡ blank_shown s.defaults mode
+    → Err cause ≡ unless_refused a (refusal s.config.face s.settings.defaults s.table s.shown code) → blank ≡ blank_shown s.settings.defaults mode
     → told ≡ octets_of_activation s.table.order code → with_refused_code (showing s blank) cause told ≡ put_up_code s octets mode
 own_refused a s octets id code mode cause blank told i own other e b t =
     ap (λ (blank : ShownModel). with_refused_code (showing s blank) cause told) b
-    ∙ ap (with_refused_code (showing s (blank_shown s.defaults mode)) cause) (t ∙ ap (octets_of_activation s.table.order) own)
-    ∙ own_as_decided s octets id code mode (Err cause) i own other (refused_decision a s.config.face s.defaults s.table s.shown code cause e)
+    ∙ ap (with_refused_code (showing s (blank_shown s.settings.defaults mode)) cause) (t ∙ ap (octets_of_activation s.table.order) own)
+    ∙ own_as_decided s octets id code mode (Err cause) i own other (refused_decision a s.config.face s.settings.defaults s.table s.shown code cause e)
 
 -- ---- a sign as it is made
 
@@ -195,10 +195,7 @@ pub made_state : (config : ConfigModel) (table : TableModel) (defaults : Default
     → defaults ≡ config.face.defaults → settings ≡ first_settings defaults → reports ≡ first_reports
     → shown ≡ blank_shown defaults power_recovery_mode → kept ≡ blank_shown defaults power_recovery_mode → IsKept (start config table)
     → IsKept (record (start config table) {
-      fallbacks = settings.fallbacks;
-      short_power_loss_time = settings.short_power_loss_time;
-      time_comm_loss = settings.time_comm_loss;
-      defaults = settings.defaults;
+      settings = settings;
       shown = shown;
       shown_at_power_loss = kept;
       reports = reports;

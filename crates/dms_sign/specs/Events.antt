@@ -14,14 +14,14 @@ use Rattle.dms_sign.specs.OwnCodes.{showing, put_up_code}
 -- The row that is being validated is settled, under the defaults of now.
 unfoldable pub after_settling : SignState → SignState
 after_settling s =
-    let face = under s.config.face s.defaults in
+    let face = under s.config.face s.settings.defaults in
     record s { table = settled face s.table; reports = settled_reports s.reports (verdict face s.table) }
 
 -- The message has a second less, with so many seconds left: at its end the code of the end of a duration is activated.
 abbrev pub counted_down : SignState → Option ℕ → SignState
 counted_down s None = s
 counted_down s (Some seconds) =
-    if nat_le seconds 1 then put_up_code s s.fallbacks.end_duration end_duration_mode
+    if nat_le seconds 1 then put_up_code s s.settings.fallbacks.end_duration end_duration_mode
     else showing s (record s.shown { remaining = Some (seconds - 1) })
 
 unfoldable pub after_duration : SignState → SignState
@@ -29,7 +29,7 @@ after_duration s = counted_down s s.shown.remaining
 
 -- the seconds of silence that are a loss of communications
 abbrev pub longest_silence : SignState → ℕ
-longest_silence s = 60 * s.time_comm_loss
+longest_silence s = 60 * s.settings.time_comm_loss
 
 -- one more second of silence
 abbrev pub quieter : SignState → SignState
@@ -41,7 +41,7 @@ unfoldable pub after_silence : SignState → SignState
 after_silence s =
     if nat_lt s.silent_seconds (longest_silence s)
     then (if s.silent_seconds + 1 == longest_silence s
-    then put_up_code (quieter s) s.fallbacks.communications_loss communications_loss_mode else quieter s)
+    then put_up_code (quieter s) s.settings.fallbacks.communications_loss communications_loss_mode else quieter s)
     else s
 
 -- A second: a row is settled, the duration goes on, and then the silence. A sign without power does nothing.
@@ -65,15 +65,16 @@ is_at_rest s =
 -- The power is lost: what is shown is kept, and the code of a power loss is activated.
 unfoldable pub after_power_loss : SignState → SignState
 after_power_loss s =
-    if s.powered then record (put_up_code (record s { shown_at_power_loss = s.shown }) s.fallbacks.power_loss
+    if s.powered then record (put_up_code (record s { shown_at_power_loss = s.shown }) s.settings.fallbacks.power_loss
     power_loss_mode) { powered = false }
     else s
 
 -- the code that is activated after a loss of so many seconds
 abbrev pub recovery_code : SignState → ℕ → List ℕ
 recovery_code s seconds =
-    if nat_lt 0 s.short_power_loss_time && nat_le seconds s.short_power_loss_time then s.fallbacks.short_power_recovery
-    else s.fallbacks.long_power_recovery
+    if nat_lt 0 s.settings.short_power_loss_time && nat_le seconds s.settings.short_power_loss_time
+    then s.settings.fallbacks.short_power_recovery
+    else s.settings.fallbacks.long_power_recovery
 
 -- what is there as the power returns: what was shown at its loss is shown, volatile rows are gone, and no second was
 -- silent

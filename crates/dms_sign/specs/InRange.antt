@@ -18,6 +18,7 @@ use Rattle.dms_table.specs.Stock.{has_ranges}
 use Rattle.dms_table.specs.Activation.{ShownModel, shown_row}
 use Rattle.dms_sign_access.specs.declared.reports.Reports.{Reports}
 use Rattle.dms_sign_access.specs.declared.settings.Fallbacks.{Fallbacks}
+use Rattle.dms_sign_access.specs.declared.settings.SignSettings.{SignSettings}
 use Rattle.dms_sign_access.specs.Ranges.{AreDefaultsInRange}
 use Rattle.dms_sign.specs.State.{ConfigModel, SignState}
 use Rattle.dms_sign.specs.Requests.{answer_of_any_size}
@@ -72,6 +73,13 @@ pub record AreFallbacksInRange (fallbacks : Fallbacks) : Type 0 where
 abbrev pub most_minutes : ℕ
 most_minutes = 65535
 
+-- the codes and the defaults are octets, the times numbers of 16 bits
+pub record AreSettingsInRange (settings : SignSettings) : Type 0 where
+  pub fallbacks : AreFallbacksInRange settings.fallbacks
+  pub short_power_loss_time : settings.short_power_loss_time ≤ 65535
+  pub time_comm_loss : settings.time_comm_loss ≤ most_minutes
+  pub defaults : AreDefaultsInRange settings.defaults
+
 -- seconds that are at most the most minutes, or no end
 abbrev pub IsTimeInRange : Option ℕ → Type 0
 IsTimeInRange None = ⊤
@@ -98,15 +106,12 @@ pub record AreReportsInRange (reports : Reports) : Type 0 where
 
 -- ---- signs
 
--- Times are numbers of 16 bits, and the silence is counted no further than to the longest time of it.
+-- The silence is counted no further than to the longest time of it.
 pub record IsSignInRange (s : SignState) : Type 0 where
   pub config : IsConfigInRange s.config
   pub table : IsTableInRange s.table
-  pub fallbacks : AreFallbacksInRange s.fallbacks
-  pub short_power_loss_time : s.short_power_loss_time ≤ 65535
-  pub time_comm_loss : s.time_comm_loss ≤ most_minutes
+  pub settings : AreSettingsInRange s.settings
   pub silent_seconds : s.silent_seconds ≤ 60 * most_minutes
-  pub defaults : AreDefaultsInRange s.defaults
   pub shown : IsShownInRange s.shown
   pub shown_at_power_loss : IsShownInRange s.shown_at_power_loss
   pub reports : AreReportsInRange s.reports

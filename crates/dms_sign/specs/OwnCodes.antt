@@ -28,7 +28,7 @@ own_activation id = record { minutes = 65535; priority = 255; id = id; address =
 -- reported.
 abbrev pub put_up_as_decided : SignState → MessageId → ℕ → Result ShownModel Cause → SignState
 put_up_as_decided s id mode (Ok shown) = showing s (record shown { mode = mode })
-put_up_as_decided s id mode (Err cause) = with_refused_code (showing s (blank_shown s.defaults mode)) cause
+put_up_as_decided s id mode (Err cause) = with_refused_code (showing s (blank_shown s.settings.defaults mode)) cause
     (octets_of_activation s.table.order (own_activation id))
 
 -- what is shown stays, without an end
@@ -41,4 +41,4 @@ unfoldable pub put_up_code : SignState → List ℕ → ℕ → SignState
 put_up_code s octets mode =
     let id = id_of s.table.order octets in
     if id.memory == current_buffer then staying s mode
-    else put_up_as_decided s id mode (decided s.config.face s.defaults s.table s.shown (own_activation id))
+    else put_up_as_decided s id mode (decided s.config.face s.settings.defaults s.table s.shown (own_activation id))

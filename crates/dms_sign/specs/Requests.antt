@@ -96,14 +96,14 @@ as_asked old new bindings index (Some table) = granted (record new { table = tab
 -- Where no time remains the end of the duration has come (NTCIP 1203, dmsMessageTimeRemaining).
 abbrev pub with_remaining : SignState → ℕ → SignState
 with_remaining s minutes =
-    if minutes == 0 then put_up_code s s.fallbacks.end_duration end_duration_mode
+    if minutes == 0 then put_up_code s s.settings.fallbacks.end_duration end_duration_mode
     else showing s (record s.shown { remaining = seconds_of minutes })
 
 -- the answer to a command
 abbrev pub commanded : SignState → SignState → List VarBind → ℕ → Write → Answer
 commanded old new bindings index (AskRow id ask) = as_asked old new bindings index (asked new.table id ask)
 commanded old new bindings index (Activate octets) = as_decided old new bindings index octets
-    (decided new.config.face new.defaults new.table new.shown (activation_of old.table.order octets))
+    (decided new.config.face new.settings.defaults new.table new.shown (activation_of old.table.order octets))
 commanded old new bindings index (SetRemaining minutes) = granted (with_remaining new minutes) bindings
 commanded old new bindings index (SetNumber object number) = granted new bindings
 commanded old new bindings index (SetCode object octets) = granted new bindings

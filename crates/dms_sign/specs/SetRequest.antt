@@ -8,14 +8,12 @@ use Rattle.dms_wire.specs.declared.error_status.ErrorStatus.TheVariants.{NoSuchN
 use Rattle.dms_wire.specs.Message.{VarBind}
 use Rattle.dms_codes.specs.Status.{is_modifying}
 use Rattle.dms_table.specs.Rows.{TableModel, RowReading, row_read, written}
-use Rattle.dms_mib.specs.declared.scalar.Scalar.TheVariants.{ShortPowerLossTime, TimeCommLoss}
 use Rattle.dms_mib.specs.declared.instance.Instance.{Instance}
 use Rattle.dms_mib_instances.specs.Objects.{instance_named}
 use Rattle.dms_sign.specs.State.{SignState}
 use Rattle.dms_sign_access.specs.Access.{Write, SetField, is_command, is_settable, write_of}
 use Rattle.dms_sign_access.specs.MetNames.{is_among}
-use Rattle.dms_sign_access.specs.Assignment.{given, number_for}
-use Rattle.dms_sign_access.specs.Settings.{codes_by, defaults_by}
+use Rattle.dms_sign_access.specs.Settings.{set_by}
 
 -- ---- what keeps a SET from writing
 
@@ -91,8 +89,5 @@ with_writes table (write ∷ writes) = with_writes (with_write table write) writ
 unfoldable pub assigned : SignState → List Write → SignState
 assigned s writes = record s {
   table = with_writes s.table writes;
-  fallbacks = codes_by s.fallbacks writes;
-  short_power_loss_time = given (number_for ShortPowerLossTime) writes s.short_power_loss_time;
-  time_comm_loss = given (number_for TimeCommLoss) writes s.time_comm_loss;
-  defaults = defaults_by s.defaults writes;
+  settings = set_by s.settings writes;
 }

@@ -4,6 +4,7 @@ use Rattle.dms_wire.specs.Message.{VarBind}
 use Rattle.dms_wire.specs.declared.error_status.ErrorStatus.TheVariants.{NoError}
 use Rattle.dms_codes.specs.declared.codes.Activation.{Activation}
 use Rattle.dms_sign_access.specs.declared.settings.SignSettings.{SignSettings}
+use Rattle.dms_sign_access.specs.Settings.{set_by}
 use Rattle.dms_sign_access.specs.Access.{Write, SetNumber, SetCode, SetField, AskRow, Activate, SetRemaining}
 use Rattle.dms_sign.specs.declared.sign.set_request.SetRefusal.{SetRefusal}
 use Rattle.dms_sign.specs.State.{SignState}
@@ -41,9 +42,6 @@ is_field (SetRemaining minutes) = false
 abbrev pub StaysWithout : Bool → SignState → List VarBind → Type 0
 StaysWithout fields s bindings = fields ≡ false → with_writes s.table (writes_of s bindings) ≡ s.table
 
--- the settings are those of the state
-pub record AreSettings (settings : SignSettings) (s : SignState) : Type 0 where
-  pub fallbacks : settings.fallbacks ≡ s.fallbacks
-  pub short_power_loss_time : settings.short_power_loss_time ≡ s.short_power_loss_time
-  pub time_comm_loss : settings.time_comm_loss ≡ s.time_comm_loss
-  pub defaults : settings.defaults ≡ s.defaults
+-- the settings are those that the bindings leave
+abbrev pub AreLeft : SignSettings → List VarBind → SignState → Type 0
+AreLeft settings bindings s = settings ≡ set_by s.settings (writes_of s bindings)

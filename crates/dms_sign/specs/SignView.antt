@@ -10,11 +10,8 @@ abbrev pub state_of : Inside → SignState
 state_of s = record {
   config = record { face = s.face; reader = s.reader.items; writer = s.writer.items };
   table = s.table;
-  fallbacks = s.settings.fallbacks;
-  short_power_loss_time = s.settings.short_power_loss_time;
-  time_comm_loss = s.settings.time_comm_loss;
+  settings = s.settings;
   silent_seconds = s.silent_seconds;
-  defaults = s.settings.defaults;
   shown = s.shown;
   shown_at_power_loss = s.shown_at_power_loss;
   reports = s.reports;

@@ -1,14 +1,13 @@
 -- The state of a sign, and how it starts (the values at the start are this profile's).
 use Rattle.std.specs.Prelude.{ℕ, Bool, true, List}
-use Rattle.dms_face.specs.declared.defaults.Defaults.{Defaults}
 use Rattle.dms_face.specs.Face.{FaceModel}
 use Rattle.dms_table.specs.Rows.{TableModel}
 use Rattle.dms_codes.specs.declared.mode.Mode.TheVariants.{PowerRecovery, CommunicationsLoss, PowerLoss, EndDuration}
 use Rattle.dms_codes.specs.Mode.{mode_number}
 use Rattle.dms_table.specs.Activation.{ShownModel, blank_shown}
 use Rattle.dms_sign_access.specs.declared.reports.Reports.{Reports}
-use Rattle.dms_sign_access.specs.declared.settings.Fallbacks.{Fallbacks}
-use Rattle.dms_sign_access.specs.Settings.{first_fallbacks}
+use Rattle.dms_sign_access.specs.declared.settings.SignSettings.{SignSettings}
+use Rattle.dms_sign_access.specs.Settings.{first_settings}
 use Rattle.dms_sign_access.specs.Reports.{first_reports}
 
 -- ---- states
@@ -23,16 +22,10 @@ pub record SignState : Type 0 where
   pub config : ConfigModel
   -- its rows, what the sign has, and the order of the octets of its checksums
   pub table : TableModel
-  -- the codes of the messages that it activates by itself
-  pub fallbacks : Fallbacks
-  -- dmsShortPowerLossTime: the seconds of a loss of power that is still short
-  pub short_power_loss_time : ℕ
-  -- dmsTimeCommLoss: the minutes of silence that are a loss of communications; 0 is never
-  pub time_comm_loss : ℕ
+  -- the values of the objects that can be set, but for those of the message table
+  pub settings : SignSettings
   -- the seconds since a datagram was answered
   pub silent_seconds : ℕ
-  -- what holds where a text says nothing else (NTCIP 1203, multiCfg)
-  pub defaults : Defaults
   pub shown : ShownModel
   -- what was shown when the power was lost
   pub shown_at_power_loss : ShownModel
@@ -60,11 +53,8 @@ abbrev pub start : ConfigModel → TableModel → SignState
 start config table = record {
   config = config;
   table = table;
-  fallbacks = first_fallbacks;
-  short_power_loss_time = 0;
-  time_comm_loss = 0;
+  settings = first_settings config.face.defaults;
   silent_seconds = 0;
-  defaults = config.face.defaults;
   shown = blank_shown config.face.defaults power_recovery_mode;
   shown_at_power_loss = blank_shown config.face.defaults power_recovery_mode;
   reports = first_reports;

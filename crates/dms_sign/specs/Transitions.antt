@@ -76,11 +76,11 @@ IsOwnCode order fallbacks id =
 pub data ShowsNow (old new : SignState) (accepted : Option Activation) : Type 0 where
   stayed : IsSameMessage old.shown new.shown → ShowsNow old new accepted
   came_back : IsSameMessage old.shown_at_power_loss new.shown → ShowsNow old new accepted
-  blanked : IsBlankedUnder new.defaults new.shown → ShowsNow old new accepted
+  blanked : IsBlankedUnder new.settings.defaults new.shown → ShowsNow old new accepted
   activated : (code : Activation) → accepted ≡ Some code → new.shown.source ≡ code.id
-      → IsRowOf new.config.face new.defaults new.table new.shown → ShowsNow old new accepted
-  fell_back : IsOwnCode new.table.order new.fallbacks new.shown.source
-      → IsRowOf new.config.face new.defaults new.table new.shown → ShowsNow old new accepted
+      → IsRowOf new.config.face new.settings.defaults new.table new.shown → ShowsNow old new accepted
+  fell_back : IsOwnCode new.table.order new.settings.fallbacks new.shown.source
+      → IsRowOf new.config.face new.settings.defaults new.table new.shown → ShowsNow old new accepted
 
 -- ---- the step
 
@@ -88,10 +88,10 @@ pub data ShowsNow (old new : SignState) (accepted : Option Activation) : Type 0 
 -- of power is what was before, or what was shown.
 pub record IsSignStep (old new : SignState) (accepted : Option Activation) : Type 0 where
   pub config : new.config ≡ old.config
-  pub table : TableStep (under old.config.face old.defaults) old.table new.table
+  pub table : TableStep (under old.config.face old.settings.defaults) old.table new.table
   pub shown : ShowsNow old new accepted
   pub shown_at_power_loss : (new.shown_at_power_loss ≡ old.shown_at_power_loss) ⊎ (new.shown_at_power_loss ≡ old.shown)
 
 -- the defaults are in their ranges, and name a font of the face
 abbrev pub HasFitDefaults : SignState → Type 0
-HasFitDefaults s = IsTrue (fit s.config.face.fonts s.defaults)
+HasFitDefaults s = IsTrue (fit s.config.face.fonts s.settings.defaults)

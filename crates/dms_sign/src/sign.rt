@@ -173,7 +173,7 @@ impl Sign {
 
     /// The codes of the messages that the sign activates by itself.
     fn fallbacks(&self) -> Fallbacks
-        ensures value { result ≡ self.now.fallbacks }
+        ensures value { result ≡ self.now.settings.fallbacks }
         ensures in_range { AreFallbacksInRange result }
     {
         self.settings.fallbacks
@@ -191,9 +191,11 @@ impl Sign {
     /// Shows the message that a code names, in place of what was shown, with this mode.
     fn show_named(&mut self, code: &Activation, mode: Mode)
         requires { IsShownInRange
-            (record (shown_by self.old.defaults self.old.table self.old.shown code.now) { mode = mode_number mode }) }
+            (record (shown_by self.old.settings.defaults self.old.table self.old.shown code.now)
+            { mode = mode_number mode }) }
         ensures { self.new ≡ showing self.old
-            (record (shown_by self.old.defaults self.old.table self.old.shown code.now) { mode = mode_number mode }) }
+            (record (shown_by self.old.settings.defaults self.old.table self.old.shown code.now)
+            { mode = mode_number mode }) }
     {
         self.table
             .put_up(&self.settings.defaults, code, &mut self.shown);

@@ -30,6 +30,7 @@ use Rattle.dms_sign.specs.State.{ConfigModel, SignState, start}
 use Rattle.dms_sign.specs.Values.{scalar_value, value_at, value_of, value_after, bound}
 use Rattle.dms_sign.specs.OwnCodes.{put_up_code}
 use Rattle.dms_sign_access.specs.Access.{is_settable_object, object_write, cell_write, write_of}
+use Rattle.dms_sign_access.specs.Settings.{set_by}
 use Rattle.dms_sign.specs.SetRequest.{settable_instance, write_at, causes, assigned}
 use Rattle.dms_sign.specs.Requests.{Answer, answer_of_any_size}
 use Rattle.dms_sign.specs.Reply.{Received, reply_to, received}
@@ -100,12 +101,12 @@ code twelve = octets (Scalar ActivateMessage) (octets_of twelve)
 
 -- what comes of a datagram of these digits
 unfoldable pub datagram : SignState → List ℕ → Received
-unfolding octet_bits element integer_octets name_octets binding_octets numbers_octets pdu_octets canonical message_of instances name_of scalar_value value_at value_of value_after is_settable_object object_write cell_write write_of settable_instance write_at causes assigned answer_of_any_size reply_to received
+unfolding octet_bits element integer_octets name_octets binding_octets numbers_octets pdu_octets canonical message_of instances name_of scalar_value value_at value_of value_after is_settable_object object_write cell_write write_of settable_instance write_at causes set_by assigned answer_of_any_size reply_to received
 datagram s pairs = received s (octets_of pairs)
 
 -- what is answered, where a reply may have any size
 unfoldable pub answer : SignState → Kind → List VarBind → Answer
-unfolding octet_bits fault_of outcomes_within item_at item_after_opening item_after_closing tag_at body_item name_at letters_name end_name item_of flash_of font_of times_of page_time_of digits.number_of digits.decimal_of digits.value_of digits.cut digits.version_of instances name_of scalar_value value_at value_of value_after is_settable_object object_write cell_write write_of settable_instance write_at causes assigned put_up_code answer_of_any_size
+unfolding octet_bits fault_of outcomes_within item_at item_after_opening item_after_closing tag_at body_item name_at letters_name end_name item_of flash_of font_of times_of page_time_of digits.number_of digits.decimal_of digits.value_of digits.cut digits.version_of instances name_of scalar_value value_at value_of value_after is_settable_object object_write cell_write write_of settable_instance write_at causes set_by assigned put_up_code answer_of_any_size
 answer s kind bindings = answer_of_any_size s (request kind bindings)
 
 -- the status and the index that a SET is answered

@@ -94,7 +94,7 @@ commanded_within : (old new : SignState) (bindings : List VarBind) (index : ℕ)
 commanded_within old new bindings index (AskRow id ask) few within = as_asked_within old new bindings index (asked new.table id ask) few within
 commanded_within old new bindings index (Activate octets) few within =
     as_decided_within old new bindings index octets
-    (decided new.config.face new.defaults new.table new.shown (activation_of old.table.order octets)) few within
+    (decided new.config.face new.settings.defaults new.table new.shown (activation_of old.table.order octets)) few within
 commanded_within old new bindings index (SetRemaining minutes) few within = granted_within (with_remaining new minutes) bindings bindings within
 commanded_within old new bindings index (SetNumber object number) few within = granted_within new bindings bindings within
 commanded_within old new bindings index (SetCode object octets) few within = granted_within new bindings bindings within

@@ -109,7 +109,7 @@ one_remaining_if : (b : Bool) (s other : SignState) (octets : List ℕ) (mode : 
 one_remaining_if b s other octets mode keeps is = grind (arith, one_code, one_kept)
 
 one_remaining : (s : SignState) (minutes : ℕ) → IsTable s.table → IsTable (with_remaining s minutes).table
-one_remaining s minutes is = one_remaining_if (minutes == 0) s _ s.fallbacks.end_duration _ refl is
+one_remaining s minutes is = one_remaining_if (minutes == 0) s _ s.settings.fallbacks.end_duration _ refl is
 
 one_commanded : (old new : SignState) (bindings : List VarBind) (index : ℕ) (write : Write) → IsTable old.table → IsTable new.table
     → IsTable (commanded old new bindings index write).after.table
@@ -146,7 +146,7 @@ one_received s datagram is = one_message s (message_of datagram) is
 
 one_after_settling : (s : SignState) → IsTable (after_settling s).table
 unfolding after_settling
-one_after_settling s = one_settled (under s.config.face s.defaults) s.table
+one_after_settling s = one_settled (under s.config.face s.settings.defaults) s.table
 
 one_counted_down : (s : SignState) (o : Option ℕ) → IsTable s.table → IsTable (counted_down s o).table
 one_counted_down s o is = grind (arith, one_remaining_if)
@@ -172,7 +172,7 @@ one_after_tick s is = grind (arith, one_if, one_after_silence, one_after_duratio
 
 pub one_after_power_loss : (s : SignState) → IsTable s.table → IsTable (after_power_loss s).table
 unfolding after_power_loss
-one_after_power_loss s is = one_if s.powered _ s (one_code (record s { shown_at_power_loss = s.shown }) s.fallbacks.power_loss _ is) is
+one_after_power_loss s is = one_if s.powered _ s (one_code (record s { shown_at_power_loss = s.shown }) s.settings.fallbacks.power_loss _ is) is
 
 pub one_after_power_return : (s : SignState) (seconds : ℕ) → IsTable s.table → IsTable (after_power_return s seconds).table
 unfolding after_power_return

@@ -26,12 +26,12 @@ use Rattle.dms_sign.proofs.StepShown.{same_as, same_then, blank_as, row_as, Disp
 
 -- ---- a step, and then one that leaves all but what is shown
 
-row_moved : (mid new : SignState) (shown : ShownModel) → KeepsRest mid new → IsRowOf mid.config.face mid.defaults mid.table shown
-    → IsRowOf new.config.face new.defaults new.table shown
+row_moved : (mid new : SignState) (shown : ShownModel) → KeepsRest mid new → IsRowOf mid.config.face mid.settings.defaults mid.table shown
+    → IsRowOf new.config.face new.settings.defaults new.table shown
 row_moved mid new shown kept_rest is = grind arith
 
-code_moved : (mid new : SignState) (a b : MessageId) → KeepsRest mid new → b ≡ a → IsOwnCode mid.table.order mid.fallbacks a
-    → IsOwnCode new.table.order new.fallbacks b
+code_moved : (mid new : SignState) (a b : MessageId) → KeepsRest mid new → b ≡ a → IsOwnCode mid.table.order mid.settings.fallbacks a
+    → IsOwnCode new.table.order new.settings.fallbacks b
 code_moved mid new a b kept_rest same own = grind arith
 
 shows_on : (old mid new : SignState) (a : Option Activation) → KeepsRest mid new → IsSameMessage mid.shown new.shown → ShowsNow old mid a → ShowsNow old new a
@@ -40,7 +40,7 @@ shows_on old mid new a kept_rest same (came_back is) = came_back (same_then old.
 shows_on old mid new a kept_rest same (blanked is) = grind (arith, same_then, blank_as, row_moved, row_as, code_moved)
 shows_on old mid new a kept_rest same (activated code accepted source is) =
     activated code accepted (same.source ∙ source)
-    (row_moved mid new new.shown kept_rest (row_as mid.config.face mid.defaults mid.table mid.shown new.shown same is))
+    (row_moved mid new new.shown kept_rest (row_as mid.config.face mid.settings.defaults mid.table mid.shown new.shown same is))
 shows_on old mid new a kept_rest same (fell_back own is) = grind (arith, same_then, blank_as, row_moved, row_as, code_moved)
 
 step_with : (old mid new : SignState) (a : Option Activation) → IsSignStep old mid a → KeepsRest mid new → ShowsNow old new a → IsSignStep old new a
@@ -50,13 +50,13 @@ step_with old mid new a step kept_rest shows = grind arith
 step_on : (old mid new : SignState) (a : Option Activation) → IsSignStep old mid a → KeepsRest mid new → IsSameMessage mid.shown new.shown → IsSignStep old new a
 step_on old mid new a step kept_rest same = step_with old mid new a step kept_rest (shows_on old mid new a kept_rest same step.shown)
 
-shows_code : (old mid new : SignState) (id : MessageId) → ShowsNow old mid None → IsOwnCode mid.table.order mid.fallbacks id → KeepsRest mid new
-    → Displays mid.config.face mid.defaults mid.table mid.shown id new.shown → ShowsNow old new None
+shows_code : (old mid new : SignState) (id : MessageId) → ShowsNow old mid None → IsOwnCode mid.table.order mid.settings.fallbacks id → KeepsRest mid new
+    → Displays mid.config.face mid.settings.defaults mid.table mid.shown id new.shown → ShowsNow old new None
 shows_code old mid new id shows own kept_rest p = grind arith
 
 -- a code of the sign's own is put up
 step_code : (old mid : SignState) (octets : List ℕ) (mode : ℕ) → IsSignStep old mid None
-    → IsOwnCode mid.table.order mid.fallbacks (id_of mid.table.order octets) → IsSignStep old (put_up_code mid octets mode) None
+    → IsOwnCode mid.table.order mid.settings.fallbacks (id_of mid.table.order octets) → IsSignStep old (put_up_code mid octets mode) None
 step_code old mid octets mode step own = grind (arith, code_puts_up, step_with, shows_code)
 
 -- nothing happens
@@ -82,25 +82,25 @@ step_written s new is = grind arith
 abbrev Answers : SignState → Answer → Type 0
 Answers s answer = IsSignStep s answer.after answer.accepted
 
-shows_decided : (s mid new : SignState) (code : Activation) → mid.shown ≡ s.shown → new.config ≡ mid.config → new.defaults ≡ mid.defaults → new.table ≡ mid.table
-    → Displays mid.config.face mid.defaults mid.table mid.shown code.id new.shown → ShowsNow s new (Some code)
+shows_decided : (s mid new : SignState) (code : Activation) → mid.shown ≡ s.shown → new.config ≡ mid.config → new.settings.defaults ≡ mid.settings.defaults → new.table ≡ mid.table
+    → Displays mid.config.face mid.settings.defaults mid.table mid.shown code.id new.shown → ShowsNow s new (Some code)
 shows_decided s mid new code was config defaults table (still same) = stayed (subst (λ x. IsSameMessage x new.shown) was same)
 shows_decided s mid new code was config defaults table (empty is) = blanked (subst (λ d. IsBlankedUnder d new.shown) (sym defaults) is)
 shows_decided s mid new code was config defaults table (of_row source is) =
     activated code refl source
-    (subst (λ (c : ConfigModel). IsRowOf c.face new.defaults new.table new.shown) (sym config)
+    (subst (λ (c : ConfigModel). IsRowOf c.face new.settings.defaults new.table new.shown) (sym config)
     (subst (λ (d : Defaults). IsRowOf mid.config.face d new.table new.shown) (sym defaults)
-    (subst (λ (t : TableModel). IsRowOf mid.config.face mid.defaults t new.shown) (sym table) is)))
+    (subst (λ (t : TableModel). IsRowOf mid.config.face mid.settings.defaults t new.shown) (sym table) is)))
 
 answers_decided : (s new : SignState) (bindings : List VarBind) (index : ℕ) (octets : List ℕ) (r : Result ShownModel Cause) → IsWritten s new
-    → decided new.config.face new.defaults new.table new.shown (activation_of s.table.order octets) ≡ r
+    → decided new.config.face new.settings.defaults new.table new.shown (activation_of s.table.order octets) ≡ r
     → Answers s (as_decided s new bindings index octets r)
 answers_decided s new bindings index octets (Ok shown) is e =
     let code = activation_of s.table.order octets in
-    let displays = decided_displays new.config.face new.defaults new.table new.shown code shown e in
+    let displays = decided_displays new.config.face new.settings.defaults new.table new.shown code shown e in
     record {
       config = is.config;
-      table = step_kept (under s.config.face s.defaults) s.table new.table is.rows;
+      table = step_kept (under s.config.face s.settings.defaults) s.table new.table is.rows;
       shown = shows_decided s new (as_decided s new bindings index octets (Ok shown)).after code is.shown refl refl refl displays;
       shown_at_power_loss = inl is.shown_at_power_loss;
     }
@@ -115,8 +115,8 @@ answers_asked s new bindings index (Some table) is each =
     (record { config = is.config; rows = rows_then s.table new.table table is.rows (each table refl); shown = is.shown; shown_at_power_loss = is.shown_at_power_loss })
 
 step_remaining_if : (b : Bool) (s new : SignState) (minutes : ℕ) → IsSignStep s new None
-    → IsSignStep s (cond b (put_up_code new new.fallbacks.end_duration end_duration_mode) (showing new (record new.shown { remaining = seconds_of minutes }))) None
-step_remaining_if true s new minutes step = step_code s new new.fallbacks.end_duration end_duration_mode step (inr (inr (inr (inl refl))))
+    → IsSignStep s (cond b (put_up_code new new.settings.fallbacks.end_duration end_duration_mode) (showing new (record new.shown { remaining = seconds_of minutes }))) None
+step_remaining_if true s new minutes step = step_code s new new.settings.fallbacks.end_duration end_duration_mode step (inr (inr (inr (inl refl))))
 step_remaining_if false s new minutes step = grind (arith, step_code, step_on)
 
 step_remaining : (s new : SignState) (minutes : ℕ) → IsSignStep s new None → IsSignStep s (with_remaining new minutes) None
@@ -155,7 +155,7 @@ answers_any s m = answers_kind s m m.kind
 step_heard : (s : SignState) (m : SnmpMessage) (b : Bool) → IsSignStep s (cond b (heard s m) (dropped s)).after (cond b (heard s m) (dropped s)).accepted
 step_heard s m true =
     step_on s (answer_of_any_size s m).after (heard s m).after (answer_of_any_size s m).accepted (answers_any s m)
-    (record { config = refl; table = refl; fallbacks = refl; defaults = refl; shown_at_power_loss = refl }) (same_as (answer_of_any_size s m).after.shown)
+    (record { config = refl; table = refl; settings = refl; shown_at_power_loss = refl }) (same_as (answer_of_any_size s m).after.shown)
 step_heard s m false = step_none s
 
 step_message : (s : SignState) (o : Option SnmpMessage) → IsSignStep s (on_message_if s o).after (on_message_if s o).accepted
@@ -172,14 +172,14 @@ step_settling : (s : SignState) → IsSignStep s (after_settling s) None
 unfolding after_settling
 step_settling s = record {
   config = refl;
-  table = settled_step (under s.config.face s.defaults) s.table;
+  table = settled_step (under s.config.face s.settings.defaults) s.table;
   shown = stayed (same_as s.shown);
   shown_at_power_loss = inl refl;
 }
 
 step_down_if : (b : Bool) (s mid : SignState) (remaining : Option ℕ) → IsSignStep s mid None
-    → IsSignStep s (cond b (put_up_code mid mid.fallbacks.end_duration end_duration_mode) (showing mid (record mid.shown { remaining = remaining }))) None
-step_down_if true s mid remaining step = step_code s mid mid.fallbacks.end_duration end_duration_mode step (inr (inr (inr (inl refl))))
+    → IsSignStep s (cond b (put_up_code mid mid.settings.fallbacks.end_duration end_duration_mode) (showing mid (record mid.shown { remaining = remaining }))) None
+step_down_if true s mid remaining step = step_code s mid mid.settings.fallbacks.end_duration end_duration_mode step (inr (inr (inr (inl refl))))
 step_down_if false s mid remaining step = grind (arith, step_code, step_on)
 
 step_down : (s mid : SignState) (o : Option ℕ) → IsSignStep s mid None → IsSignStep s (counted_down mid o) None
@@ -194,9 +194,9 @@ step_quieter : (s mid : SignState) → IsSignStep s mid None → IsSignStep s (q
 step_quieter s mid step = grind arith
 
 step_silence_if : (counts ends : Bool) (s mid : SignState) → IsSignStep s mid None
-    → IsSignStep s (cond counts (cond ends (put_up_code (quieter mid) mid.fallbacks.communications_loss communications_loss_mode) (quieter mid)) mid) None
+    → IsSignStep s (cond counts (cond ends (put_up_code (quieter mid) mid.settings.fallbacks.communications_loss communications_loss_mode) (quieter mid)) mid) None
 step_silence_if true true s mid step =
-    step_code s (quieter mid) mid.fallbacks.communications_loss communications_loss_mode (step_quieter s mid step) (inr (inr (inr (inr refl))))
+    step_code s (quieter mid) mid.settings.fallbacks.communications_loss communications_loss_mode (step_quieter s mid step) (inr (inr (inr (inr refl))))
 step_silence_if true false s mid step = step_quieter s mid step
 step_silence_if false ends s mid step = step
 
@@ -225,20 +225,20 @@ pub step_power_loss : (s : SignState) → IsSignStep s (after_power_loss s) None
 unfolding after_power_loss
 step_power_loss s =
     let mid : SignState = record s { shown_at_power_loss = s.shown } in
-    step_if s.powered s (record (put_up_code mid s.fallbacks.power_loss power_loss_mode) { powered = false }) s
-    (step_off s (put_up_code mid s.fallbacks.power_loss power_loss_mode)
-    (step_code s mid s.fallbacks.power_loss power_loss_mode (step_keeping s) (inr (inr (inl refl))))) (step_none s)
+    step_if s.powered s (record (put_up_code mid s.settings.fallbacks.power_loss power_loss_mode) { powered = false }) s
+    (step_off s (put_up_code mid s.settings.fallbacks.power_loss power_loss_mode)
+    (step_code s mid s.settings.fallbacks.power_loss power_loss_mode (step_keeping s) (inr (inr (inl refl))))) (step_none s)
 
 step_restored : (s : SignState) → IsSignStep s (restored s) None
 step_restored s = record {
   config = refl;
-  table = step_kept (under s.config.face s.defaults) s.table (after_power s.table) (after_power_keeps s.table);
+  table = step_kept (under s.config.face s.settings.defaults) s.table (after_power s.table) (after_power_keeps s.table);
   shown = came_back (same_as s.shown_at_power_loss);
   shown_at_power_loss = inl refl;
 }
 
 recovery_is_own : (b : Bool) (s : SignState)
-    → IsOwnCode s.table.order s.fallbacks (id_of s.table.order (cond b s.fallbacks.short_power_recovery s.fallbacks.long_power_recovery))
+    → IsOwnCode s.table.order s.settings.fallbacks (id_of s.table.order (cond b s.settings.fallbacks.short_power_recovery s.settings.fallbacks.long_power_recovery))
 recovery_is_own b s = grind arith
 
 pub step_power_return : (s : SignState) (seconds : ℕ) → IsSignStep s (after_power_return s seconds) None
@@ -246,4 +246,4 @@ unfolding after_power_return
 step_power_return s seconds =
     step_if s.powered s s (put_up_code (restored s) (recovery_code s seconds) power_recovery_mode) (step_none s)
     (step_code s (restored s) (recovery_code s seconds) power_recovery_mode (step_restored s)
-    (recovery_is_own (nat_lt 0 s.short_power_loss_time && nat_le seconds s.short_power_loss_time) s))
+    (recovery_is_own (nat_lt 0 s.settings.short_power_loss_time && nat_le seconds s.settings.short_power_loss_time) s))

@@ -82,7 +82,7 @@ unfolding datagram answer
 copy_has_font_one = refl
 
 -- those of now are others
-sign_has_font_two : copied_sign.defaults.font ≡ 2
+sign_has_font_two : copied_sign.settings.defaults.font ≡ 2
 unfolding datagram answer
 sign_has_font_two = refl
 
@@ -111,7 +111,7 @@ unfolding datagram answer without_power with_power
 loss_of_power_keeps_font_one = refl
 
 -- the sign keeps what was written
-loss_of_power_keeps_font_two : returned_sign.defaults.font ≡ 2
+loss_of_power_keeps_font_two : returned_sign.settings.defaults.font ≡ 2
 unfolding datagram answer without_power with_power
 loss_of_power_keeps_font_two = refl
 

@@ -20,7 +20,7 @@ after_short_power_loss_time = refl
 -- ---- a minute of silence
 
 abbrev one_minute : SignState
-one_minute = record bench_sign { time_comm_loss = 1 }
+one_minute = record bench_sign { settings = record bench_sign.settings { time_comm_loss = 1 } }
 
 -- dmsTimeCommLoss is set to 1
 time_is_set : (datagram bench_sign (codes "302b020100040561646d696ea31f02010902010002010030143012060d2b060104018936040203060d00020101")).after ≡ one_minute

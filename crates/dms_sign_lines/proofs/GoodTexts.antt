@@ -69,9 +69,9 @@ shown_next old new accepted was fits same (stayed message) =
     drawn_as new.config.face old.shown new.shown message (drawn_still old.config new.config old.shown same was.shown)
 shown_next old new accepted was fits same (came_back message) =
     drawn_as new.config.face old.shown_at_power_loss new.shown message (drawn_still old.config new.config old.shown_at_power_loss same was.shown_at_power_loss)
-shown_next old new accepted was fits same (blanked is) = drawn_blank new.config.face new.defaults new.shown fits is
-shown_next old new accepted was fits same (activated code e source is) = drawn_row new.config.face new.defaults new.table new.shown fits is
-shown_next old new accepted was fits same (fell_back own is) = drawn_row new.config.face new.defaults new.table new.shown fits is
+shown_next old new accepted was fits same (blanked is) = drawn_blank new.config.face new.settings.defaults new.shown fits is
+shown_next old new accepted was fits same (activated code e source is) = drawn_row new.config.face new.settings.defaults new.table new.shown fits is
+shown_next old new accepted was fits same (fell_back own is) = drawn_row new.config.face new.settings.defaults new.table new.shown fits is
 
 kept_next : (old new : SignState) → ShowsGoodTexts old → new.config ≡ old.config → (new.shown_at_power_loss ≡ old.shown_at_power_loss) ⊎ (new.shown_at_power_loss ≡ old.shown) → CanBeDrawn new.config.face new.shown_at_power_loss
 kept_next old new was same (inl e) =

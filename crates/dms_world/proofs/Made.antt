@@ -91,7 +91,7 @@ made_of_octets : (config : ConfigModel) (table : TableModel) → IsSignInRange (
 made_of_octets config table is = record {
   reader = is.config.reader;
   writer = is.config.writer;
-  defaults = is.defaults;
+  defaults = is.settings.defaults;
   texts = All-from_recursion (λ (row : RowModel). AllBelowBase 256 row.text) table.permanent (texts table.permanent is.table.permanent);
   owners = All-from_recursion (λ (row : RowModel). AllBelowBase 256 row.owner) table.permanent (owners table.permanent is.table.permanent);
 }

@@ -74,8 +74,8 @@ commanded_up : (old new : SignState) (bindings : List VarBind) (index : ℕ) (wr
     → (commanded old new bindings index write).accepted ≡ Some a → HasItsChecksum a (commanded old new bindings index write).after.shown
 commanded_up old new bindings index (AskRow id ask) a e = absurd (asked_accepts old new bindings index _ a e)
 commanded_up old new bindings index (Activate octets) a e =
-    up_by old new bindings index octets (decided new.config.face new.defaults new.table new.shown (activation_of old.table.order octets)) a
-    (λ up is. decided_up new.config.face new.defaults new.table new.shown up (activation_of old.table.order octets) is) e
+    up_by old new bindings index octets (decided new.config.face new.settings.defaults new.table new.shown (activation_of old.table.order octets)) a
+    (λ up is. decided_up new.config.face new.settings.defaults new.table new.shown up (activation_of old.table.order octets) is) e
 commanded_up old new bindings index (SetRemaining minutes) a e = absurd (cc)
 commanded_up old new bindings index (SetNumber object number) a e = absurd (cc)
 commanded_up old new bindings index (SetCode object octets) a e = absurd (cc)

@@ -59,7 +59,7 @@ served : (world : WorldModel) (events : List EventModel) (count memory number : 
 served world events count memory number row p = grind arith
 
 validated_row : (world : WorldModel) (events : List EventModel) (count : ℕ) → IsFresh world
-    → IsRowOf (world_at world events count).sign.config.face (world_at world events count).sign.defaults (world_at world events count).sign.table
+    → IsRowOf (world_at world events count).sign.config.face (world_at world events count).sign.settings.defaults (world_at world events count).sign.table
     (world_at world events count).sign.shown
     → WasPutUp world events count (world_at world events count).sign.shown.source ⊎ WasTheSigns world events count (world_at world events count).sign.shown.source
     → IsBackedAt world events count (world_at world events count).sign.shown
@@ -91,11 +91,11 @@ record IsSureAt (world : WorldModel) (events : List EventModel) (count : ℕ) : 
   kept : IsBackedAt world events count (world_at world events count).sign.shown_at_power_loss
 
 was_the_signs : (world : WorldModel) (events : List EventModel) (count : ℕ) → IsFresh world
-    → IsOwnCode (world_at world events count).sign.table.order (world_at world events count).sign.fallbacks (world_at world events count).sign.shown.source
+    → IsOwnCode (world_at world events count).sign.table.order (world_at world events count).sign.settings.fallbacks (world_at world events count).sign.shown.source
     → WasTheSigns world events count (world_at world events count).sign.shown.source
 was_the_signs world events count fresh own =
     let sign = (world_at world events count).sign in
-    (count, omega arith, subst (λ (o : Order). IsOwnCode o sign.fallbacks sign.shown.source) (sound_at world events fresh count).order own)
+    (count, omega arith, subst (λ (o : Order). IsOwnCode o sign.settings.fallbacks sign.shown.source) (sound_at world events fresh count).order own)
 
 shown_next : (world : WorldModel) (events : List EventModel) (count : ℕ) (accepted : Option Activation) → IsFresh world → IsSureAt world events count
     → ((code : Activation) → accepted ≡ Some code → Has (world_at world events (suc count)).accepted (suc count, code))

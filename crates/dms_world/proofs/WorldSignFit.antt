@@ -21,7 +21,7 @@ fits_first : (world : WorldModel) → IsFresh world → HasFitDefaults world.sig
 fits_first world fresh = grind arith
 
 fits_at : (world : WorldModel) (events : List EventModel) → IsFresh world → (count : ℕ)
-    → IsTrue (fit world.sign.config.face.fonts (world_at world events count).sign.defaults)
+    → IsTrue (fit world.sign.config.face.fonts (world_at world events count).sign.settings.defaults)
 fits_at world events fresh count = grind (arith, sound_at, kept_after, fit_is_kept, fits_first)
 
 pub defaults_fit_after : (world : WorldModel) (events : List EventModel) → IsFresh world → DefaultsFit world events

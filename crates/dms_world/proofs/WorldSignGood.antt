@@ -35,8 +35,8 @@ good_more world events count memory number row (was_settled is before less first
 
 -- what the sign has, and its face, are those of the start
 could_be : (world : WorldModel) (events : List EventModel) (count : ℕ) (row : RowModel) → IsSoundAt world events count
-    → IsShowable (world_at world events count).sign.table.services (under (world_at world events count).sign.config.face (world_at world events count).sign.defaults) row
-    → CouldBeShown world (world_at world events count).sign.defaults row
+    → IsShowable (world_at world events count).sign.table.services (under (world_at world events count).sign.config.face (world_at world events count).sign.settings.defaults) row
+    → CouldBeShown world (world_at world events count).sign.settings.defaults row
 could_be world events count row sound can = grind arith
 
 is_changed : (old new : TableModel) (memory number : ℕ) (row : RowModel) → new.permanent ≡ old.permanent → row.status ≡ Valid
@@ -48,7 +48,7 @@ good_came : (world : WorldModel) (events : List EventModel) (count memory number
     → IsSoundAt world events count
     → (world_at world events (suc count)).sign.table.permanent ≡ (world_at world events count).sign.table.permanent
     → CameToBeValid (world_at world events count).sign.table.services
-    (under (world_at world events count).sign.config.face (world_at world events count).sign.defaults)
+    (under (world_at world events count).sign.config.face (world_at world events count).sign.settings.defaults)
     (stored_row (world_at world events count).sign.table memory number) row
     → WasGood world events (suc count) memory number row
 good_came world events count memory number row good there valid sound permanent (was_valid before) =

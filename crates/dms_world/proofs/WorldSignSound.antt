@@ -24,7 +24,7 @@ copy_more : (world : WorldModel) (events : List EventModel) (count : ℕ) (defau
     → WereDefaults world events (suc count) defaults
 copy_more world events count defaults were = (were.0, omega (arith, were.1), were.2)
 
-copy_now : (world : WorldModel) (events : List EventModel) (count : ℕ) (defaults : Defaults) → defaults ≡ (world_at world events count).sign.defaults
+copy_now : (world : WorldModel) (events : List EventModel) (count : ℕ) (defaults : Defaults) → defaults ≡ (world_at world events count).sign.settings.defaults
     → WereDefaults world events count defaults
 copy_now world events count defaults e = (count, omega arith, sym e)
 

@@ -37,7 +37,7 @@ WasPutUp world events count id =
 abbrev pub WasTheSigns : WorldModel → List EventModel → ℕ → MessageId → Type 0
 WasTheSigns world events count id =
     (earlier : ℕ) × (earlier ≤ count)
-    × IsOwnCode world.sign.table.order (world_at world events earlier).sign.fallbacks id
+    × IsOwnCode world.sign.table.order (world_at world events earlier).sign.settings.fallbacks id
 
 -- ---- the row that the code names
 
@@ -66,7 +66,7 @@ WasHeld world events count shown =
 -- by then the sign had had these defaults
 abbrev pub WereDefaults : WorldModel → List EventModel → ℕ → Defaults → Type 0
 WereDefaults world events count defaults =
-    (earlier : ℕ) × (earlier ≤ count) × ((world_at world events earlier).sign.defaults ≡ defaults)
+    (earlier : ℕ) × (earlier ≤ count) × ((world_at world events earlier).sign.settings.defaults ≡ defaults)
 
 -- ---- what is shown
 

@@ -24,7 +24,7 @@ pub data WasGood (world : WorldModel) (events : List EventModel) (count memory n
   was_settled : memory ≢ permanent_memory → (before : ℕ) → before < count
       → stored_row (world_at world events before).sign.table memory number ≡ Some (record row { status = Validating })
       → stored_row (world_at world events (suc before)).sign.table memory number ≡ Some row
-      → CouldBeShown world (world_at world events before).sign.defaults row
+      → CouldBeShown world (world_at world events before).sign.settings.defaults row
       → WasGood world events count memory number row
 
 -- each row that is valid was good when it was settled
@@ -40,5 +40,5 @@ OneRowIsValidating world events = IsTable (world_after world events).sign.table
 
 -- the defaults stay in their ranges and name a font of the face, and so does the copy that belongs to what is shown
 pub record DefaultsFit (world : WorldModel) (events : List EventModel) : Type 0 where
-  pub own : IsTrue (fit world.sign.config.face.fonts (world_after world events).sign.defaults)
+  pub own : IsTrue (fit world.sign.config.face.fonts (world_after world events).sign.settings.defaults)
   pub copied : IsTrue (fit world.sign.config.face.fonts (world_after world events).sign.shown.defaults)

@@ -7,7 +7,7 @@ ghost use Rattle.dms_table.specs.Activation.{shown_by};
 ghost use Rattle.dms_sign.specs.InRange.{AreOctets, IsShownInRange};
 ghost use Rattle.dms_sign_access.specs.Access.{AskRow, Activate};
 ghost use Rattle.dms_sign_access.specs.ChangeView.{write_by};
-ghost use Rattle.dms_sign.specs.SetView.{AreSettings, IsCommandInRange, Says, StaysWithout};
+ghost use Rattle.dms_sign.specs.SetView.{AreLeft, IsCommandInRange, Says, StaysWithout};
 ghost use Rattle.dms_sign.specs.SetRequest.{assigned};
 ghost use Rattle.dms_sign.specs.Requests.{activated, with_remaining, writes_of, commanded, commanded_if, set};
 
@@ -42,7 +42,7 @@ impl Sign {
         judged: &Judged<'_>,
         binds: &Binds<'_>,
     ) -> Result<Option<Activation>, SetRefusal>
-        requires settings { AreSettings judged.now.settings (assigned self.old (writes_of self.old binds.now)) }
+        requires settings { AreLeft judged.now.settings binds.now self.old }
         requires fields { StaysWithout judged.now.fields self.old binds.now }
         requires limits { AreBindingsInLimits binds.now }
         requires range { IfSome (option_map write_by judged.now.command) IsCommandInRange }
@@ -74,7 +74,7 @@ impl Sign {
         judged: &Judged<'_>,
         binds: &Binds<'_>,
     ) -> Result<Option<Activation>, SetRefusal>
-        requires settings { AreSettings judged.now.settings (assigned self.old (writes_of self.old binds.now)) }
+        requires settings { AreLeft judged.now.settings binds.now self.old }
         requires fields { StaysWithout judged.now.fields self.old binds.now }
         requires limits { AreBindingsInLimits binds.now }
         ensures after { self.new ≡ (commanded self.old (assigned self.old (writes_of self.old binds.now)) binds.now
@@ -101,7 +101,7 @@ impl Sign {
         judged: &Judged<'_>,
         binds: &Binds<'_>,
     ) -> Result<Option<Activation>, SetRefusal>
-        requires settings { AreSettings judged.now.settings (assigned self.old (writes_of self.old binds.now)) }
+        requires settings { AreLeft judged.now.settings binds.now self.old }
         requires fields { StaysWithout judged.now.fields self.old binds.now }
         requires limits { AreBindingsInLimits binds.now }
         requires octets { AreOctets 12 octets }
@@ -137,7 +137,7 @@ impl Sign {
 
     /// All values are assigned at once.
     fn assign(&mut self, judged: &Judged<'_>, binds: &Binds<'_>)
-        requires settings { AreSettings judged.now.settings (assigned self.old (writes_of self.old binds.now)) }
+        requires settings { AreLeft judged.now.settings binds.now self.old }
         requires fields { StaysWithout judged.now.fields self.old binds.now }
         requires limits { AreBindingsInLimits binds.now }
         ensures { self.new ≡ assigned self.old (writes_of self.old binds.now) }
@@ -150,7 +150,7 @@ impl Sign {
     }
 
     fn assign_fields(&mut self, settings: SignSettings, binds: &Binds<'_>)
-        requires settings { AreSettings settings (assigned self.old (writes_of self.old binds.now)) }
+        requires settings { AreLeft settings binds.now self.old }
         requires limits { AreBindingsInLimits binds.now }
         ensures { self.new ≡ assigned self.old (writes_of self.old binds.now) }
     {
@@ -160,7 +160,7 @@ impl Sign {
     }
 
     fn assign_settings(&mut self, settings: SignSettings, binds: &Binds<'_>)
-        requires settings { AreSettings settings (assigned self.old (writes_of self.old binds.now)) }
+        requires settings { AreLeft settings binds.now self.old }
         requires fields { StaysWithout false self.old binds.now }
         requires limits { AreBindingsInLimits binds.now }
         ensures { self.new ≡ assigned self.old (writes_of self.old binds.now) }
@@ -186,10 +186,10 @@ impl Sign {
 
     /// Shows the message of a code that was accepted, in place of what was shown.
     fn accept(&mut self, code: &Activation, octets: [u8; 12])
-        requires shown { IsShownInRange (shown_by self.old.defaults self.old.table self.old.shown code.now) }
+        requires shown { IsShownInRange (shown_by self.old.settings.defaults self.old.table self.old.shown code.now) }
         requires octets { AreOctets 12 octets }
         ensures { self.new
-            ≡ activated self.old octets (shown_by self.old.defaults self.old.table self.old.shown code.now) }
+            ≡ activated self.old octets (shown_by self.old.settings.defaults self.old.table self.old.shown code.now) }
     {
         self.table
             .put_up(&self.settings.defaults, code, &mut self.shown);

@@ -11,7 +11,7 @@ pub invariant_of-self : goal.invariant_of-self
 invariant_of-self c =
     accepted_whole c.self.inside c.put_up.new.shown c.source_of-self-inside.result c.args.octets c.with_accepted-self-inside.result c.self.invariant
     (subst IsShownInRange (sym c.put_up.ensures)
-    (subst (λ (s : SignState). IsShownInRange (shown_by s.defaults s.table s.shown c.args.code.now)) (sym c.self.view_is) c.requires.shown))
+    (subst (λ (s : SignState). IsShownInRange (shown_by s.settings.defaults s.table s.shown c.args.code.now)) (sym c.self.view_is) c.requires.shown))
     c.requires.octets
     (c.source_of-self-inside.ensures ∙ ap (λ (o : Order). octets_of_id o c.put_up.new.shown.source) c.order.ensures)
     c.with_accepted-self-inside.ensures

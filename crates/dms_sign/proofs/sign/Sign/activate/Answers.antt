@@ -9,7 +9,8 @@ use Rattle.dms_sign.specs.InRange.{IsShownInRange}
 use Rattle.dms_sign.specs.SetView.{Says}
 use Rattle.dms_sign.specs.SignView.{state_of}
 use Rattle.dms_sign.proofs.Assigned.{fit_new}
-use Rattle.dms_sign.proofs.Activations.{AreLeft, accepted_in_range, accepted_answer, refused_in_range, refused_answer}
+use Rattle.dms_sign.specs.SetView.{AreLeft}
+use Rattle.dms_sign.proofs.Activations.{accepted_in_range, accepted_answer, refused_in_range, refused_answer}
 use Rattle.dms_sign.proofs.sign.Sign.activate.Goals as goal
 
 pub judge-requires-clause-fit : goal.judge-requires-clause-fit
@@ -20,7 +21,7 @@ judge-requires-clause-fit c =
 pub accept-requires-clause-shown : goal.accept-requires-clause-shown
 accept-requires-clause-shown c =
     let code = c.of_octets-code in
-    subst (λ (n : SignState). IsShownInRange (shown_by n.defaults n.table n.shown code.result)) (sym c.assign.ensures)
+    subst (λ (n : SignState). IsShownInRange (shown_by n.settings.defaults n.table n.shown code.result)) (sym c.assign.ensures)
     (accepted_in_range _ (state_of c.self.inside) c.args.self.now c.args.binds.now c.args.judged.now.settings c.args.octets code.result c.self.view_is
     c.requires.settings (code.ensures.value ∙ ap (λ (o : Order). activation_of o c.args.octets) c.order.ensures) (sym c.in-Ok.is ∙ c.judge.ensures)
     c.self.invariant.kept.in_range c.requires.limits c.requires.octets)
@@ -40,7 +41,7 @@ returns-in-Ok-clause-after c =
     c.requires.settings (code.ensures.value ∙ ap (λ (o : Order). activation_of o c.args.octets) c.order.ensures) (sym c.in-Ok.is ∙ c.judge.ensures)
     c.args.judged.now.index
     in
-    c.accept.ensures ∙ ap (λ (n : SignState). activated n c.args.octets (shown_by n.defaults n.table n.shown code.result)) c.assign.ensures
+    c.accept.ensures ∙ ap (λ (n : SignState). activated n c.args.octets (shown_by n.settings.defaults n.table n.shown code.result)) c.assign.ensures
     ∙ sym (ap (λ (a : Answer). a.after) found)
 
 pub returns-in-Ok-clause-says : goal.returns-in-Ok-clause-says

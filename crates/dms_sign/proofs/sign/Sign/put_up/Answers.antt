@@ -13,7 +13,7 @@ use Rattle.dms_sign.proofs.sign.Sign.put_up.Goals as goal
 
 pub show_named-requires : goal.show_named-requires
 show_named-requires c =
-    subst (λ (s : SignState). IsShownInRange (record (shown_by s.defaults s.table s.shown c.own_activation-code.result) { mode = mode_number c.args.mode })) c.self.view_is
+    subst (λ (s : SignState). IsShownInRange (record (shown_by s.settings.defaults s.table s.shown c.own_activation-code.result) { mode = mode_number c.args.mode })) c.self.view_is
     (put_up_shown _ (state_of c.self.inside) c.args.octets c.of_octets-id.result c.own_activation-code.result (mode_number c.args.mode)
     c.self.invariant.kept.in_range c.requires (c.of_octets-id.ensures.value ∙ ap (λ (o : Order). id_of o c.args.octets) c.order.ensures)
     c.own_activation-code.ensures (mode_in_range c.args.mode) (sym c.in-Ok.is ∙ c.judge.ensures))
@@ -28,7 +28,7 @@ pub returns-in-Ok : goal.returns-in-Ok
 returns-in-Ok c =
     let code = c.own_activation-code.result in
     c.show_named.ensures
-    ∙ subst (λ (s : SignState). showing s (record (shown_by s.defaults s.table s.shown code) { mode = mode_number c.args.mode }) ≡ put_up_code s c.args.octets (mode_number c.args.mode))
+    ∙ subst (λ (s : SignState). showing s (record (shown_by s.settings.defaults s.table s.shown code) { mode = mode_number c.args.mode }) ≡ put_up_code s c.args.octets (mode_number c.args.mode))
     c.self.view_is
     (own_accepted _ (state_of c.self.inside) c.args.octets c.of_octets-id.result code (mode_number c.args.mode)
     (c.of_octets-id.ensures.value ∙ ap (λ (o : Order). id_of o c.args.octets) c.order.ensures) c.own_activation-code.ensures c.if-id-eq-CURRENT_BUFFER.false

@@ -3,11 +3,8 @@ use Rattle.std.specs.Prelude.{option_map}
 use Rattle.dms_sign.specs.Requests.{Answer}
 use Rattle.dms_sign_access.specs.ChangeView.{write_by}
 use Rattle.dms_sign.specs.SetView.{refusal_of, Says}
-use Rattle.dms_sign.proofs.Assigned.{judged_settings, command_in_range, set_commanded, set_refused}
+use Rattle.dms_sign.proofs.Assigned.{command_in_range, set_commanded, set_refused}
 use Rattle.dms_sign.proofs.sign.Sign.set.Goals as goal
-
-pub command-requires-clause-settings : goal.command-requires-clause-settings
-command-requires-clause-settings c = grind (arith, judged_settings)
 
 pub command-requires-clause-range : goal.command-requires-clause-range
 command-requires-clause-range c = grind (arith, command_in_range)
