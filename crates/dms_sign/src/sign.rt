@@ -29,7 +29,6 @@ use dms_table::{Cause, Mode, Shown, Table};
 use std::alloc::Global;
 use std::marker::Model;
 
-mod commands;
 mod events;
 mod own_codes;
 pub mod reply;

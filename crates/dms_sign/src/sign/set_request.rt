@@ -1,28 +1,34 @@
-//! What a SET writes, and what keeps it from doing so.
+//! A SET: each binding is judged, in order; then its values are assigned at once, and its command is done. A command is
+//! judged on the state with the other values assigned; where it fails, nothing is assigned.
 
-ghost use Rattle.std.specs.Prelude.{◌≡◌, ◌≤◌, ◌+◌, ◌||◌, if◌then◌else◌, [], ◌∷◌, Some, None, true};
-ghost use Rattle.std.specs.Prelude.{false, length, take, find, option_map, slice_get, IfOk, IfErr, OnOk};
+ghost use Rattle.std.specs.Prelude.{◌≡◌, ◌≤◌, ◌+◌, ◌||◌, if◌then◌else◌, [], ◌∷◌, Some, None, true, false};
+ghost use Rattle.std.specs.Prelude.{length, take, find, option_map, slice_get, is_some};
+ghost use Rattle.std.specs.Prelude.{IsSome, IfSome, IfOk, IfErr, OnOk};
 ghost use Rattle.std.specs.List.{list_any, cons_option};
-ghost use Rattle.dms_wire.specs.Limits.{most_bindings};
+ghost use Rattle.dms_wire.specs.Limits.{AreBindingsInLimits, most_bindings};
 ghost use Rattle.dms_wire.specs.View.{var_bind};
+ghost use Rattle.dms_table.specs.Activation.{shown_by};
+ghost use Rattle.dms_table.specs.Rows.{asked};
 ghost use Rattle.dms_mib_instances.specs.Places.{HasCounts};
-ghost use Rattle.dms_sign.specs.State.{SignState};
-ghost use Rattle.dms_sign_access.specs.Access.{is_command};
+ghost use Rattle.dms_sign_access.specs.Access.{AskRow, Activate, is_command};
 ghost use Rattle.dms_sign_access.specs.ChangeView.{write_by, IsChange};
-ghost use Rattle.dms_sign.specs.SetView.{refusal_of, is_field, StaysWithout};
 ghost use Rattle.dms_sign_access.specs.Settings.{set_by};
-ghost use Rattle.dms_sign.specs.SetRequest.{settable_instance, write_at, is_command_at};
-ghost use Rattle.dms_sign.specs.SetRequest.{is_refused_field, causes_at, causes, with_writes};
 ghost use Rattle.dms_sign_access.specs.Slots.{AreTaken};
-ghost use Rattle.dms_sign.specs.Requests.{writes_of, command_index};
+ghost use Rattle.dms_sign.specs.InRange.{AreOctets, IsShownInRange};
+ghost use Rattle.dms_sign.specs.Requests.{activated, with_remaining, writes_of, command_index};
+ghost use Rattle.dms_sign.specs.Requests.{commanded, commanded_if, set};
+ghost use Rattle.dms_sign.specs.SetRequest.{settable_instance, write_at, is_command_at, is_refused_field};
+ghost use Rattle.dms_sign.specs.SetRequest.{causes_at, causes, with_writes, assigned};
+ghost use Rattle.dms_sign.specs.SetView.{refusal_of, is_field, AreLeft, IsCommandInRange, Says, StaysWithout};
+ghost use Rattle.dms_sign.specs.State.{SignState};
 
-use crate::sign::Sign;
-use dms_codes::Status;
+use crate::sign::{Sign, judge, source_of};
+use dms_codes::{Activation, Ask, RowId, Status};
 use dms_face::Face;
 use dms_mib::Instance;
 use dms_mib_instances::Counts;
 use dms_sign_access::{Change, SignSettings, Slots, is_settable, mark_name, was_given, write_of};
-use dms_table::Table;
+use dms_table::{Mode, Table, seconds_of};
 use dms_wire::{Bind, Binds, ErrorStatus, Oid};
 
 /// Why a SET is refused: the index of a binding, from 1, and an error-status.
@@ -35,38 +41,74 @@ pub(super) struct SetRefusal {
 /// What a SET that is not refused writes: the settings that it leaves, whether it writes fields, and its command with
 /// its index.
 #[derive(Clone, Copy)]
-pub(super) struct Judged<'a> {
-    pub settings: SignSettings,
-    pub fields: bool,
-    pub index: u32,
-    pub command: Option<Change<'a>>,
+struct Judged<'a> {
+    settings: SignSettings,
+    fields: bool,
+    index: u32,
+    command: Option<Change<'a>>,
 }
 
 impl Sign {
-    /// The instance of a name, where it can be set.
-    #[tactic(auto, unfolding(crate::specs::SetRequest::settable_instance))]
-    fn settable(&self, name: &Oid<'_>) -> Option<Instance>
-        ensures { result ≡ settable_instance self.now name.now }
+    /// Does a SET, or says why it is refused.
+    pub(super) fn set(
+        &mut self,
+        may_write: bool,
+        binds: &Binds<'_>,
+    ) -> Result<Option<Activation>, SetRefusal>
+        requires few { length binds.now ≤ most_bindings }
+        requires limits { AreBindingsInLimits binds.now }
+        ensures after { self.new ≡ (set self.old may_write binds.now).after }
+        ensures says { Says result (set self.old may_write binds.now) }
     {
-        let instance = self.named(name)?;
-        if is_settable(instance) {
-            Some(instance)
-        } else {
-            None
+        match self.judged(self.settings, may_write, binds) {
+            Ok(judged) => self.command(&judged, binds),
+            Err(refusal) => Err(refusal),
         }
     }
 
-    /// A write to a field of a row that is not being modified.
-    fn is_refused_field(&self, change: &Change<'_>) -> bool
-        ensures { result ≡ is_refused_field self.now.table (write_by change.now) }
+    /// What the bindings write, or the first cause of a refusal.
+    fn judged<'a>(
+        &self,
+        settings: SignSettings,
+        may_write: bool,
+        binds: &Binds<'a>,
+    ) -> Result<Judged<'a>, SetRefusal>
+        requires { length binds.now ≤ most_bindings }
+        ensures none { OnOk result (causes self.now may_write binds.now ≡ []) }
+        ensures settings { IfOk result (λ judged. judged.settings ≡ set_by settings (writes_of self.now binds.now)) }
+        ensures fields { IfOk result (λ judged. StaysWithout judged.fields self.now binds.now) }
+        ensures command { IfOk result
+            (λ judged. option_map write_by judged.command ≡ find is_command (writes_of self.now binds.now)) }
+        ensures index { IfOk result (λ judged. judged.index ≡ command_index self.now binds.now) }
+        ensures first { IfErr result
+            (λ refusal. slice_get (causes self.now may_write binds.now) 0 ≡ Some (refusal_of refusal)) }
     {
-        match change {
-            Change::Field(id, _) => match self.table.row(*id) {
-                Some(row) => row.status != Status::Modifying,
-                None => true,
-            },
-            _ => false,
+        let mut judged = Judged {
+            settings,
+            fields: false,
+            index: 0,
+            command: None,
+        };
+        let mut index = 0;
+        let mut slots: Slots = [0; 16];
+        let mut rest = binds.again();
+        while let Some(binding) = rest.next() {
+            let commanded = judged.command.is_some();
+            match self.change_at(may_write, binds, index, &slots, commanded, &binding) {
+                Ok(change) => {
+                    index += 1;
+                    mark_name(&mut slots, &binding.name);
+                    judged.note(index, change);
+                }
+                Err(status) => {
+                    return Err(SetRefusal {
+                        index: index + 1,
+                        status,
+                    });
+                }
+            }
         }
+        Ok(judged)
     }
 
     /// What the binding after the first `index` bindings writes, or the first thing that is wrong with it.
@@ -111,49 +153,30 @@ impl Sign {
         Ok(change)
     }
 
-    /// What the bindings write, or the first cause of a refusal.
-    pub(super) fn judged<'a>(
-        &self,
-        settings: SignSettings,
-        may_write: bool,
-        binds: &Binds<'a>,
-    ) -> Result<Judged<'a>, SetRefusal>
-        requires { length binds.now ≤ most_bindings }
-        ensures none { OnOk result (causes self.now may_write binds.now ≡ []) }
-        ensures settings { IfOk result (λ judged. judged.settings ≡ set_by settings (writes_of self.now binds.now)) }
-        ensures fields { IfOk result (λ judged. StaysWithout judged.fields self.now binds.now) }
-        ensures command { IfOk result
-            (λ judged. option_map write_by judged.command ≡ find is_command (writes_of self.now binds.now)) }
-        ensures index { IfOk result (λ judged. judged.index ≡ command_index self.now binds.now) }
-        ensures first { IfErr result
-            (λ refusal. slice_get (causes self.now may_write binds.now) 0 ≡ Some (refusal_of refusal)) }
+    /// The instance of a name, where it can be set.
+    #[tactic(auto, unfolding(crate::specs::SetRequest::settable_instance))]
+    fn settable(&self, name: &Oid<'_>) -> Option<Instance>
+        ensures { result ≡ settable_instance self.now name.now }
     {
-        let mut judged = Judged {
-            settings,
-            fields: false,
-            index: 0,
-            command: None,
-        };
-        let mut index = 0;
-        let mut slots: Slots = [0; 16];
-        let mut rest = binds.again();
-        while let Some(binding) = rest.next() {
-            let commanded = judged.command.is_some();
-            match self.change_at(may_write, binds, index, &slots, commanded, &binding) {
-                Ok(change) => {
-                    index += 1;
-                    mark_name(&mut slots, &binding.name);
-                    judged.note(index, change);
-                }
-                Err(status) => {
-                    return Err(SetRefusal {
-                        index: index + 1,
-                        status,
-                    });
-                }
-            }
+        let instance = self.named(name)?;
+        if is_settable(instance) {
+            Some(instance)
+        } else {
+            None
         }
-        Ok(judged)
+    }
+
+    /// A write to a field of a row that is not being modified.
+    fn is_refused_field(&self, change: &Change<'_>) -> bool
+        ensures { result ≡ is_refused_field self.now.table (write_by change.now) }
+    {
+        match change {
+            Change::Field(id, _) => match self.table.row(*id) {
+                Some(row) => row.status != Status::Modifying,
+                None => true,
+            },
+            _ => false,
+        }
     }
 }
 
@@ -188,16 +211,188 @@ fn assign(settings: &mut SignSettings, change: &Change<'_>)
     settings.assign(change);
 }
 
-/// What a binding writes on a sign with this face and as many rows.
-fn change_of<'a>(counts: &Counts, face: &Face, binding: &Bind<'a>) -> Option<Change<'a>>
+impl Sign {
+    /// Assigns the values and does the command, where there is one.
+    fn command(
+        &mut self,
+        judged: &Judged<'_>,
+        binds: &Binds<'_>,
+    ) -> Result<Option<Activation>, SetRefusal>
+        requires settings { AreLeft judged.now.settings binds.now self.old }
+        requires fields { StaysWithout judged.now.fields self.old binds.now }
+        requires limits { AreBindingsInLimits binds.now }
+        requires range { IfSome (option_map write_by judged.now.command) IsCommandInRange }
+        ensures after { self.new ≡ (commanded_if self.old (assigned self.old (writes_of self.old binds.now)) binds.now
+            judged.now.index (option_map write_by judged.now.command)).after }
+        ensures says { Says result (commanded_if self.old (assigned self.old (writes_of self.old binds.now)) binds.now
+            judged.now.index (option_map write_by judged.now.command)) }
+    {
+        match judged.command {
+            Some(Change::Ask(id, ask)) => self.ask_row(id, ask, judged, binds),
+            Some(Change::Activate(octets)) => self.activate(octets, judged, binds),
+            Some(Change::Remaining(minutes)) => {
+                self.assign(judged, binds);
+                self.set_remaining(minutes);
+                Ok(None)
+            }
+            _ => {
+                self.assign(judged, binds);
+                Ok(None)
+            }
+        }
+    }
+
+    /// A row is asked for another status (dmsMessageStatus).
+    fn ask_row(
+        &mut self,
+        id: RowId,
+        ask: Ask,
+        judged: &Judged<'_>,
+        binds: &Binds<'_>,
+    ) -> Result<Option<Activation>, SetRefusal>
+        requires settings { AreLeft judged.now.settings binds.now self.old }
+        requires fields { StaysWithout judged.now.fields self.old binds.now }
+        requires limits { AreBindingsInLimits binds.now }
+        ensures after { self.new ≡ (commanded self.old (assigned self.old (writes_of self.old binds.now)) binds.now
+            judged.now.index (AskRow id ask)).after }
+        ensures says { Says result (commanded self.old (assigned self.old (writes_of self.old binds.now)) binds.now
+            judged.now.index (AskRow id ask)) }
+    {
+        if self.takes(id, ask) {
+            self.assign(judged, binds);
+            self.ask(id, ask);
+            Ok(None)
+        } else {
+            Err(SetRefusal {
+                index: judged.index,
+                status: ErrorStatus::GenErr,
+            })
+        }
+    }
+
+    /// Whether a row would take what is asked.
+    fn takes(&self, id: RowId, ask: Ask) -> bool
+        ensures { result ≡ is_some (asked self.now.table id ask) }
+    {
+        self.table.takes(id, ask)
+    }
+
+    /// Asks a row that takes it.
+    fn ask(&mut self, id: RowId, ask: Ask)
+        requires { IsSome (asked self.old.table id ask) }
+        ensures { Some self.new
+            ≡ option_map (λ table. record self.old { table = table }) (asked self.old.table id ask) }
+    {
+        let _ = self.table.ask(id, ask);
+    }
+
+    /// A code is to be activated (dmsActivateMessage): one that is refused changes only what is reported of it.
+    fn activate(
+        &mut self,
+        octets: [u8; 12],
+        judged: &Judged<'_>,
+        binds: &Binds<'_>,
+    ) -> Result<Option<Activation>, SetRefusal>
+        requires settings { AreLeft judged.now.settings binds.now self.old }
+        requires fields { StaysWithout judged.now.fields self.old binds.now }
+        requires limits { AreBindingsInLimits binds.now }
+        requires octets { AreOctets 12 octets }
+        ensures after { self.new ≡ (commanded self.old (assigned self.old (writes_of self.old binds.now)) binds.now
+            judged.now.index (Activate octets)).after }
+        ensures says { Says result (commanded self.old (assigned self.old (writes_of self.old binds.now)) binds.now
+            judged.now.index (Activate octets)) }
+    {
+        let code = Activation::of_octets(self.table.order(), &octets);
+        let defaults = &judged.settings.defaults;
+        match judge(
+            &self.known,
+            &self.table,
+            &self.face,
+            defaults,
+            &code,
+            &self.shown,
+        ) {
+            Ok(()) => {
+                self.assign(judged, binds);
+                self.accept(&code, octets);
+                Ok(Some(code))
+            }
+            Err(cause) => {
+                self.refuse_code(&cause, octets);
+                Err(SetRefusal {
+                    index: judged.index,
+                    status: ErrorStatus::GenErr,
+                })
+            }
+        }
+    }
+
+    /// Shows the message of a code that was accepted, in place of what was shown.
+    fn accept(&mut self, code: &Activation, octets: [u8; 12])
+        requires shown { IsShownInRange (shown_by self.old.settings.defaults self.old.table self.old.shown code.now) }
+        requires octets { AreOctets 12 octets }
+        ensures { self.new
+            ≡ activated self.old octets (shown_by self.old.settings.defaults self.old.table self.old.shown code.now) }
+    {
+        self.table
+            .put_up(&self.settings.defaults, code, &mut self.shown);
+        self.source = source_of(&self.shown, self.table.order());
+        self.reports = self.reports.with_accepted(octets);
+    }
+
+    /// The minutes until the end of what is shown (dmsMessageTimeRemaining); where none remains the end has come.
+    fn set_remaining(&mut self, minutes: u16)
+        ensures { self.new ≡ with_remaining self.old minutes }
+    {
+        if minutes == 0 {
+            self.put_up(self.fallbacks().end_duration, Mode::EndDuration);
+        } else {
+            self.remain(seconds_of(minutes));
+        }
+    }
+
+    /// All values are assigned at once.
+    fn assign(&mut self, judged: &Judged<'_>, binds: &Binds<'_>)
+        requires settings { AreLeft judged.now.settings binds.now self.old }
+        requires fields { StaysWithout judged.now.fields self.old binds.now }
+        requires limits { AreBindingsInLimits binds.now }
+        ensures { self.new ≡ assigned self.old (writes_of self.old binds.now) }
+    {
+        if judged.fields {
+            self.assign_fields(judged.settings, binds);
+        } else {
+            self.assign_settings(judged.settings, binds);
+        }
+    }
+
+    fn assign_fields(&mut self, settings: SignSettings, binds: &Binds<'_>)
+        requires settings { AreLeft settings binds.now self.old }
+        requires limits { AreBindingsInLimits binds.now }
+        ensures { self.new ≡ assigned self.old (writes_of self.old binds.now) }
+    {
+        let counts = self.counts();
+        write_fields(&counts, &self.face, &mut self.table, binds);
+        self.settings = settings;
+    }
+
+    fn assign_settings(&mut self, settings: SignSettings, binds: &Binds<'_>)
+        requires settings { AreLeft settings binds.now self.old }
+        requires fields { StaysWithout false self.old binds.now }
+        requires limits { AreBindingsInLimits binds.now }
+        ensures { self.new ≡ assigned self.old (writes_of self.old binds.now) }
+    {
+        self.settings = settings;
+    }
+}
+
+/// Writes the fields that the bindings name.
+fn write_fields(counts: &Counts, face: &Face, table: &mut Table, binds: &Binds<'_>)
     ensures { (s : SignState) → HasCounts s.table counts.now → s.config.face ≡ face.now
-        → option_map write_by result ≡ write_at s (var_bind binding.now) }
+        → table.new ≡ with_writes table.old (writes_of s binds.now) }
 {
-    let instance = counts.named(&binding.name)?;
-    if is_settable(instance) {
-        write_of(face, instance, &binding.value)
-    } else {
-        None
+    let mut rest = binds.again();
+    while let Some(binding) = rest.next() {
+        write_change(table, change_of(counts, face, &binding));
     }
 }
 
@@ -210,13 +405,15 @@ fn write_change(table: &mut Table, change: Option<Change<'_>>)
     }
 }
 
-/// Writes the fields that the bindings name.
-pub(super) fn write_fields(counts: &Counts, face: &Face, table: &mut Table, binds: &Binds<'_>)
+/// What a binding writes on a sign with this face and as many rows.
+fn change_of<'a>(counts: &Counts, face: &Face, binding: &Bind<'a>) -> Option<Change<'a>>
     ensures { (s : SignState) → HasCounts s.table counts.now → s.config.face ≡ face.now
-        → table.new ≡ with_writes table.old (writes_of s binds.now) }
+        → option_map write_by result ≡ write_at s (var_bind binding.now) }
 {
-    let mut rest = binds.again();
-    while let Some(binding) = rest.next() {
-        write_change(table, change_of(counts, face, &binding));
+    let instance = counts.named(&binding.name)?;
+    if is_settable(instance) {
+        write_of(face, instance, &binding.value)
+    } else {
+        None
     }
 }
