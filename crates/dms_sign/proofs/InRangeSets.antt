@@ -1,5 +1,5 @@
 -- A datagram keeps a sign in range: what it assigns, and what its command does.
-use Rattle.std.proofs.Common.{◌≡◌, ℕ, zero, suc, ◌-◌, ◌≤◌, ◌==◌, ◌&&◌, Bool, true, cond, List, [], ◌∷◌, length, set, Option, Some, None, Result, slice_get, slice_set, refl, arith, leb}
+use Rattle.std.proofs.Common.{◌≡◌, ℕ, zero, suc, ◌-◌, ◌≤◌, ◌==◌, ◌&&◌, Bool, true, cond, List, [], ◌∷◌, length, set, Option, Some, None, Result, slice_get, slice_set, refl, sym, subst, arith, leb}
 use Rattle.std.specs.Prelude.{option_map, option_and_then, unwrap_or, ⊤}
 use Rattle.std.specs.Option.{IfSome}
 use Rattle.std.specs.List.{AllByRecursion}
@@ -30,11 +30,16 @@ use Rattle.dms_mib.specs.declared.scalar.Scalar.{Scalar}
 use Rattle.dms_mib.specs.declared.scalar.Scalar.TheVariants.{DefaultBackgroundColor, DefaultForegroundColor, DefaultFlashOn, DefaultFlashOff, DefaultFont, DefaultJustificationLine, DefaultJustificationPage, DefaultPageOnTime, DefaultPageOffTime, ActivateMessage, MessageTimeRemaining, ShortPowerRecoveryMessage, LongPowerRecoveryMessage, ShortPowerLossTime, CommunicationsLossMessage, TimeCommLoss, PowerLossMessage, EndDurationMessage}
 use Rattle.dms_mib.specs.declared.instance.Instance.{Instance}
 use Rattle.dms_mib.specs.declared.instance.Instance.TheVariants as kinds
+use Rattle.dms_mib.specs.declared.objects.Access.{Access}
+use Rattle.dms_mib.specs.declared.objects.Access.TheVariants as accesses
+use Rattle.dms_mib.specs.declared.objects.Syntax.{Syntax}
+use Rattle.dms_mib.specs.declared.objects.Syntax.TheVariants.{Range, Octets}
 use Rattle.dms_mib.specs.Names.{scalar_number}
+use Rattle.dms_mib.specs.Objects.{scalar_row}
 use Rattle.dms_sign_access.specs.declared.reports.Reports.{Reports}
 use Rattle.dms_sign_access.specs.declared.settings.SignSettings.{SignSettings}
 use Rattle.dms_sign.specs.State.{SignState}
-use Rattle.dms_sign_access.specs.Access.{Write, SetNumber, SetCode, SetField, AskRow, Activate, SetRemaining, number_in, octets_in, font_in, ask_of, object_write, cell_write, write_of}
+use Rattle.dms_sign_access.specs.Access.{Write, SetNumber, SetCode, SetField, AskRow, Activate, SetRemaining, number_in, octets_in, font_in, ask_of, setting_in, object_write, cell_write, write_of}
 use Rattle.dms_sign_access.specs.Assignment.{given, number_for, code_for}
 use Rattle.dms_sign_access.specs.Settings.{set_by}
 use Rattle.dms_sign.specs.SetRequest.{SetCause, settable_instance, write_at, with_write, with_writes, assigned}
@@ -176,38 +181,47 @@ writes_number object low high o few is = grind arith
 writes_code : (object : Scalar) (o : Option (List ℕ)) → IfSome o (AreOctetsWithin 5 5) → IfSome (option_map (SetCode object) o) IsWriteInRange
 writes_code object o is = grind arith
 
+writes_five : (object : Scalar) (low high : ℕ) (value : ObjectValue) → IsValueInLimits value → low ≡ 5 → high ≡ 5
+    → IfSome (option_map (SetCode object) (octets_in low high value)) IsWriteInRange
+writes_five object low high value within least most =
+    subst (λ n. IfSome (option_map (SetCode object) (octets_in n high value)) IsWriteInRange) (sym least)
+    (subst (λ n. IfSome (option_map (SetCode object) (octets_in 5 n value)) IsWriteInRange) (sym most)
+    (writes_code object (octets_in 5 5 value) (octets_are 5 5 value within)))
+
+-- an object that is assigned has room for the values of its row
+abbrev IsRoomFor : Access → Scalar → Syntax → Type 0
+IsRoomFor accesses.Write object (Range low high) = high ≤ most_of_group (scalar_number object).0
+IsRoomFor accesses.Write object (Octets low high) = (low ≡ 5) × (high ≡ 5)
+IsRoomFor accesses.Write object _ = ⊥
+IsRoomFor _ object syntax = ⊤
+
+room_for : (object : Scalar) → IsRoomFor (scalar_row object).access object (scalar_row object).syntax
+room_for object = grind arith
+
+abbrev assigned_write : Access → Syntax → Scalar → ObjectValue → Option Write
+assigned_write accesses.Write syntax object value = setting_in syntax object value
+assigned_write _ syntax object value = None
+
+assigned_writes : (access : Access) (syntax : Syntax) (object : Scalar) (value : ObjectValue) → IsValueInLimits value → IsRoomFor access object syntax
+    → IfSome (assigned_write access syntax object value) IsWriteInRange
+assigned_writes accesses.Write (Range low high) object value within room =
+    writes_number object low high (number_in low high value) room (number_is low high value)
+assigned_writes accesses.Write (Octets low high) object value within room = writes_five object low high value within room.0 room.1
+assigned_writes accesses.Write _ object value within room = absurd room
+assigned_writes _ syntax object value within room = tt
+
+-- by the row of the object, but for a number of a font and for commands
 object_writes : (face : FaceModel) (object : Scalar) (value : ObjectValue) → IsValueInLimits value
     → IfSome (object_write face object value) IsWriteInRange
 unfolding object_write
-object_writes face DefaultBackgroundColor value within =
-    writes_number DefaultBackgroundColor 0 9 (number_in 0 9 value) (omega arith) (number_is 0 9 value)
-object_writes face DefaultForegroundColor value within =
-    writes_number DefaultForegroundColor 0 9 (number_in 0 9 value) (omega arith) (number_is 0 9 value)
-object_writes face DefaultFlashOn value within = writes_number DefaultFlashOn 0 255 (number_in 0 255 value) (omega arith) (number_is 0 255 value)
-object_writes face DefaultFlashOff value within = writes_number DefaultFlashOff 0 255 (number_in 0 255 value) (omega arith) (number_is 0 255 value)
 object_writes face DefaultFont value within = writes_number DefaultFont 1 255 (font_in face value) (omega arith) (font_is face value)
-object_writes face DefaultJustificationLine value within =
-    writes_number DefaultJustificationLine 2 4 (number_in 2 4 value) (omega arith) (number_is 2 4 value)
-object_writes face DefaultJustificationPage value within =
-    writes_number DefaultJustificationPage 2 4 (number_in 2 4 value) (omega arith) (number_is 2 4 value)
-object_writes face DefaultPageOnTime value within =
-    writes_number DefaultPageOnTime 0 255 (number_in 0 255 value) (omega arith) (number_is 0 255 value)
-object_writes face DefaultPageOffTime value within =
-    writes_number DefaultPageOffTime 0 255 (number_in 0 255 value) (omega arith) (number_is 0 255 value)
 object_writes face ActivateMessage value within =
     if_mapped (AreOctetsWithin 12 12) IsWriteInRange Activate (octets_in 12 12 value)
     (λ octets is. record { size = omega (arith, is.least, is.most); below = is.below }) (octets_are 12 12 value within)
 object_writes face MessageTimeRemaining value within =
     if_mapped (IsWithin 0 65535) IsWriteInRange SetRemaining (number_in 0 65535 value) (λ n is. is.1) (number_is 0 65535 value)
-object_writes face ShortPowerRecoveryMessage value within = writes_code ShortPowerRecoveryMessage (octets_in 5 5 value) (octets_are 5 5 value within)
-object_writes face LongPowerRecoveryMessage value within = writes_code LongPowerRecoveryMessage (octets_in 5 5 value) (octets_are 5 5 value within)
-object_writes face ShortPowerLossTime value within =
-    writes_number ShortPowerLossTime 0 65535 (number_in 0 65535 value) (omega arith) (number_is 0 65535 value)
-object_writes face CommunicationsLossMessage value within = writes_code CommunicationsLossMessage (octets_in 5 5 value) (octets_are 5 5 value within)
-object_writes face TimeCommLoss value within = writes_number TimeCommLoss 0 65535 (number_in 0 65535 value) (omega arith) (number_is 0 65535 value)
-object_writes face PowerLossMessage value within = writes_code PowerLossMessage (octets_in 5 5 value) (octets_are 5 5 value within)
-object_writes face EndDurationMessage value within = writes_code EndDurationMessage (octets_in 5 5 value) (octets_are 5 5 value within)
-object_writes face _ value within = tt
+object_writes face object value within =
+    assigned_writes (scalar_row object).access (scalar_row object).syntax object value within (room_for object)
 
 cell_writes : (column : Column) (id : RowId) (value : ObjectValue) → IsValueInLimits value → IfSome (cell_write column id value) IsWriteInRange
 unfolding cell_write
