@@ -20,3 +20,4 @@ pub mod Causes
 pub mod Assigned
 pub mod Activations
 pub mod Seconds
+pub mod ReadAsSet

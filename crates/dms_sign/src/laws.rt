@@ -1,6 +1,16 @@
-//! What holds of every sign, stated as a function with nothing to run.
+//! What holds of every sign, stated as functions with nothing to run.
 
-ghost use Rattle.std.specs.Prelude.{IsTrue};
+ghost use Rattle.std.specs.Prelude.{◌≡◌, ℕ, List, [], ◌∷◌, IsTrue};
+ghost use Rattle.dms_wire.specs.Message.{octet_string};
+ghost use Rattle.dms_mib.specs.declared.scalar.Scalar.{Scalar};
+ghost use Rattle.dms_mib.specs.declared.objects.Access.TheVariants.{Write};
+ghost use Rattle.dms_mib.specs.declared.objects.Syntax.TheVariants.{Range, Octets};
+ghost use Rattle.dms_mib.specs.Objects.{scalar_row};
+ghost use Rattle.dms_sign_access.specs.Access.{SetNumber, SetCode};
+ghost use Rattle.dms_sign_access.specs.Cells.{number_value};
+ghost use Rattle.dms_sign.specs.State.{SignState};
+ghost use Rattle.dms_sign.specs.Values.{scalar_value};
+ghost use Rattle.dms_sign.specs.SetRequest.{assigned};
 ghost use Rattle.dms_sign.specs.Communities.{are_communities};
 ghost use Rattle.dms_sign.specs.InRange.{IsSignInRange};
 ghost use Rattle.dms_sign.specs.Transitions.{HasFitDefaults};
@@ -16,3 +26,13 @@ pub fn signs_are_kept(sign: &Sign)
 {
     sign.invariant();
 }
+
+/// What was assigned is what is read: of an object that the table of objects says is assigned, the number or the code.
+pub fn what_was_set_is_read()
+    ensures number { (s : SignState) (object : Scalar) (low high number : ℕ) → (scalar_row object).access ≡ Write
+        → (scalar_row object).syntax ≡ Range low high
+        → scalar_value (assigned s (SetNumber object number ∷ [])) object ≡ number_value number }
+    ensures code { (s : SignState) (object : Scalar) (low high : ℕ) (octets : List ℕ)
+        → (scalar_row object).access ≡ Write → (scalar_row object).syntax ≡ Octets low high
+        → scalar_value (assigned s (SetCode object octets ∷ [])) object ≡ octet_string octets }
+{}
