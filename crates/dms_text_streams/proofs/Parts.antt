@@ -1,5 +1,5 @@
 -- How much of a piece belongs to the first line.
-use Rattle.std.proofs.Common.{◌≡◌, ◌≢◌, ℕ, ◌+◌, ◌<◌, ◌≤◌, ◌==◌, Bool, true, false, List, [], ◌∷◌, ◌++◌, All, length, take, drop, get_or-take, Some, None, refl, sym, ap, ◌∙◌, subst, arith, append_assoc, take_all, take-append-drop, eq-eqb, eqb-true, length-take}
+use Rattle.std.proofs.Common.{◌≡◌, ◌≢◌, ℕ, ◌+◌, ◌<◌, ◌==◌, Bool, true, false, List, [], ◌∷◌, ◌++◌, All, length, take, drop, get_or-take, Some, None, refl, sym, ap, ◌∙◌, subst, arith, append_assoc, take_all, take-append-drop, eq-eqb, eqb-true, length-take}
 use Rattle.std.specs.List.{position}
 use Rattle.std.specs.Io.BufRead.{take_through, drop_through}
 use Rattle.std.proofs.lemmas.Bool.{ltb-false}

@@ -1,6 +1,7 @@
 -- the names of objects, as they are printed (NTCIP 1203)
-use Rattle.std.specs.Prelude.{◌≡◌, ℕ, ◌==◌, ◌&&◌, Bool, true, false, List, [], ◌∷◌, Option, Some, None, All, slice_get}
-use Rattle.std.specs.Prelude.{if◌then◌else◌}
+use Rattle.std.specs.Prelude.{◌≡◌, ℕ, ◌==◌, ◌&&◌, Bool, true, false, List, Option, Some, All, slice_get}
+use Rattle.std.specs.List.{find}
+use Rattle.std.specs.Option.{option_map}
 use Rattle.dms_mib.specs.declared.objects.Group.{Group}
 use Rattle.dms_mib.specs.declared.objects.Group.TheVariants.{VmsCfg, MultiCfg, DmsMessage}
 use Rattle.dms_mib.specs.declared.objects.Group.TheVariants.{DmsMessageEntry, SignControl}
@@ -28,8 +29,7 @@ same_group one other = false
 abbrev pub stands_at : Object → Group → ℕ → Bool
 stands_at object group number = same_group object.group group && (object.number == number)
 
--- by these rows, the name of the object under this number in this group, if there is one
+-- by these rows, the name of the first object under this number in this group, if there is one
 abbrev pub name_among : List (List ℕ × Object) → Group → ℕ → Option (List ℕ)
-name_among [] group number = None
-name_among (row ∷ more) group number =
-    if stands_at row.1 group number then Some row.0 else name_among more group number
+name_among rows group number =
+    option_map (λ (row : List ℕ × Object). row.0) (find (λ (row : List ℕ × Object). stands_at row.1 group number) rows)

@@ -1,4 +1,4 @@
-use Rattle.std.proofs.Common.{◌≡◌, ◌≤◌, arith}
+use Rattle.std.proofs.Common.{arith}
 use Rattle.dms_text_streams.proofs.Taken.{breaks, stops, as_many}
 use Rattle.dms_text_streams.proofs.input.Input.take_line.Goals as goal
 
