@@ -108,6 +108,7 @@ impl Sign {
         ensures { result ≡ start (record { face = face; reader = reader.items; writer = writer.items }) table }
     {
         let defaults = face.defaults();
+        // what their clauses say, how large a matrix is at most, is part of the invariant of a sign
         let _ = (face.width(), face.height());
         Sign {
             face,
