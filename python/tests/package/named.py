@@ -11,7 +11,7 @@ PAGES = (TOP / "README.md", TOP / "CONTRIBUTING.md", TOP / "CHANGELOG.md", *sort
 MANUALS = sorted((TOP / "tools/release/man").glob("*.[17]"))
 COMMAND = re.compile(r"(?:bin/)?(wisangub-(?:sign|centre|conform|control))")
 PARTS = {  # the subcommands
-    "wisangub-conform": ("centre", "soak", "vectors"),
+    "wisangub-conform": ("centre", "describe", "soak", "vectors"),
     "wisangub-control": ("users", "demo", "backup", "signs", "command", "worker"),
 }
 

@@ -1,10 +1,12 @@
 """Descriptions that are made from signs of the model, under a simulated clock."""
 
 import math
+import pathlib
 import re
-import socket
+import signal
 import subprocess
 import sys
+import tempfile
 
 from model import text
 from model.sign import Sign
@@ -16,6 +18,7 @@ from wisangub.tester.requests.objects import Column, Row
 from wisangub.tester.requests.steps import get, put
 
 from .described_signs import OTHERS, Made, Other, WithTable, differing, fixed, font, made, misbehaving
+from .test_udp import free_port, front_end, in_real_time
 
 SMALL = OTHERS["column"]
 
@@ -186,9 +189,7 @@ def described_by(*options: str) -> subprocess.CompletedProcess[bytes]:
 
 
 def test_a_wrong_command_is_a_word() -> None:
-    with socket.socket(socket.AF_INET, socket.SOCK_DGRAM) as free:
-        free.bind(("127.0.0.1", 0))
-        port = free.getsockname()[1]
+    port = free_port()
     table = [
         (["--to", "127.0.0.1"], b"--to"),
         (["--to", "no.such.host.invalid:161"], b"no.such.host.invalid"),
@@ -201,3 +202,20 @@ def test_a_wrong_command_is_a_word() -> None:
         ended_so = described_by(*options)
         assert ended_so.returncode == 2 and words in ended_so.stderr and not ended_so.stdout, (options, ended_so)
         assert b"Traceback" not in ended_so.stderr, ended_so
+
+
+def test_interrupts_over_udp_put_the_sign_back() -> None:
+    with tempfile.TemporaryDirectory() as folder:
+        spelled, port = pathlib.Path(folder) / "column.sign", free_port()
+        spelled.write_bytes(SMALL)
+        right = ("bin/wisangub-sign", "--signtool", str(TOP / "model/signtool"))
+        call = [sys.executable, "-m", "wisangub.tester", "describe", "--to", f"127.0.0.1:{port}", "--wait", "5"]
+        with in_real_time(), front_end(*right, "--port", str(port), "--sign", str(spelled)):
+            with subprocess.Popen(call, cwd=TOP, stdout=subprocess.PIPE, stderr=subprocess.PIPE) as command:
+                assert command.stdout is not None and command.stderr is not None
+                assert b"30 by 62" in command.stderr.readline() and b"fonts 2" in command.stderr.readline()
+                for number in (signal.SIGINT, signal.SIGTERM, signal.SIGINT):
+                    command.send_signal(number)
+                said = command.stderr.read()
+                assert command.wait(60) == 3 and not command.stdout.read(), said
+                assert b"it was interrupted" in said and b"put back: all of it reads as before" in said, said

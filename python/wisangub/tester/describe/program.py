@@ -45,10 +45,10 @@ def numbers(word: str) -> tuple[int, ...]:
 
 
 def address(word: str) -> tuple[str, int]:
-    """HOST:PORT: the type of an option."""
+    """What `--to` says. Raises Refusal."""
     host, _, port = word.rpartition(":")
     if not host or not port.isdigit() or not 0 < int(port) < 65536:
-        raise ValueError
+        raise Refusal(f"--to wants HOST:PORT, not {word}")
     return host.strip("[]"), int(port)
 
 
@@ -73,7 +73,7 @@ def _arguments() -> argparse.ArgumentParser:
         prog=called("wisangub-conform describe"),
         description="makes a description from a sign over UDP, and prints it; it writes to one row of the sign",
     )
-    parser.add_argument("--to", required=True, type=address, metavar="HOST:PORT", help="where the sign answers")
+    parser.add_argument("--to", required=True, metavar="HOST:PORT", help="where the sign answers")
     parser.add_argument(
         "--communities",
         nargs=2,
@@ -157,9 +157,9 @@ def main() -> int:
     clock = RealClock()
     begun = clock.now()
     try:
-        host, number = asked.to
+        host, port = address(asked.to)
         reader, writer = asked.communities
-        client = Client(Port(UdpLink(host, number, clock), clock, asked.wait), (reader, writer))
+        client = Client(Port(UdpLink(host, port, clock), clock, asked.wait), (reader, writer))
         made = Describing(client, _say, asked.characters, is_by_table=not asked.by_texts)
         text, status = described(made)
     except OSError as fault:
