@@ -25,6 +25,7 @@ MODULES = tuple(
         "reports",
         "resume",
         "texts",
+        "load",
         "claims",
         "besides",
         "ways",

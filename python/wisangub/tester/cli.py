@@ -124,6 +124,12 @@ def _arguments() -> argparse.ArgumentParser:
         metavar="N",
         help="the test ends after so many requests in a row without a reply; else after 30 seconds without one",
     )
+    parser.add_argument(
+        "--rate", type=count, metavar="N", help="load up to N requests a second: how many it holds, the longest reply"
+    )
+    parser.add_argument(
+        "--hours", type=above_nothing, default=0.0, metavar="HOURS", help="random requests for so long after the rest"
+    )
     parser.add_argument("--budget", type=above_nothing, metavar="MINUTES", help="the test ends after so many")
     parser.add_argument(
         "--anyway", action="store_true", help="goes on where the sign has another size or other rows than described"
@@ -197,6 +203,7 @@ def _session(asked: argparse.Namespace, description: bytes, oracle: Oracle, judg
     context = Context(sign, communities, judge, asked.seed, asked.requests, asked.slow, claims, many)
     session = Session(pair, context, watcher)
     session.results.lossy, session.is_anyway = asked.lossy, asked.anyway
+    session.rate, session.hours = asked.rate, asked.hours
     return session
 
 

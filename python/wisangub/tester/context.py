@@ -1,5 +1,6 @@
 """What the chapters know of the sign: its description, its rows, its texts, and how codes are spelled."""
 
+import copy
 import functools
 from dataclasses import dataclass, field
 
@@ -29,6 +30,12 @@ class Context:
     is_slow: bool = False
     claims: Claims = field(default_factory=Claims)
     texts: int | None = None  # how many texts are sent, where that is said
+
+    def with_seed(self, seed: int, requests: int) -> "Context":
+        """The same with other random requests."""
+        other = copy.copy(self)
+        other.seed, other.requests = seed, requests
+        return other
 
     @functools.cached_property
     def rows(self) -> list[Row]:

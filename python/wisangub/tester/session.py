@@ -3,7 +3,7 @@
 from dataclasses import dataclass, field, replace
 from typing import Iterator, Sequence
 
-from .chapters import ALL, Block, Chapter
+from .chapters import ALL, Block, Chapter, endurance
 from .chapters.carrying import CHAPTERS as CARRYING
 from .chapters.carrying import carried
 from .chapters.edge_texts import Sample
@@ -17,6 +17,7 @@ from .findings.results import ChapterResult, Results, Watcher
 from .findings.rules import RULES, Rule
 from .findings.trace import ALIKE, DIFFERS, NOT_JUDGED
 from .requests.steps import Step, datagrams
+from .runs.load import Load
 from .runs.runner import Run, Runner
 from .runs.shrinking import shrunk
 from .sign.pair import Exchange, Inconclusive, Pair
@@ -26,6 +27,7 @@ from .state.preflight import Preflight
 from .state.reset import Reset
 
 MOST_SHRUNK, MOST_TOLD = 4, 12  # differences of a chapter that are made small, and that are told
+MOST_HISTORY = 120  # steps since the known state, on a way that loses some
 PASSES = 4  # times that what could not be judged is begun again at the end of its chapter
 
 
@@ -39,6 +41,8 @@ class Session:
     most_differences: int | None = None  # the test ends at so many
     most_seconds: float = 40.0
     is_text_wrong: bool = False  # whether a text differed that a chapter carried
+    rate: int | None = None  # requests a second up to which load is asked for
+    hours: float = 0.0  # that random requests go on after the chapters
     is_anyway: bool = False  # whether it goes on where the sign has another size or other rows than described
     results: Results = field(default_factory=Results)
 
@@ -83,8 +87,41 @@ class Session:
         for chapter in chapters if is_heard else []:
             if self.is_enough():
                 break
-            if chapter not in judged and not chapter.is_slow or self.context.is_slow:
+            if chapter not in judged and (not chapter.is_slow or self.context.is_slow):
                 self.chapter(chapter)
+        if is_heard and self.rate is not None and not self.is_enough():
+            self.load(self.rate)
+        if is_heard and self.hours and not self.is_enough():
+            self.endure(self.hours)
+
+    def load(self, most: int) -> None:
+        """How many requests a second the sign holds, up to so many, in the known state."""
+        self.reset.reach_or_end()
+        load = self.results.load = Load(self.pair, self.context.instances, self.results.lossy)
+        load.run(most)
+        self.results.once_before += load.once
+        self.pair.is_dirty = True
+
+    def endure(self, hours: float) -> None:
+        """Random requests for so many hours."""
+        result = ChapterResult(endurance.CHAPTER)
+        self.results.chapters.append(result)
+        begun, requests = self.pair.clock.now(), self.pair.requests
+        self.watcher.begun(endurance.CHAPTER, 0)
+        try:
+            for blocks in endurance.rounds(self.context):
+                for block in blocks:
+                    result.wanted += 1
+                    self.block(result, block, None)
+                    result.blocks += 1
+                    result.requests = self.pair.requests - requests
+                    self.watcher.went_on(result, result.blocks)
+                    if self.is_enough() or self.pair.clock.now() - begun >= 3600 * hours:
+                        return
+        finally:
+            result.seconds = self.pair.clock.now() - begun
+            self._judge_left(result)
+            self.watcher.ended(result)
 
     def _put_back(self) -> None:
         """The sign in the known state, where it answers."""
@@ -108,6 +145,8 @@ class Session:
         try:
             for at, block in enumerate(blocks):
                 history = self.block(result, block, history)
+                if history is not None and self.pair.port.is_lossy() and len(history) > MOST_HISTORY:
+                    history = None  # what differs is run again with all that was done before it
                 result.blocks += 1
                 result.requests = self.pair.requests - requests
                 self.watcher.went_on(result, at)
@@ -165,6 +204,9 @@ class Session:
         _end(block, ALIKE if run is None else DIFFERS)
         self.results.texts.update(block.texts)
         if run is None:
+            if self.runner.is_doubtful:
+                result.left.append(replace(block, is_fresh=True))
+                _end(block, NOT_JUDGED)
             return [*history, *block.steps]
         self.difference(result, block, Run(run.exchange, [*history, *run.steps], run.sent), run.steps)
         return None

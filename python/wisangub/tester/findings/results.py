@@ -2,13 +2,16 @@
 
 import enum
 from dataclasses import dataclass, field
-from typing import Protocol, Sequence
+from typing import TYPE_CHECKING, Protocol, Sequence
 
 from wisangub.tester.chapters import Block, Chapter
-from wisangub.tester.sign.way import LONGEST_SILENCE, Way
+from wisangub.tester.sign.way import Way
 
 from .differences import Difference
 from .trace import Trace
+
+if TYPE_CHECKING:
+    from wisangub.tester.runs.load import Load
 
 LOSSY = 2.0  # percent of the requests that may be without a reply in time or have two, where nothing is said
 
@@ -82,6 +85,7 @@ class Results:
     texts: set[bytes] = field(default_factory=set)  # that were judged, of so many:
     texts_known: int = 0
     trace: Trace = field(default_factory=Trace)
+    load: "Load | None" = None  # how many requests a second it holds, where that was asked for
     taken_up: str = ""  # when the test was begun that this one goes on with
     is_silent: bool = False
     is_learnt: bool = True
@@ -112,7 +116,7 @@ class Results:
             found.append(
                 f"{self.way.percent():.1f} % of the replies were lost, late or doubled (--lossy {self.lossy:g})"
             )
-        if self.way is not None and self.way.longest > LONGEST_SILENCE:
+        if self.way is not None and self.way.longest > self.way.most_silence(self.lossy):
             found.append(f"the sign was silent for {self.way.longest:.1f} s")
         return found
 

@@ -60,7 +60,8 @@ class Earlier:
 
 
 def _earlier(held: dict[str, Any], communities: tuple[bytes, bytes]) -> Earlier:
-    chapters = [_chapter(one) for one in held["chapters"] if one["cases"] == one["wanted"] and not one["not_told"]]
+    whole = [one for one in held["chapters"] if one["cases"] == one["wanted"] and not one["not_told"]]
+    chapters = [_chapter(one) for one in whole if one["name"] in _BY_NAME]
     by_name = {one.chapter.name: one for one in chapters}
     before: list[Difference] = []
     for found in held["differences"]:

@@ -46,6 +46,7 @@ def as_json(results: Results, about: About, not_tested: list[str]) -> str:
         "configuration": _objects(results.configuration),
         "besides": results.besides,
         "set_back": _objects(results.set_back),
+        "load": [vars(rate) for rate in results.load.done] if results.load is not None else None,
         "texts": {"sent": len(results.texts), "known": results.texts_known},
         "requirements": [_requirement(held) for held in results.trace.requirements()],
         "cases": [vars(case) for case in results.trace.cases],

@@ -9,7 +9,7 @@ from wisangub.tester.findings.trace import ALIKE, DIFFERS
 
 from .causes import cause, causes
 from .picture import pages_of, svg
-from .words import About, claim_words, head, how_sure, origin, sequence, verdict, way_words
+from .words import About, claim_words, head, how_sure, load_words, origin, sequence, verdict, way_words
 
 _STYLE = pathlib.Path(__file__).with_name("style.css").read_text(encoding="utf-8")
 
@@ -106,6 +106,7 @@ def as_html(results: Results, about: About, not_tested: list[str]) -> str:
     seen = "".join(_article(number, held, about) for number, held in enumerate(results.once(), len(found) + 1))
     once = f"<h2>Now and then</h2>{seen}" if seen else ""
     once += _list("Besides the profile's objects, and no difference", results.besides)
+    once += _list("Load", load_words(results))
     once += _list("The way to the sign", way_words(results)) + _list("Not judged", results.unjudged())
     summary = _list("What differs", causes(found))
     once += _requirements(results)

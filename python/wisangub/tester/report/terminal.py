@@ -8,7 +8,7 @@ from wisangub.tester.findings.differences import Difference
 from wisangub.tester.findings.results import ChapterResult, Results
 
 from .causes import cause, causes
-from .words import About, besides_words, claims_words, how_sure, origin, sequence, verdict, way_words
+from .words import About, besides_words, claims_words, how_sure, load_words, origin, sequence, verdict, way_words
 
 try:
     from rich.console import Console
@@ -146,6 +146,7 @@ def ending(results: Results, about: About, not_tested: list[str]) -> list[str]:
     lines += ["", "not tested:", *[f"  {line}" for line in not_tested]]
     for title, held in (
         ("what the sign claims:", claims_words(results)),
+        ("load:", load_words(results)),
         ("the way to the sign:", way_words(results)),
         ("not judged:", results.unjudged()),
     ):

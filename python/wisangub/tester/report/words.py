@@ -144,6 +144,11 @@ def claims_words(results: Results) -> list[str]:
     return found + ([f"shown by no case: {', '.join(unseen)}"] if unseen else [])
 
 
+def load_words(results: Results) -> list[str]:
+    """How many requests a second the sign holds, where that was asked for."""
+    return results.load.words() if results.load is not None else []
+
+
 def way_words(results: Results) -> list[str]:
     """What was lost, late, doubled or garbled on the way, and how the sign was left."""
     found = results.way.words() if results.way is not None else []

@@ -1,5 +1,6 @@
 """Runs of sequences from the known state."""
 
+from collections import Counter
 from dataclasses import dataclass, field
 from typing import Sequence
 
@@ -12,6 +13,7 @@ from wisangub.tester.sign.pair import Exchange, Inconclusive, Pair
 from wisangub.tester.state.reset import Reset
 
 _TRIES = 3
+_MOST_LOST = 4  # SETs of a kind without a reply, until that is looked at as a difference
 
 
 @dataclass
@@ -36,12 +38,17 @@ class Runner:
     most_seconds: float = 40.0  # that a difference is made smaller
     runs: int = 0
     answered: set[tuple[object, ...]] = field(default_factory=set)  # what SETs were answered, by their likes
+    lost: Counter[tuple[object, ...]] = field(
+        default_factory=Counter
+    )  # and which were not, though they may be answered
+    is_doubtful: bool = False  # whether the last run had a SET without a reply of which no like was ever answered
 
     def steps(self, steps: Sequence[Step]) -> Run | None:
         """The steps, from the state of now, up to the first difference."""
         if _is_timed(steps) and self.reset.is_unlearnt():
             raise Inconclusive("the moment of the sign's ticks is not known")
         sent: list[bytes | None] = []
+        self.is_doubtful = False
         for at, step in enumerate(steps):
             exchange = self.pair.do(step)
             if exchange is None:
@@ -62,11 +69,17 @@ class Runner:
         return again is not None and again.mismatch is None
 
     def is_lost(self, exchange: Exchange) -> bool:
-        """Whether a SET without a reply is one of many whose replies came, on a way that loses some."""
+        """Whether a SET without a reply is one of many whose replies came, or of few of its kind so far, on a way that
+        loses some. What it did is known then."""
         if exchange.theirs is not None:
             self.answered.update(_likeness(exchange) if exchange.is_set else ())
             return False
-        return exchange.is_lost and self.pair.port.is_lossy() and _likeness(exchange) <= self.answered
+        if not exchange.is_lost or not self.pair.port.is_lossy():
+            return False
+        unknown = _likeness(exchange) - self.answered
+        self.lost.update(unknown)
+        self.is_doubtful |= bool(unknown)
+        return all(self.lost[one] <= _MOST_LOST for one in unknown)
 
     def anew(self, steps: Sequence[Step], after_a_tick: bool = True, is_alike: bool = False) -> Run | None:
         """The steps from the known state; a sequence that cannot be told is begun again.

@@ -10,7 +10,8 @@ from .clock import Clock
 from .link import Link
 from .way import Oddity, Way
 
-_TRIES = 3
+_TRIES, _LOSSY_TRIES = 3, 8
+_PAUSE, _AT_ONCE = 0.05, 0.001  # seconds in which nobody looked, and within which a reply was there already
 _MOST_KEPT = 8  # datagrams of one request number that are remembered
 _LEAST_LOOK = 0.05  # seconds that a look waits at least
 
@@ -39,6 +40,8 @@ class Port:
     asked_again: int = 0
     usual: float = 0.0  # seconds that replies take of late
     given_up: set[int] = field(default_factory=set)  # numbers of looks whose replies were not waited for
+    _looked: float = 0.0  # when it was last looked whether something had come
+    _is_timed: bool = True  # whether it is known when the last reply came
     patience: int | None = None  # requests in a row without a reply after which the test ends
 
     def __post_init__(self) -> None:
@@ -73,10 +76,29 @@ class Port:
             return False
         return any(_may_answer(reply, earlier) for earlier in self.odd.get(number, []) if earlier != octets)
 
+    def _receive(self, until: float) -> bytes | None:
+        """What comes in until this moment, and whether it is known how late it is: not of what lay there already when
+        nobody had looked for a while."""
+        begun = self.clock.now()
+        is_paused = begun - self._looked > _PAUSE
+        reply = self.link.receive(until)
+        now = self.clock.now()
+        self._is_timed = not is_paused or now - begun > _AT_ONCE
+        self._looked = now if not is_paused or self._is_timed or reply is None else self._looked
+        return reply
+
+    def listen(self, seconds: float) -> None:
+        """Waits so long, and passes over the replies that come."""
+        until = self.clock.now() + seconds
+        while (reply := self._receive(until)) is not None:
+            message = spelled(reply)
+            if message is not None and self.is_earlier(message.number, 0):
+                self._pass_over(reply, message, 0)
+
     def await_reply(self, number: int, octets: bytes, expected: bytes | None, until: float) -> bytes | None:
         """The reply to these octets with this number, or one that belongs to no request at all."""
         while True:
-            reply = self.link.receive(until)
+            reply = self._receive(until)
             if reply is None or reply == expected:
                 return reply
             message = spelled(reply)
@@ -101,7 +123,7 @@ class Port:
             return
         if message.number not in self.given_up:
             self.passed_over += 1
-            self.way.passed_over(message.number)
+            self.way.passed_over(message.number, self._is_timed)
 
     def ask_once(
         self,
@@ -110,13 +132,14 @@ class Port:
         expected: bytes | None = None,
         wait: float | None = None,
         is_answered: bool = True,
+        is_again: bool = False,
     ) -> Heard:
         """A request that is sent once. The octets of the reply that is expected need not be looked into. What is to
         have no answer is not `is_answered`, and what is not waited for as ever is not counted as lost."""
         if number != self.number:
             self.note(number, octets)
         if is_answered:
-            self.way.send(number, octets)
+            self.way.send(number, octets, is_again)
         begun = self.clock.now()
         self.send(octets)
         reply = self.await_reply(number, octets, expected, begun + (self.wait if wait is None else wait))
@@ -135,10 +158,14 @@ class Port:
             self.given_up.add(number)
         return heard
 
+    def _tries(self) -> int:
+        """How often a read is sent: more often on a way that loses some, until that is no reason for no reply."""
+        return _LOSSY_TRIES if self.is_lossy() else _TRIES
+
     def ask(self, octets: bytes, number: int, expected: bytes | None = None) -> Heard:
-        """A request that may be asked again, three times in all."""
-        for tries in range(1, _TRIES + 1):
-            heard = self.ask_once(octets, number, expected)
+        """A request that may be asked again, three times in all, and more on a way that loses some."""
+        for tries in range(1, self._tries() + 1):
+            heard = self.ask_once(octets, number, expected, is_again=tries > 1)
             heard.tries = tries
             if heard.reply is not None:
                 break
@@ -153,12 +180,12 @@ class Port:
         """Octets that are to have no answer, and a Get after them: their answer, and whether the Get was answered."""
         self.send(octets)
         answer: bytes | None = None
-        for _ in range(_TRIES):
-            self.way.send(sentinel_number, sentinel)
+        for tries in range(self._tries()):
+            self.way.send(sentinel_number, sentinel, is_again=tries > 0)
             begun = self.clock.now()
             self.send(sentinel)
             until = self.clock.now() + self.wait
-            while (reply := self.link.receive(until)) is not None:
+            while (reply := self._receive(until)) is not None:
                 message = spelled(reply)
                 if message is not None and message.number == sentinel_number:
                     self.way.answered(sentinel_number)

@@ -14,6 +14,7 @@ _MOST_KEPT = 2048  # requests whose replies may still come
 _MOST_SHOWN = 100  # octets of a reply that no way makes
 _SUMS = ("asked", "unanswered", "late", "doubled", "reboots")  # what is counted of a way
 _MOSTS = ("longest", "slowest")  # seconds, of which the most is kept
+_MOST_SHARE = 50.0  # percent of replies that a way may lose, by which silences are judged
 _DELAYS = 24  # replies that are looked at to see whether they come in time
 
 
@@ -31,10 +32,11 @@ class Oddity(Enum):
 
 @dataclass
 class Sent:
-    """A request that replies may come to: when it was sent first, its octets, how often it was sent and answered."""
+    """A request that replies may come to: when it was sent, its octets, how often it was sent and answered."""
 
     moment: float
     octets: bytes
+    last: float  # when it was sent last
     sends: int = 1
     replies: int = 0
 
@@ -69,16 +71,17 @@ class Way:
         """The share of requests whose reply did not come, came late or came twice."""
         return min(100.0, 100 * (self.unanswered + self.doubled) / self.asked) if self.asked else 0.0
 
-    def send(self, number: int, octets: bytes) -> None:
-        """A request is sent whose reply is waited for. Raises Stopped where it is no use to go on."""
+    def send(self, number: int, octets: bytes, is_again: bool = False) -> None:
+        """A request is sent whose reply is waited for, be it again since there was none. Raises Stopped where it is no
+        use to go on."""
         self._give_up()
-        known = self._recent.get(number)
-        if known is None or known.octets != octets or known.replies >= known.sends:
-            self._recent[number] = Sent(self.clock.now(), octets)
-            if len(self._recent) > _MOST_KEPT:
-                self._recent.pop(next(iter(self._recent)))
-        else:
-            known.sends += 1
+        if is_again and number in self._recent:
+            self._recent[number].sends += 1
+            self._recent[number].last = self.clock.now()
+            return
+        self._recent[number] = Sent(self.clock.now(), octets, self.clock.now())
+        if len(self._recent) > _MOST_KEPT:
+            self._recent.pop(next(iter(self._recent)))
 
     def answered(self, number: int, is_counted: bool = True) -> None:
         """A request has its reply."""
@@ -90,7 +93,7 @@ class Way:
         sent = self._recent.get(number)
         if sent is not None:
             sent.replies += 1
-            self._took(now - sent.moment)
+            self._took(sent)
 
     def silent(self, begun: float, is_counted: bool = True) -> None:
         """A request that was sent at this moment has no reply in time."""
@@ -101,21 +104,22 @@ class Way:
         self.unanswered += is_counted
         self._in_a_row += is_counted
 
-    def passed_over(self, number: int) -> None:
-        """A reply to an earlier request."""
+    def passed_over(self, number: int, is_timed: bool = True) -> None:
+        """A reply to an earlier request; it may be unknown how late it is."""
         sent = self._recent.get(number)
         if sent is None or sent.replies >= sent.sends:
             self.doubled += 1
             return
         self.late += 1
         sent.replies += 1
-        self._took(self.clock.now() - sent.moment)
+        if is_timed:
+            self._took(sent)
         self._silent_since, self._in_a_row = None, 0
 
-    def _took(self, seconds: float) -> None:
-        """A reply took so long."""
-        self._delays.append(seconds)
-        self.slowest = max(self.slowest, seconds)
+    def _took(self, sent: Sent) -> None:
+        """A request has a reply, which may be one to what was sent last."""
+        self._delays.append(self.clock.now() - sent.moment)
+        self.slowest = max(self.slowest, self.clock.now() - sent.last)
 
     def note(self, oddity: Oddity, octets: bytes) -> None:
         """A reply that no way makes of a right one."""
@@ -139,6 +143,13 @@ class Way:
         least = sorted(self._delays)[_DELAYS // 5] if len(self._delays) == _DELAYS else 0.0
         if least > self.wait:
             raise Stopped(f"four replies of five take {least:.1f} s or longer, and --wait is {self.wait:g}")
+
+    def most_silence(self, lossy: float) -> float:
+        """Seconds without a reply that so many percent of lost replies explain: 5, or what comes by chance in one test
+        of a hundred."""
+        share = min(lossy, _MOST_SHARE) / 100
+        in_a_row = math.ceil(math.log(100 * max(self.asked, 1)) / -math.log(share)) if share else 0
+        return max(LONGEST_SILENCE, in_a_row * self.wait)
 
     def is_in_doubt(self) -> bool:
         """Whether there was no reply for so long that the sign may be gone, or leaves one request alone unanswered."""

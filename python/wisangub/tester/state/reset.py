@@ -185,7 +185,7 @@ class Reset:
         reached once more."""
         if self.pair.port.is_lossy():
             self.reach_or_end()
-            self.pair.clock.sleep_until(self.pair.clock.now() + max(self.pair.port.way.slowest, self.pair.port.wait))
+            self.pair.port.listen(max(self.pair.port.way.slowest, self.pair.port.wait))
             self.pair.is_dirty = True
 
     def go_together(self) -> bool:
