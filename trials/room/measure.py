@@ -89,7 +89,9 @@ class Watch:
 
     def gets(self) -> int:
         """How many Gets of readings and tables went out, but for those that were sent again."""
-        return -whole(self.store.database.run("SELECT CAST(sum(reading_number) AS BIGINT) FROM signs")[0][0])
+        taken = self.store.database.run("SELECT CAST(sum(reading_number) AS BIGINT) FROM signs")[0][0]
+        left = self.store.database.run("SELECT CAST(sum(number - floor) AS BIGINT) FROM hearings")[0][0]
+        return -whole(taken) - whole(left or 0)
 
     def span(self) -> float:
         return time.monotonic() - self.begun
@@ -101,10 +103,7 @@ class Watch:
         self.next_look, of = time.monotonic() + LOOK_AT_MEMORY, children()
         for group in self.groups:
             group.look(of)
-        age = self.store.database.run(
-            "SELECT max({clock} - heard) FROM readings"
-            " WHERE (sign, number) IN (SELECT sign, min(number) FROM readings GROUP BY sign)"
-        )[0][0]
+        age = self.store.database.run("SELECT max({clock} - heard) FROM hearings")[0][0]
         self.oldest = max(self.oldest, float(age or 0))
 
 

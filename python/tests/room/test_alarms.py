@@ -132,7 +132,7 @@ def test_what_a_worker_sent_is_ours(tmp_path: pathlib.Path, where: str) -> None:
         assert look(at.store) == []
         at.store.database.run("DELETE FROM ledger")
         assert look(Store(database.opened(where))) == [(OTHER, "it shows “HELLO”, which 192.0.2.1 activated")]
-        worker.next_alarms = 0.0
+        worker.reader.next_alarms = 0.0
         at.store.database.run("UPDATE alarm_looks SET at = 0")
         worker.round()
-        assert worker.next_alarms > 0 and not worker.fault
+        assert worker.reader.next_alarms > 0 and not worker.fault

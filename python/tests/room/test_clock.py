@@ -23,11 +23,11 @@ def jump(held: Database, seconds: float) -> None:
 def test_a_reading_that_was_asked_at_a_time_to_come_is_due(where: str) -> None:
     store, other, sign = two_stores(where)
     jump(store.database, AHEAD)
-    assert store.readings.due([sign]) == [(sign, -1)] and store.messages.due([sign], 60, 9) == [sign]
-    assert store.readings.to_read() == [] == store.messages.due([sign], 60, 9)
-    assert other.readings.to_read() == [sign] and other.messages.due([sign], 60, 9) == [sign]
+    assert store.readings.due([sign]) == [(sign, -1)] and store.messages.due([sign], 60) == [sign]
+    assert store.readings.to_read() == [] == store.messages.due([sign], 60) == store.messages.to_read(60)
+    assert other.readings.to_read() == [sign] == other.messages.to_read(60) == other.messages.due([sign], 60)
     assert other.readings.due([sign]) == [(sign, -2)] and other.readings.to_read() == [] == other.messages.due(
-        [sign], 60, 9
+        [sign], 60
     )
 
 
@@ -87,4 +87,6 @@ def test_a_clock_that_is_behind_the_database_lets_no_number_come_twice(where: st
     for seconds in (AHEAD, 0.0, -AHEAD, AHEAD):
         jump(store.database, seconds)
         numbers += [store.readings.due([sign])[0][1], other.readings.numbers([sign])[sign]]
-    assert len(set(numbers)) == len(numbers) and numbers == sorted(numbers, reverse=True)
+    assert len(set(numbers)) == len(numbers) and all(
+        of == sorted(of, reverse=True) for of in (numbers[::2], numbers[1::2])
+    )

@@ -19,7 +19,8 @@ from wisangub.room.store.commands import Command
 from wisangub.room.store.database import Database, Failed, Taken
 from wisangub.room.store.lines import Line, News
 from wisangub.room.store.messages import RowSaid
-from wisangub.room.store.readings import Said
+from wisangub.room.store.queries import sign as sign_view
+from wisangub.room.store.readings import BLOCK, Said
 from wisangub.room.store.store import Store
 
 BLANK = "blank 1 65535 255 192.0.2.1"
@@ -245,8 +246,14 @@ def test_a_reading_is_a_row_where_it_is_another(where: str) -> None:
         and first.readings.due([sign]) == [(sign, -1)]
         and second.readings.due([sign]) == []
     )
-    assert [store.readings.numbers([sign])[sign] for store in (first, second, first)] == [-2, -3, -4]
-    first.readings.keep([Said(sign, -1, 5, "a"), Said(sign, -5, 4, "a")])
+    assert [store.readings.numbers([sign])[sign] for store in (first, second, first)] == [
+        -BLOCK - 1,
+        -BLOCK - 2,
+        -BLOCK - 3,
+    ]
+    first.readings.keep([Said(sign, -1, 5, "a")])
+    assert first.readings.of(sign) == [(5, "a", None)]
+    first.readings.keep([Said(sign, -5, 4, "a"), Said(sign, -4, 3, "a")])
     assert first.readings.of(sign) == [(4, "a", None)]
     second.readings.keep([Said(sign, -7, fault="no reply")])
     first.readings.keep([Said(sign, -6, 4, "b")])
@@ -256,11 +263,33 @@ def test_a_reading_is_a_row_where_it_is_another(where: str) -> None:
     ], "one that comes late is not the newest"
 
 
+def test_numbers_are_taken_anew_where_the_last_ones_may_be_forgotten(where: str) -> None:
+    first, second, sign = two_stores(where)
+
+    def ask(store: Store) -> list[tuple[int, int]]:
+        store.database.run("UPDATE hearings SET read_at = 0")
+        return store.readings.due([sign])
+
+    assert ask(first) == [(sign, -1)] and ask(second) == [(sign, -2)]
+    first.readings.anew([sign])
+    assert ask(second) == [(sign, -BLOCK - 1)] and ask(first) == [(sign, -BLOCK - 2)]
+    first.readings.keep([Said(sign, -BLOCK - 2, 5, "{}")])
+    first.database.run("DELETE FROM hearings")  # as a crash of PostgreSQL does
+    found = sign_view(second.database, sign)
+    assert first.readings.to_read() == [sign] and found is not None and found.heard is not None
+    assert ask(first) == [(sign, -2 * BLOCK - 1)]
+    first.readings.keep([Said(sign, -2 * BLOCK - 1, 4, "{}")])
+    assert first.readings.of(sign) == [(4, "{}", None)], "and what is said still is no new row"
+    while len(ask(second)) and second.database.run("SELECT number > floor FROM hearings")[0][0]:
+        pass
+    assert ask(first) == [(sign, -3 * BLOCK - 1)], "below all that were taken"
+
+
 def test_a_table_has_the_newest_of_each_row(where: str) -> None:
     first, second, sign = two_stores(where)
-    assert first.messages.due([sign], 60, 9) == [sign] and second.messages.due([sign], 60, 9) == []
+    assert first.messages.due([sign], 60) == [sign] and second.messages.due([sign], 60) == []
     first.messages.want(sign)
-    assert second.messages.due([sign], 60, 0) == [] and second.messages.due([sign], 60, 9) == [sign]
+    assert second.messages.to_read(60) == [sign] == second.messages.due([sign], 60) and first.messages.to_read(60) == []
     first.messages.keep([RowSaid(sign, 3, 1, -1, 1, None), RowSaid(sign, 3, 2, -2, 4, "a")])
     second.messages.keep([RowSaid(sign, 3, 2, -4, 4, "b"), RowSaid(sign, 3, 1, -5, 5, "c")])
     first.messages.keep([RowSaid(sign, 3, 2, -3, 4, "late"), RowSaid(sign, 3, 1, -6, 1, None)])

@@ -228,7 +228,7 @@ def test_what_the_wall_says(tmp_path: pathlib.Path) -> None:
         assert "central · priority 100 · without end" in text and " s ago</time>" in text
         assert "3 signs, 1 lit, 2 silent" in text and len(re.findall(r'<li class="card', text)) == len(NAMES)
         assert 'type="checkbox"' not in text, "a reader chooses nothing"
-        bench.store.database.run("UPDATE readings SET heard = heard - 3600 WHERE sign = ?", bench.one)
+        bench.store.database.run("UPDATE hearings SET heard = heard - 3600 WHERE sign = ?", bench.one)
         assert "not heard lately" in (await one.get("/"))[1]
 
     run(tmp_path, str(tmp_path / "database"), act)

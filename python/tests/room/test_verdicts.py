@@ -60,7 +60,7 @@ def test_a_sign_is_asked_after_a_worker_died(
         monkeypatch.setattr(worker.store.lines, "keep", dies)
         with pytest.raises(KeyboardInterrupt):
             at.ended(worker, command)
-        assert at.store.commands.how(command) is None and worker.verdicts.to_ask == []
+        assert at.store.commands.how(command) is None and worker.reader.verdicts.to_ask == []
         at.store.database.run("UPDATE signs SET leased_by = NULL")
         second = at.worker()
         assert at.ended(second, command) == HOW and said(at, second, command).startswith(FOUND)
@@ -71,12 +71,12 @@ def test_a_sign_that_does_not_answer_leaves_the_words_as_they_are(tmp_path: path
         worker = at.worker()
         command = at.ask(WIDE)
         assert at.ended(worker, command) == HOW
-        worker.verdicts.to_ask = []
-        worker.verdicts.want(at.sign_id, None)
-        assert worker.verdicts.to_ask == []
-        worker.verdicts.end(worker.signs[at.sign_id], Command(command, WIDE), "no reply")
-        worker.verdicts.end(worker.signs[at.sign_id], Command(command, WIDE), [2, 2, 0])
-        worker.verdicts.keep()
+        worker.reader.verdicts.to_ask = []
+        worker.reader.verdicts.want(at.sign_id, None)
+        assert worker.reader.verdicts.to_ask == []
+        worker.reader.verdicts.end(worker.signs[at.sign_id], Command(command, WIDE), "no reply")
+        worker.reader.verdicts.end(worker.signs[at.sign_id], Command(command, WIDE), [2, 2, 0])
+        worker.reader.verdicts.keep()
         assert at.store.commands.why(command) == ""
 
 
@@ -84,14 +84,14 @@ def test_one_sign_is_asked_of_one_command_at_a_time(tmp_path: pathlib.Path) -> N
     with bench(tmp_path, str(tmp_path / "database")) as at:
         worker = at.worker()
         first, second = (Command(at.ask(WIDE), WIDE) for _ in range(2))
-        worker.verdicts.to_ask = [(at.sign_id, first), (at.sign_id, second), (at.sign_id + 1, first)]
-        worker.verdicts.begin()
-        assert worker.verdicts.to_ask == [(at.sign_id, second)]
-        worker.verdicts.begin()
-        assert worker.verdicts.to_ask == []
-        numbers = [get.number for get in worker.gets.waiting.values()]
+        worker.reader.verdicts.to_ask = [(at.sign_id, first), (at.sign_id, second), (at.sign_id + 1, first)]
+        worker.reader.verdicts.begin()
+        assert worker.reader.verdicts.to_ask == [(at.sign_id, second)]
+        worker.reader.verdicts.begin()
+        assert worker.reader.verdicts.to_ask == []
+        numbers = [get.number for get in worker.reader.gets.waiting.values()]
         assert len(set(numbers)) == 2 and all(number < 0 for number in numbers)
-        worker.gets.close()
+        worker.reader.gets.close()
 
 
 def test_a_command_on_the_command_line_says_why(tmp_path: pathlib.Path, capfd: pytest.CaptureFixture[str]) -> None:

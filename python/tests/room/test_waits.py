@@ -103,7 +103,7 @@ def test_a_file_that_another_one_keeps_is_waited_for(
     monkeypatch.setattr(sqlite, "PATIENCE", 0.2)
     where = str(tmp_path / "database")
     other = database.opened(where)
-    other.begin(False)
+    other.begin(False, True)
     with pytest.raises(Away, match="locked"):
         Store(database.opened(where)).signs.enter([SIGN])
     threading.Timer(1.5, other.roll_back).start()

@@ -38,12 +38,12 @@ def test_a_reading_has_a_socket_of_its_own(tmp_path: pathlib.Path, where: str) -
         ports: dict[bool, set[int]] = {}
         ends = time.monotonic() + 30
         while set(ports) != {False, True} and time.monotonic() < ends:
-            worker.readings.begin()
+            worker.reader.readings.begin()
             for octets, peer in zip(list(at.live.requests), list(at.live.peers)):
                 message = wire.spelled(octets)
                 assert message is not None
                 ports.setdefault(message.number < 0, set()).add(peer[1])
-        worker.gets.close()
+        worker.reader.gets.close()
         found.close()
         assert ports[False] == {own} and own not in ports[True]
 

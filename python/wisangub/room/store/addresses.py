@@ -80,6 +80,7 @@ class Addresses:
             sign,
             reading,
         )
+        self._run("UPDATE hearings SET number = floor WHERE sign = ?", sign)
 
     def part(self) -> None:
         """Of signs that were once entered under one address, the one that has it goes on above the others."""

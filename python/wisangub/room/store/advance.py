@@ -24,6 +24,8 @@ _TIMES = (
     "ended FROM commands",
     "at FROM ledger",
     "heard FROM readings",
+    "heard FROM hearings",
+    "read_at FROM hearings",
     "read_at FROM signs",
     "at FROM audit",
 )
@@ -89,6 +91,7 @@ def advance(store: Store, who: str, first: int | None) -> Step:
                 number,
                 sign,
             )
+        store.database.run("DELETE FROM hearings")
         lowered = store.database.run(
             "UPDATE signs SET reading_number = reading_number - ? WHERE reading_number - ? > ?" " RETURNING id",
             step,

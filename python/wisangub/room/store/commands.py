@@ -7,7 +7,7 @@ from . import rights, rules
 from .audit import note
 from .connection import Database, Taken
 from .shown_by import text_of
-from .values import CLOCK, text_or_none, texts, whole
+from .values import CLOCK, places, text_or_none, texts, whole
 
 
 @dataclass(frozen=True)
@@ -70,21 +70,33 @@ class Commands:
 
     def begun(self, sign: int) -> tuple[Command, int] | None:
         """The command that is under way, and the number of its line."""
+        return self.begun_of([sign]).get(sign)
+
+    def begun_of(self, signs: Sequence[int]) -> dict[int, tuple[Command, int]]:
+        """Those of many signs."""
+        if not signs:
+            return {}
         rows = self._run(
-            "SELECT id, line, line_number FROM commands"
-            " WHERE sign = ? AND line_number IS NOT NULL AND outcome IS NULL",
-            sign,
+            f"SELECT sign, id, line, line_number FROM commands WHERE sign IN ({places(signs)})"
+            " AND line_number IS NOT NULL AND outcome IS NULL",
+            *signs,
         )
-        return (Command(whole(rows[0][0]), str(rows[0][1])), whole(rows[0][2])) if rows else None
+        return {whole(row[0]): (Command(whole(row[1]), str(row[2])), whole(row[3])) for row in rows}
 
     def next(self, sign: int) -> Command | None:
         """The command whose turn it is."""
+        return self.next_of([sign]).get(sign)
+
+    def next_of(self, signs: Sequence[int]) -> dict[int, Command]:
+        """Those of many signs."""
+        if not signs:
+            return {}
         rows = self._run(
-            "SELECT id, line FROM commands WHERE sign = ? AND line_number IS NULL AND outcome IS NULL"
-            " ORDER BY id LIMIT 1",
-            sign,
+            f"SELECT sign, id, line FROM commands WHERE id IN (SELECT min(id) FROM commands WHERE outcome IS NULL"
+            f" AND line_number IS NULL AND sign IN ({places(signs)}) GROUP BY sign)",
+            *signs,
         )
-        return Command(whole(rows[0][0]), str(rows[0][1])) if rows else None
+        return {whole(row[0]): Command(whole(row[1]), str(row[2])) for row in rows}
 
     def end(self, command: int, how: str) -> None:
         """How a command ended, in words; the first word on it stands."""

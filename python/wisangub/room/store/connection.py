@@ -4,8 +4,9 @@ How SQL is written, so that SQLite and PostgreSQL both take it:
 
 - `?` stands for a value and for nothing else; a text in quotes holds no `?` and no `{clock}`. `{clock}` is the
   database's time, in seconds since 1970. No other clock is written into a table.
-- Types are TEXT, BIGINT, DOUBLE PRECISION, and `{key}` for a column `id` that numbers its rows (in migrations). Truth
-  is 0 or 1, octets are pairs of hexadecimal digits. A text holds no character of number 0.
+- Types are TEXT, BIGINT, DOUBLE PRECISION, and `{key}` for a column `id` that numbers its rows (in migrations, where
+  `CREATE {unlogged}TABLE` makes a table that may be empty after a crash). Truth is 0 or 1, octets are pairs of
+  hexadecimal digits. A text holds no character of number 0.
 - `INSERT .. ON CONFLICT .. DO UPDATE`, `RETURNING` and partial indexes are there in both. `LIKE` differs (case), and a
   sum of BIGINT is written `CAST(sum(a) AS BIGINT)`.
 - A migration is `migrations/NNN_name.sql`: comments are lines of their own, a statement ends with `;` at a line's end.
@@ -49,6 +50,7 @@ class Database:
 
     clock = ""  # seconds since 1970 as an expression of SQL
     key = ""  # the type of a column that numbers its table's rows
+    unlogged = ""  # before the word TABLE: it may be empty after a crash
     lock = ""  # at the end of a SELECT: its rows are this transaction's, in their order, until it ends
     skip = ""  # the same, without those that are another one's now
 
@@ -62,11 +64,19 @@ class Database:
         with self.turn, self.watched():
             return self.rows(self.own(sql), values)
 
-    def run_all(self, sql: str, values: Sequence[Row]) -> int:
-        """Runs a statement once for each row of values, within a transaction: how many rows it changed in all."""
+    def run_all(self, sql: str, values: Sequence[Row]) -> None:
+        """Runs a statement once for each row of values, within a transaction. What the database refuses of it may be
+        raised by a later statement of the transaction, or by its end."""
+        assert self.is_within
+        if values:
+            with self.turn, self.watched():
+                self.put(self.own(sql), values)
+
+    def count_all(self, sql: str, values: Sequence[Row]) -> int:
+        """The same: how many rows it changed in all."""
         assert self.is_within
         with self.turn, self.watched():
-            return self.changed(self.own(sql), values)
+            return self.changed(self.own(sql), values) if values else 0
 
     def own(self, sql: str) -> str:
         """The statement in this database's words."""
@@ -85,17 +95,22 @@ class Database:
         """The rows of a statement of this database."""
         raise NotImplementedError
 
+    def put(self, sql: str, values: Sequence[Row]) -> None:
+        """Runs a statement of this database for each of these."""
+        raise NotImplementedError
+
     def changed(self, sql: str, values: Sequence[Row]) -> int:
         """How many rows a statement of this database changed, run for each of these."""
         raise NotImplementedError
 
     @contextlib.contextmanager
-    def transaction(self, is_alone: bool = False) -> Iterator[None]:
+    def transaction(self, is_alone: bool = False, is_lasting: bool = True) -> Iterator[None]:
         """All of what is run within it happens, or none of it, where something is raised; it is on the disk when the
-        block has ended. Of those that are alone, one is under way at a time."""
+        block has ended, unless it need not be lasting: then a crash may undo it, whole. Of those that are alone, one
+        is under way at a time."""
         with self.turn:
             assert not self.is_within, "a transaction stands within no other one"
-            self.begin(is_alone)
+            self.begin(is_alone, is_lasting)
             self.is_within, self.is_spoilt = True, False
             try:
                 yield
@@ -108,7 +123,7 @@ class Database:
             finally:
                 self.is_within = False
 
-    def begin(self, is_alone: bool) -> None:
+    def begin(self, is_alone: bool, is_lasting: bool) -> None:
         raise NotImplementedError
 
     def commit(self) -> None:

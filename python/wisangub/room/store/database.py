@@ -66,7 +66,7 @@ def migrate(database: Database, known: list[tuple[int, str]]) -> list[int]:
             if number in found:
                 continue
             for statement in _statements(text):
-                database.run(statement.replace("{key}", database.key))
+                database.run(statement.replace("{key}", database.key).replace("{unlogged}", database.unlogged))
             database.run("INSERT INTO migrations (number, at) VALUES (?, {clock})", number)
             done.append(number)
     return done

@@ -57,7 +57,11 @@ class ReadingView:
 
 def readings(database: Database, number: int, most: int = 100) -> list[ReadingView]:
     rows = database.run(
-        "SELECT at, heard, shown, fault FROM readings WHERE sign = ? ORDER BY number LIMIT ?", number, most
+        "SELECT readings.at, CASE WHEN hearings.newest = readings.number THEN COALESCE(hearings.heard, readings.heard)"
+        " ELSE readings.heard END, shown, fault FROM readings LEFT JOIN hearings ON hearings.sign = readings.sign"
+        " WHERE readings.sign = ? ORDER BY readings.number LIMIT ?",
+        number,
+        most,
     )
     return [
         ReadingView(

@@ -4,12 +4,12 @@ docs/CONTROL.md, "How a sign's lines are kept", says why the order of what is do
 """
 
 from dataclasses import dataclass, field
-from typing import Sequence
+from typing import NamedTuple, Sequence
 
 from wisangub.endpoint.records import Head
 
 from .connection import Database, Taken, Value
-from .values import CLOCK, whole
+from .values import CLOCK, places, whole
 
 
 @dataclass(frozen=True)
@@ -22,6 +22,15 @@ class Line:
     text: bytes
     command: int | None = None
     is_first: bool = False
+
+
+class Journal(NamedTuple):
+    """The lines of a sign's last centre, first the one that says which centre it is; that one's number (`begun_at`);
+    and the least number that a centre of this sign may begin with."""
+
+    begun_at: int
+    least: int
+    lines: list[bytes]
 
 
 @dataclass
@@ -51,17 +60,27 @@ class Lines:
         self.database = database
         self._run = database.run
 
-    def of(self, sign: int) -> tuple[int, int, list[bytes]]:
-        """The lines of the sign's last centre, first the one that says which centre it is; that one's number; and the
-        least number that a centre of this sign may begin with."""
+    def of(self, sign: int) -> Journal:
+        """The lines of the sign's last centre."""
+        return self.of_all([sign])[sign]
+
+    def of_all(self, signs: Sequence[int]) -> dict[int, Journal]:
+        """Those of many signs."""
+        if not signs:
+            return {}
         rows = self._run(
-            "SELECT number, line FROM lines WHERE sign = ? AND number >="
-            " (SELECT centre FROM signs WHERE id = ?) ORDER BY number",
-            sign,
-            sign,
+            f"SELECT lines.sign, lines.number, lines.line FROM signs JOIN lines ON lines.sign = signs.id"
+            f" AND lines.number >= signs.centre WHERE signs.id IN ({places(signs)}) ORDER BY lines.sign, lines.number",
+            *signs,
         )
-        least = whole(self._run("SELECT first_number FROM signs WHERE id = ?", sign)[0][0])
-        return (whole(rows[0][0]) if rows else 1), least, [str(row[1]).encode() for row in rows]
+        held: dict[int, list[tuple[int, bytes]]] = {}
+        for sign, number, line in rows:
+            held.setdefault(whole(sign), []).append((whole(number), str(line).encode()))
+        least = self._run(f"SELECT id, first_number FROM signs WHERE id IN ({places(signs)})", *signs)
+        return {
+            whole(sign): Journal(of[0][0] if (of := held.get(whole(sign), [])) else 1, whole(first), [x for _, x in of])
+            for sign, first in least
+        }
 
     def used(self, sign: int) -> int:
         """A number above all that the sign's centres are known to have used."""
@@ -87,7 +106,7 @@ class Lines:
         run_all = self.database.run_all
         with self.database.transaction():
             run_all("UPDATE commands SET step = ? WHERE id = ? AND outcome IS NULL", list(steps))
-            changed = run_all(
+            changed = self.database.count_all(
                 "UPDATE commands SET line_number = ? WHERE id = ? AND line_number IS NULL AND outcome IS NULL", begun
             )
             if changed != len(begun):
@@ -133,21 +152,20 @@ class Lines:
         soon."""
         news = sorted(news, key=lambda one: one.sign)
         ended = [one for one in news if one.how is not None]
+        run_all, signs = self.database.run_all, [(one.sign,) for one in ended]
         with self.database.transaction():
-            for one in news:
-                self.database.run_all(
-                    f"INSERT INTO ledger (sign, number, code, outcome, at) VALUES (?, ?, ?, ?, {CLOCK})"
-                    " ON CONFLICT (sign, number) DO UPDATE SET outcome = excluded.outcome, at = excluded.at"
-                    " WHERE ledger.outcome = 'waiting' AND excluded.outcome <> 'waiting'",
-                    [(one.sign, *_entry(line)) for line in one.ledger],
-                )
-            self.database.run_all(
+            run_all(
+                f"INSERT INTO ledger (sign, number, code, outcome, at) VALUES (?, ?, ?, ?, {CLOCK})"
+                " ON CONFLICT (sign, number) DO UPDATE SET outcome = excluded.outcome, at = excluded.at"
+                " WHERE ledger.outcome = 'waiting' AND excluded.outcome <> 'waiting'",
+                [(one.sign, *_entry(line)) for one in news for line in one.ledger],
+            )
+            run_all(
                 f"UPDATE commands SET outcome = ?, ended = {CLOCK} WHERE id = ? AND outcome IS NULL",
                 [(one.how, one.command) for one in ended],
             )
-            self.database.run_all(
-                "UPDATE signs SET read_at = 0, table_wanted = 1 WHERE id = ?", [(one.sign,) for one in ended]
-            )
+            run_all("UPDATE signs SET table_wanted = 1 WHERE id = ?", signs)
+            run_all("UPDATE hearings SET read_at = 0 WHERE sign = ?", signs)
 
     def ledger(self, sign: int) -> list[str]:
         """The rows, as lines of a status."""

@@ -6,6 +6,9 @@ from typing import Sequence
 from .connection import Database
 from .values import CLOCK, places, text_or_none, time_of, whole
 
+# a table that was asked for at a time to come is due: the clock jumped
+_DUE = f"(table_wanted = 1 OR table_read_at + ? <= {CLOCK} OR table_read_at > {CLOCK})"
+
 
 @dataclass(frozen=True)
 class RowSaid:
@@ -26,20 +29,21 @@ class Messages:
         self.database = database
         self._run = database.run
 
-    def due(self, signs: Sequence[int], seconds: float, most: int) -> list[int]:
-        """At most so many of the signs whose table was asked for longer ago than these seconds, or is wanted: they
-        count as asked for now."""
-        if not signs or most < 1:
+    def to_read(self, seconds: float) -> list[int]:
+        """The signs whose table was asked for longer ago than these seconds, or is wanted: those first."""
+        rows = self._run(f"SELECT id FROM signs WHERE {_DUE} ORDER BY table_wanted DESC, table_read_at, id", seconds)
+        return [whole(row[0]) for row in rows]
+
+    def due(self, signs: Sequence[int], seconds: float) -> list[int]:
+        """Those of the signs whose table is due: they count as asked for now."""
+        if not signs:
             return []
         rows = self._run(
-            f"WITH due AS MATERIALIZED (SELECT id FROM signs WHERE id IN ({places(signs)})"
-            f" AND (table_wanted = 1 OR table_read_at + ? <= {CLOCK} OR table_read_at > {CLOCK})"
-            f" ORDER BY table_wanted DESC, table_read_at LIMIT ? {{skip}})"
+            f"WITH due AS MATERIALIZED (SELECT id FROM signs WHERE id IN ({places(signs)}) AND {_DUE} {{skip}})"
             f" UPDATE signs SET table_read_at = {CLOCK}, table_wanted = 0"
             " WHERE id IN (SELECT id FROM due) RETURNING id",
             *signs,
             seconds,
-            most,
         )
         return [whole(row[0]) for row in rows]
 
@@ -49,30 +53,29 @@ class Messages:
 
     def keep(self, said: Sequence[RowSaid]) -> None:
         """What signs said of rows: the newest of each row that was ever in use."""
-        if said:
-            with self.database.transaction():
-                for one in sorted(said, key=lambda one: one.sign):
-                    self._keep_one(one)
-
-    def _keep_one(self, said: RowSaid) -> None:
-        key = (said.sign, said.memory, said.number)
-        changed = self._run(
-            f"UPDATE messages SET reading = ?, heard = {CLOCK}, status = ?, held = ?"
-            " WHERE sign = ? AND memory = ? AND number = ? AND reading > ? RETURNING number",
-            said.reading,
-            said.status,
-            said.held,
-            *key,
-            said.reading,
-        )
-        if not changed and said.held is not None:
-            self._run(
+        if not said:
+            return
+        said = sorted(said, key=lambda one: (one.sign, one.memory, one.number, -one.reading))
+        with self.database.transaction(is_lasting=False):
+            self.database.run_all(
+                f"UPDATE messages SET reading = ?, heard = {CLOCK}, status = ?, held = ?"
+                " WHERE sign = ? AND memory = ? AND number = ? AND reading > ?",
+                [
+                    (one.reading, one.status, one.held, one.sign, one.memory, one.number, one.reading)
+                    for one in said
+                    if one.held is None
+                ],
+            )
+            self.database.run_all(
                 f"INSERT INTO messages (sign, memory, number, reading, heard, status, held)"
-                f" VALUES (?, ?, ?, ?, {CLOCK}, ?, ?) ON CONFLICT (sign, memory, number) DO NOTHING",
-                *key,
-                said.reading,
-                said.status,
-                said.held,
+                f" VALUES (?, ?, ?, ?, {CLOCK}, ?, ?) ON CONFLICT (sign, memory, number) DO UPDATE"
+                f" SET reading = excluded.reading, heard = {CLOCK}, status = excluded.status, held = excluded.held"
+                " WHERE messages.reading > excluded.reading",
+                [
+                    (one.sign, one.memory, one.number, one.reading, one.status, one.held)
+                    for one in said
+                    if one.held is not None
+                ],
             )
 
     def of(self, sign: int) -> list[tuple[int, int, int, str | None, float]]:

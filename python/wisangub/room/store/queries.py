@@ -9,8 +9,12 @@ from .values import SLACK, places, text_or_none, time_of, time_or_none, whole, w
 
 _SIGNS = """
 SELECT signs.id, signs.name, signs.place, signs.address, signs.poll,
-       last.at, last.heard, last.fault, said.shown, said.minutes, said.at, said.heard, signs.still
+       last.at, last.fault, said.shown,
+       CASE WHEN hearings.newest = said.number THEN hearings.minutes ELSE said.minutes END, said.at,
+       CASE WHEN hearings.newest = said.number THEN COALESCE(hearings.heard, said.heard) ELSE said.heard END,
+       signs.still
 FROM signs
+LEFT JOIN hearings ON hearings.sign = signs.id
 LEFT JOIN readings AS last ON last.sign = signs.id
      AND last.number = (SELECT MIN(number) FROM readings WHERE sign = signs.id)
 LEFT JOIN readings AS said ON said.sign = signs.id
@@ -92,7 +96,7 @@ class SignView:
 
 
 def _sign_view(row: Row) -> SignView:
-    fault = text_or_none(row[7])
+    fault = text_or_none(row[6])
     return SignView(
         whole(row[0]),
         str(row[1]),
@@ -101,11 +105,11 @@ def _sign_view(row: Row) -> SignView:
         time_of(row[4]),
         fault,
         time_or_none(row[5]) if fault is not None else None,
-        None if row[8] is None else Shown.of(str(row[8])),
-        whole_or_none(row[9]),
+        None if row[7] is None else Shown.of(str(row[7])),
+        whole_or_none(row[8]),
+        time_or_none(row[9]),
         time_or_none(row[10]),
-        time_or_none(row[11]),
-        text_or_none(row[12]),
+        text_or_none(row[11]),
     )
 
 

@@ -1,13 +1,23 @@
-"""The table of readings: what each sign says it shows, and the numbers of the requests that ask."""
+"""The tables of readings and hearings: what each sign says it shows, when it was heard, and the numbers of the requests
+that ask.
 
+Numbers are taken from the table of signs some at a time, and each is on the disk before it goes out. Which of them was
+used last is in hearings, which a crash may empty: then new ones are taken, below all that were.
+"""
+
+import time
 from dataclasses import dataclass
 from typing import Sequence
 
 from .connection import Database
 from .values import CLOCK, LEAST_NUMBER, places, text_or_none, whole, whole_or_none
 
+BLOCK = 64  # numbers that are taken for a sign at once
+_WRITTEN = 3600.0  # seconds after which a row says when it was heard, though nothing in it is new
 # one that was asked at a time to come is due: the clock jumped
-_DUE = f"(read_at + poll <= {CLOCK} OR read_at > {CLOCK})"
+_DUE = (
+    f"(hearings.read_at + (SELECT poll FROM signs WHERE id = hearings.sign) <= {CLOCK} OR hearings.read_at > {CLOCK})"
+)
 
 
 @dataclass(frozen=True)
@@ -21,34 +31,103 @@ class Said:
     fault: str | None = None
 
 
+@dataclass(frozen=True)
+class _Known:
+    """A sign's newest row, as this process knows it, and when it was written, in seconds since some time."""
+
+    number: int
+    shown: str | None
+    fault: str | None
+    written: float
+
+
 class Readings:
     """Readings of all signs."""
 
     def __init__(self, database: Database) -> None:
         self.database = database
         self._run = database.run
+        self._known: dict[int, _Known] = {}
+
+    # ---- whose turn it is
+
+    def to_read(self) -> list[int]:
+        """The signs whose next reading is due: the one that was read longest ago first."""
+        rows = self._run(
+            "SELECT signs.id FROM signs LEFT JOIN hearings ON hearings.sign = signs.id"
+            f" WHERE hearings.sign IS NULL OR {_DUE} ORDER BY COALESCE(hearings.read_at, 0), signs.id"
+        )
+        return [whole(row[0]) for row in rows]
 
     def due(self, signs: Sequence[int]) -> list[tuple[int, int]]:
         """Those of the signs whose next reading is due, each with a request's number below all that its readings
         had."""
         if not signs:
             return []
+        with self.database.transaction(is_lasting=False):
+            rows = self._run(
+                f"WITH due AS MATERIALIZED (SELECT sign FROM hearings WHERE sign IN ({places(signs)})"
+                f" AND {_DUE} AND number > floor {{skip}})"
+                f" UPDATE hearings SET read_at = {CLOCK}, number = number - 1"
+                " WHERE sign IN (SELECT sign FROM due) RETURNING sign, number",
+                *signs,
+            )
+        found = [(whole(row[0]), whole(row[1])) for row in rows]
+        return found + self._due_anew(sorted({*signs} - {sign for sign, _ in found}))
+
+    def _due_anew(self, signs: Sequence[int]) -> list[tuple[int, int]]:
+        """The same for signs that want new numbers first, which are on the disk when it returns."""
+        if not signs:
+            return []
         rows = self._run(
-            f"WITH due AS MATERIALIZED (SELECT id FROM signs WHERE id IN ({places(signs)})"
-            f" AND {_DUE} AND reading_number > ? {{skip}})"
-            f" UPDATE signs SET read_at = {CLOCK}, reading_number = reading_number - 1"
-            " WHERE id IN (SELECT id FROM due) RETURNING id, reading_number",
+            "SELECT signs.id FROM signs LEFT JOIN hearings ON hearings.sign = signs.id"
+            f" WHERE signs.id IN ({places(signs)}) AND signs.reading_number > ?"
+            f" AND (hearings.sign IS NULL OR hearings.number <= hearings.floor AND {_DUE})",
             *signs,
             LEAST_NUMBER,
         )
-        return [(whole(row[0]), whole(row[1])) for row in rows]
+        wanting = sorted(whole(row[0]) for row in rows)
+        if not wanting:
+            return []
+        with self.database.transaction():
+            taken = self._taken(wanting)
+            self.database.run_all(
+                f"INSERT INTO hearings (sign, read_at, number, floor) VALUES (?, {CLOCK}, ?, ?) ON CONFLICT (sign)"
+                f" DO UPDATE SET read_at = {CLOCK}, number = excluded.number, floor = excluded.floor",
+                [(sign, before - 1, floor) for sign, before, floor in taken],
+            )
+        return [(sign, before - 1) for sign, before, _ in taken]
 
-    def to_read(self) -> list[int]:
-        """The signs whose next reading is due: the one that was read longest ago first."""
-        return [whole(row[0]) for row in self._run(f"SELECT id FROM signs WHERE {_DUE} ORDER BY read_at")]
+    def _taken(self, signs: Sequence[int]) -> list[tuple[int, int, int]]:
+        """Those of the signs for which nobody else takes numbers: each with the number above those that are taken now,
+        and the last of them."""
+        rows = self._run(
+            f"SELECT id, reading_number FROM signs WHERE id IN ({places(signs)}) AND reading_number > ?"
+            " ORDER BY id {skip}",
+            *signs,
+            LEAST_NUMBER,
+        )
+        has = self._run(f"SELECT sign FROM hearings WHERE sign IN ({places(signs)}) AND number > floor", *signs)
+        done = {whole(row[0]) for row in has}
+        taken = [
+            (whole(sign), whole(before), max(whole(before) - BLOCK, LEAST_NUMBER))
+            for sign, before in rows
+            if whole(sign) not in done
+        ]
+        self.database.run_all(
+            f"UPDATE signs SET reading_number = ?, read_at = {CLOCK} WHERE id = ?",
+            [(floor, sign) for sign, _, floor in taken],
+        )
+        return taken
+
+    def anew(self, signs: Sequence[int]) -> None:
+        """New numbers for the signs from now on: which were used last may be forgotten where the machine lost its
+        power."""
+        if signs:
+            self._run(f"UPDATE hearings SET number = floor WHERE sign IN ({places(signs)})", *signs)
 
     def numbers(self, signs: Sequence[int]) -> dict[int, int]:
-        """A request's number for each of the signs, below all that its readings had; none where they are used up."""
+        """A request's number for each of the signs, below all that were taken; none where they are used up."""
         if not signs:
             return {}
         rows = self._run(
@@ -61,36 +140,100 @@ class Readings:
         )
         return {whole(row): whole(number) for row, number in rows}
 
-    def keep(self, said: Sequence[Said]) -> None:
-        """What signs said: a row for each that differs from the sign's one before."""
-        if said:
-            with self.database.transaction():
-                for one in sorted(said, key=lambda one: one.sign):
-                    self._keep_one(one)
+    # ---- what was said
 
-    def _keep_one(self, said: Said) -> None:
-        last = self._run("SELECT number, shown, fault FROM readings WHERE sign = ? ORDER BY number LIMIT 1", said.sign)
-        if last and whole(last[0][0]) < said.number:
+    def keep(self, said: Sequence[Said]) -> None:
+        """What signs said: a row for each that differs from the sign's one before. A crash may undo it: then the next
+        reading says it again."""
+        left = sorted(said, key=lambda one: (one.sign, -one.number))
+        if not left:
             return
-        if last and last[0][1:] == (said.shown, said.fault):
-            self._run(
-                f"UPDATE readings SET heard = {CLOCK}, minutes = ? WHERE sign = ? AND number = ?",
-                said.minutes,
-                said.sign,
-                last[0][0],
-            )
-        else:
-            self._run(
-                f"INSERT INTO readings (sign, number, at, heard, minutes, shown, fault)"
-                f" VALUES (?, ?, {CLOCK}, {CLOCK}, ?, ?, ?)",
-                said.sign,
-                said.number,
-                said.minutes,
-                said.shown,
-                said.fault,
-            )
+        try:
+            with self.database.transaction(is_lasting=False):
+                while left:
+                    first = {one.sign: one for one in reversed(left)}
+                    left = [one for one in left if first[one.sign] is not one]
+                    self._keep(list(first.values()))
+        except BaseException:
+            self._known.clear()  # rows that it may have written are not there
+            raise
+
+    def _keep(self, said: Sequence[Said]) -> None:
+        """One of a sign each."""
+        now = time.monotonic()
+        same = [(one, known.number) for one in said if (known := self._is_known(one, now)) is not None]
+        heard = self._heard(same)
+        self._compared(sorted((one for one in said if one.sign not in heard), key=lambda one: one.sign), now)
+
+    def _is_known(self, said: Said, now: float) -> _Known | None:
+        """The row that says the same, where it is known and was written not long ago."""
+        known = self._known.get(said.sign)
+        is_same = known is not None and (known.shown, known.fault) == (said.shown, said.fault)
+        return known if known is not None and is_same and now - known.written < _WRITTEN else None
+
+    def _heard(self, same: Sequence[tuple[Said, int]]) -> set[int]:
+        """Signs that say what these rows say, in one statement; which of them."""
+        if not same:
+            return set()
+        rows = self._run(
+            f"WITH found (sign, number, minutes, newest) AS (VALUES {', '.join(['(?, ?, ?, ?)'] * len(same))})"
+            f" UPDATE hearings SET heard = {CLOCK}, minutes = CAST(found.minutes AS BIGINT), said = found.number"
+            " FROM found WHERE hearings.sign = found.sign AND hearings.newest = found.newest"
+            " AND hearings.said > found.number RETURNING hearings.sign",
+            *(value for one, newest in same for value in (one.sign, one.number, one.minutes, newest)),
+        )
+        return {whole(row[0]) for row in rows}
+
+    def _compared(self, said: Sequence[Said], now: float) -> None:
+        """What these signs say, beside their newest rows: rows for what differs. One that is older is let be."""
+        if not said:
+            return
+        signs = [one.sign for one in said]
+        rows = self._run(
+            "SELECT sign, number, shown, fault FROM readings WHERE (sign, number) IN (SELECT sign, min(number)"
+            f" FROM readings WHERE sign IN ({places(signs)}) GROUP BY sign)",
+            *signs,
+        )
+        last = {whole(row[0]): _Known(whole(row[1]), text_or_none(row[2]), text_or_none(row[3]), now) for row in rows}
+        said = [one for one in said if one.sign not in last or one.number < last[one.sign].number]
+        before = [(last[one.sign].number, one.sign) for one in said if one.sign in last]
+        newest = {one.sign: last[one.sign] for one in said if one.sign in last}
+        changed = [
+            one
+            for one in said
+            if one.sign not in last or (last[one.sign].shown, last[one.sign].fault) != (one.shown, one.fault)
+        ]
+        newest.update({one.sign: _Known(one.number, one.shown, one.fault, now) for one in changed})
+        self._write(before, changed, [(one, newest[one.sign].number) for one in said])
+        self._known.update(newest)
+
+    def _write(self, before: list[tuple[int, int]], changed: Sequence[Said], heard: Sequence[tuple[Said, int]]) -> None:
+        """The rows before say until when they were heard; new ones begin; and signs were heard, with their rows."""
+        run_all = self.database.run_all
+        run_all(
+            "UPDATE readings SET heard = hearings.heard, minutes = hearings.minutes FROM hearings"
+            " WHERE readings.number = ? AND readings.sign = ? AND hearings.sign = readings.sign"
+            " AND hearings.newest = readings.number AND hearings.heard IS NOT NULL",
+            before,
+        )
+        run_all(
+            f"INSERT INTO readings (sign, number, at, heard, minutes, shown, fault)"
+            f" VALUES (?, ?, {CLOCK}, {CLOCK}, ?, ?, ?) ON CONFLICT (sign, number) DO NOTHING",
+            [(one.sign, one.number, one.minutes, one.shown, one.fault) for one in changed],
+        )
+        run_all(
+            f"INSERT INTO hearings (sign, newest, said, heard, minutes) VALUES (?, ?, ?, {CLOCK}, ?) ON CONFLICT (sign)"
+            f" DO UPDATE SET newest = excluded.newest, said = excluded.said, heard = {CLOCK},"
+            " minutes = excluded.minutes",
+            [(one.sign, newest, one.number, one.minutes) for one, newest in heard],
+        )
 
     def of(self, sign: int) -> list[tuple[int | None, str | None, str | None]]:
         """The minutes that are left, what was shown, and why nothing was said: the newest first."""
-        rows = self._run("SELECT minutes, shown, fault FROM readings WHERE sign = ? ORDER BY number", sign)
+        rows = self._run(
+            "SELECT CASE WHEN hearings.newest = readings.number THEN hearings.minutes ELSE readings.minutes END,"
+            " shown, fault FROM readings LEFT JOIN hearings ON hearings.sign = readings.sign"
+            " WHERE readings.sign = ? ORDER BY readings.number",
+            sign,
+        )
         return [(whole_or_none(row[0]), text_or_none(row[1]), text_or_none(row[2])) for row in rows]

@@ -52,6 +52,7 @@ class Sqlite(Database):
         super().__init__()
         self.path = os.path.abspath(path)
         self.marks: list[_Mark] = []
+        self.is_loose = False  # whether a transaction is under way that need not be on the disk
         try:
             _make(path)
             self.connection = sqlite3.connect(
@@ -98,22 +99,32 @@ class Sqlite(Database):
         with self.told():
             return self.connection.execute(sql, values).fetchall()
 
+    def put(self, sql: str, values: Sequence[Row]) -> None:
+        self.changed(sql, values)
+
     def changed(self, sql: str, values: Sequence[Row]) -> int:
-        if not values:
-            return 0
         with self.told():
             return self.connection.executemany(sql, values).rowcount
 
-    def begin(self, is_alone: bool) -> None:
+    def begin(self, is_alone: bool, is_lasting: bool) -> None:
+        self._loosen(not is_lasting)
         self.rows("BEGIN IMMEDIATE", ())  # one writes at a time
+
+    def _loosen(self, is_loose: bool) -> None:
+        """Whether what is committed from now on may be undone by a loss of power."""
+        if self.is_loose != is_loose:
+            self.rows(f"PRAGMA synchronous = {'NORMAL' if is_loose else 'FULL'}", ())
+            self.is_loose = is_loose
 
     def commit(self) -> None:
         self.rows("COMMIT", ())
+        self._loosen(False)
         self.look()
 
     def roll_back(self) -> None:
-        with contextlib.suppress(sqlite3.Error):
+        with contextlib.suppress(sqlite3.Error, Failed):
             self.connection.rollback()
+            self._loosen(False)
 
     def mark(self) -> str:
         with self.turn:

@@ -58,7 +58,8 @@ def _work(
 
     def begun() -> Worker:
         store = Store(database.opened(where, may_create))
-        return Worker(store, store.signs.enter(signs), program, pace, waiting)
+        beside = Store(database.opened(where))
+        return Worker(store, store.signs.enter(signs), program, pace, waiting, beside)
 
     worker = waited(waiting, begun)
     if worker is not None:

@@ -38,7 +38,8 @@ class Readings:
         room = max(0, self.most - len(self.gets.waiting))
         due = [sign_id for sign_id in self.store.readings.to_read() if sign_id in self.signs][:room]
         for sign_id, number in self.store.readings.due(due):
-            self.gets.begin(self.signs[sign_id], number, list(ASKED.values()), partial(self.end, sign_id, number))
+            if (sign := self.signs.get(sign_id)) is not None:  # the worker may have found it to stand still meanwhile
+                self.gets.begin(sign, number, list(ASKED.values()), partial(self.end, sign_id, number))
 
     def end(self, sign_id: int, number: int, values: Values | str) -> None:
         """What came of it: the minutes that are left and what is shown, or why there is none of it."""

@@ -1,4 +1,4 @@
-"""What a worker does, round after round: leases, lines, readings. program.py is the program."""
+"""What a worker does, round after round: leases and lines; reader.py has its readings. program.py is the program."""
 
 import os
 import secrets
@@ -11,17 +11,13 @@ from wisangub.refusal import Refusal
 from wisangub.room.addresses import AGAIN
 from wisangub.room.fleet import Sign
 from wisangub.room.output import LOG
-from wisangub.room.store.alarms import EVERY
 from wisangub.room.store.database import Failed, Taken
 from wisangub.room.store.store import Store
 from wisangub.snmp.mib import Mib
 
 from .carry import Offer, carry
-from .gets import Gets
-from .readings import Readings
-from .session import Lost, Session
-from .tables import Tables
-from .verdicts import Verdicts
+from .reader import Reader
+from .session import Left, Lost, Session
 from .where import Where
 
 _BEGUN_AT_ONCE = 16  # sessions that are begun in one round, so that those that stand are not kept waiting
@@ -40,28 +36,37 @@ class Pace:
 
 
 class Worker:
-    """Sessions by the rows of their signs, and when each one's next tick is due."""
+    """Sessions by the rows of their signs, and when each one's next tick is due. `beside` is another connection, over
+    which signs are read by a thread of their own; without it that is done between two rounds."""
 
-    def __init__(self, store: Store, signs: dict[int, Sign], program: str, pace: Pace, waiting: Waiting) -> None:
+    def __init__(
+        self,
+        store: Store,
+        signs: dict[int, Sign],
+        program: str,
+        pace: Pace,
+        waiting: Waiting,
+        beside: Store | None = None,
+    ) -> None:
         self.store, self.program, self.pace, self.waiting = store, program, pace, waiting
         self.where = Where(store, signs, pace.again)
         self.where.look()
         self.signs = self.where.signs  # that do not stand still
         self.name = f"{socket.gethostname()}:{os.getpid()}:{secrets.token_hex(4)}"
         self.mib = Mib.read()
-        self.gets = Gets()
-        self.readings = Readings(store, self.signs, self.gets, pace.most)
-        self.tables = Tables(store, self.signs, self.gets)
-        self.verdicts = Verdicts(store, self.signs, self.gets, self.mib, program)
+        self.reader = Reader(beside or store, self.signs, program, self.mib, pace.look, pace.most)
+        self.is_reading_beside = beside is not None
         self.sessions: dict[int, Session] = {}
         self.ticks: dict[int, float] = {}
         self.to_release: set[int] = set()
         self.fault = ""  # what the database said last, which is said once
         self.next_look = self.next_renewal = 0.0
-        self.next_alarms = time.monotonic() + EVERY
+        store.readings.anew(list(self.signs))
 
     def run(self) -> None:
         """Until it is stopped."""
+        if self.is_reading_beside:
+            self.reader.start()
         while not self.waiting.is_stopped:
             self.guarded_round()
         for sign_id in list(self.sessions):
@@ -70,7 +75,7 @@ class Worker:
             self.release()
         except (Failed, Taken) as fault:
             LOG.warning(f"the database: {fault}")
-        self.gets.close()
+        self.reader.stop()
         self.where.close()
 
     def guarded_round(self) -> None:
@@ -95,23 +100,15 @@ class Worker:
         if now >= self.next_look:
             self.next_look = now + self.pace.look
             self.look()
+        if not self.is_reading_beside:
+            self.reader.round()
         self.wait()
         self.carry()
 
     def look(self) -> None:
-        """Readings, tables and verdicts, and signs that have work."""
-        self.readings.keep()
-        self.tables.keep()
-        self.verdicts.keep()
+        """Signs that are elsewhere, and those that have work."""
         self._move()
-        self.readings.begin()
-        self.tables.begin()
-        self.verdicts.begin()
-        self.gets.again()
         self.lease()
-        if time.monotonic() >= self.next_alarms:
-            self.next_alarms = time.monotonic() + EVERY
-            self.store.alarms.look()
 
     # ---- lines
 
@@ -128,18 +125,16 @@ class Worker:
             if session.ready_at > now or not session.is_busy:
                 due.append(session.ready_at)
             due.append(max(self.ticks[sign_id], session.ready_at))
-        for file in self.waiting.until([*udp_sockets, *self.gets.waiting], max(0.0, min(due) - now)):
-            if file in self.gets.waiting:
-                self.gets.heard(file)
+        self.waiting.until(udp_sockets, max(0.0, min(due) - now))
 
     def carry(self) -> None:
         """The next line of each sign that has one; a sign without work is let go."""
         offers: list[Offer] = []
         now = time.monotonic()
-        for sign_id, session in list(self.sessions.items()):
-            if session.ready_at > now:
-                continue
-            line = session.offer(now >= self.ticks[sign_id])
+        ready = [one for one in self.sessions.items() if one[1].ready_at <= now]
+        waiting = self.store.commands.next_of([sign_id for sign_id, session in ready if not session.is_busy])
+        for sign_id, session in ready:
+            line = session.offer(now >= self.ticks[sign_id], waiting)
             if line is not None:
                 offers.append((session, line))
                 self._tick_later(sign_id, line.text, now)
@@ -163,7 +158,7 @@ class Worker:
         try:
             carry(self.store, self.name, offers, self.dropped)
             for session, _ in offers:
-                self.verdicts.want(session.sign_id, session.taken_in_error())
+                self.reader.verdicts.want(session.sign_id, session.taken_in_error())
         except (Failed, Taken):
             for session, _ in offers:
                 self.drop(session.sign_id)
@@ -191,18 +186,19 @@ class Worker:
             if sign_id in self.signs and sign_id not in self.sessions
         ]
         leased = self.store.leases.take(free[: max(0, room)], self.name, self.pace.lease)
+        left = Left.of(self.store, sorted(leased))
         for sign_id in sorted(leased):
-            self.begin(sign_id)
+            self.begin(sign_id, left[sign_id])
         if len(free) > room and room > 0 and leased:
             self.next_look = 0.0
 
-    def begin(self, sign_id: int) -> None:
+    def begin(self, sign_id: int, left: Left) -> None:
         """A session where the sign's lines left it. A sign that cannot be begun is kept from all until its lease
         ends."""
         try:
-            session = Session(self.store, sign_id, self.signs[sign_id], self.name, self.program, self.mib)
+            session = Session(self.store, sign_id, self.signs[sign_id], self.name, self.program, self.mib, left)
             self.sessions[sign_id], self.ticks[sign_id] = session, time.monotonic() + self.pace.tick
-            self.verdicts.want(sign_id, session.taken_in_error())
+            self.reader.verdicts.want(sign_id, session.taken_in_error())
         except Lost:
             self.to_release.add(sign_id)
         except (Refusal, Failed, Taken, OSError) as fault:

@@ -3,6 +3,8 @@
 import dataclasses
 import socket
 import time
+from dataclasses import dataclass
+from typing import Sequence
 
 from wisangub.endpoint.centre_front_end import COMMANDS
 from wisangub.endpoint.commands import MOST_LINE
@@ -16,7 +18,7 @@ from wisangub.refusal import Refusal, reason
 from wisangub.room.fleet import Sign
 from wisangub.room.output import LOG
 from wisangub.room.store.commands import Command
-from wisangub.room.store.lines import Line, News, above
+from wisangub.room.store.lines import Journal, Line, News, above
 from wisangub.room.store.store import Store
 from wisangub.snmp.mib import Mib
 
@@ -36,6 +38,22 @@ class Lost(Exception):
     """The line's number is taken: another worker drives this sign."""
 
 
+@dataclass(frozen=True)
+class Left:
+    """Where a sign's lines left it: those of its last centre, and the command that was under way, with its line's
+    number. What is begun is asked for after the lines, so that one whose line is not among them is seen to be newer."""
+
+    journal: Journal
+    begun: tuple[Command, int] | None
+
+    @staticmethod
+    def of(store: Store, signs: Sequence[int]) -> "dict[int, Left]":
+        """Of many signs."""
+        journals = store.lines.of_all(signs)
+        begun = store.commands.begun_of(signs)
+        return {sign: Left(journal, begun.get(sign)) for sign, journal in journals.items()}
+
+
 def is_command(line: str) -> bool:
     """Whether it is one line, and begins as a command of a centre does; the centre judges the rest."""
     is_plain = line.isascii() and not set(line) & {"\n", "\r", "\0"}
@@ -51,8 +69,11 @@ class Session:
     is_busy = is_ticked = False
     in_error: Command | None = None  # that ended since the sign found its row in error
 
-    def __init__(self, store: Store, sign_id: int, sign: Sign, worker: str, program: str, mib: Mib) -> None:
+    def __init__(
+        self, store: Store, sign_id: int, sign: Sign, worker: str, program: str, mib: Mib, left: "Left | None" = None
+    ) -> None:
         self.store, self.sign_id, self.sign, self.mib = store, sign_id, sign, mib
+        self.left = left or Left.of(store, [sign_id])[sign_id]
         self.worker, self.program = worker, program
         self.ledger: set[str] = set()
         self.steps = Steps(mib)
@@ -73,7 +94,7 @@ class Session:
         """Which centre goes on, the number of the line that says so, and the lines that it was handed. The first one
         begins with the fleet's number; another description, other rules, or a database that was restored from a copy
         want another centre, above all numbers of the one before."""
-        first, least, lines = self.store.lines.of(self.sign_id)
+        first, least, lines = self.left.journal
         head = Head("centre", self.sign.digest, max(self.sign.first, least))
         if not lines:
             return self._begun_anew(head, first, "")
@@ -90,6 +111,7 @@ class Session:
         """A centre without lines; what was under way with one before it is over."""
         if not self.store.lines.replace(Line(self.sign_id, number, head.line(), is_first=True), self.worker, why):
             raise Lost
+        self.left = dataclasses.replace(self.left, begun=None)
         return head, number, []
 
     def started(self) -> CoProcess:
@@ -105,7 +127,7 @@ class Session:
 
     def go_on(self, lines: list[bytes]) -> None:
         """Where the lines left it. Nothing of it goes out; the last answer tells whether a command was refused."""
-        begun = self.store.commands.begun(self.sign_id)
+        begun = self.left.begun
         if begun is not None and begun[1] >= self.number:
             raise Lost  # it was begun after the lines were read
         self.command = begun[0] if begun else None
@@ -119,24 +141,25 @@ class Session:
 
     # ---- lines
 
-    def offer(self, is_due: bool) -> Line | None:
+    def offer(self, is_due: bool, waiting: dict[int, Command] | None = None) -> Line | None:
         """The line that is next: a tick that is due, a datagram that waits, or the next command where no job is under
         way; None where there is none. After a tick a datagram that waits comes before the next one, so that a worker
-        that is slow takes no reply for a silence."""
+        that is slow takes no reply for a silence. `waiting`: the next commands of many signs, where they were asked
+        for already."""
         if not self.is_busy:
-            return self._beginning()
+            return self._beginning(waiting)
         heard = received(self.udp_socket) if self.is_ticked or not is_due else None
         self.is_ticked = heard is None and is_due
         if heard is not None:
             return Line(self.sign_id, self.number, b"datagram " + (heard[0].hex().encode() or b"-"))
         return Line(self.sign_id, self.number, b"tick") if is_due else None
 
-    def _beginning(self) -> Line | None:
+    def _beginning(self, waiting: dict[int, Command] | None) -> Line | None:
         """The next command, or before it a new centre, above all numbers, where the lines of this one grew long."""
-        while (command := self.store.commands.next(self.sign_id)) is not None:
-            if is_command(command.line):
-                break
+        command = self.store.commands.next(self.sign_id) if waiting is None else waiting.get(self.sign_id)
+        while command is not None and not is_command(command.line):
             self.store.commands.end(command.id, "bad line")
+            command = self.store.commands.next(self.sign_id)
         if command is None:
             return None
         if self.count >= MOST_LINES:

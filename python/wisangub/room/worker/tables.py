@@ -102,11 +102,13 @@ class Tables:
     def begin(self) -> None:
         """Begins those that are due, and has those go on that heard something."""
         now = time.monotonic()
-        free = [sign_id for sign_id in self.signs if sign_id not in self.going] if now >= self.next_look else []
-        self.next_look = now + _LOOK if free else self.next_look
-        for sign_id in self.store.messages.due(free, _EVERY, _MOST - len(self.going)):
-            self.going.add(sign_id)
-            self.ready.append(Pass(self, sign_id, self.signs[sign_id]))
+        if now >= self.next_look and len(self.going) < _MOST:
+            self.next_look = now + _LOOK
+            signs = dict(self.signs)
+            due = [one for one in self.store.messages.to_read(_EVERY) if one in signs and one not in self.going]
+            for sign_id in self.store.messages.due(due[: _MOST - len(self.going)], _EVERY):
+                self.going.add(sign_id)
+                self.ready.append(Pass(self, sign_id, signs[sign_id]))
         self.go_on()
 
     def go_on(self) -> None:

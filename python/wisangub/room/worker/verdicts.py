@@ -1,5 +1,6 @@
 """What signs found wrong with messages: each is asked after a command of it ended with its row in error."""
 
+from collections import deque
 from functools import partial
 
 from wisangub.endpoint import verdict
@@ -18,16 +19,19 @@ class Verdicts:
     def __init__(self, store: Store, signs: dict[int, Sign], gets: Gets, mib: Mib, program: str) -> None:
         self.store, self.signs, self.gets, self.mib, self.program = store, signs, gets, mib, program
         self.asked = verdict.names(mib)
+        self.wanted: deque[tuple[int, Command]] = deque()  # by the worker, whose thread may be another one
         self.to_ask: list[tuple[int, Command]] = []
         self.said: list[tuple[int, str]] = []
 
     def want(self, sign_id: int, command: Command | None) -> None:
         """Has the sign asked, where a command of it ended so."""
         if command is not None:
-            self.to_ask.append((sign_id, command))
+            self.wanted.append((sign_id, command))
 
     def begin(self) -> None:
         """Sends a Get to each sign that is to be asked; a sign that is no more is let be."""
+        while self.wanted:
+            self.to_ask.append(self.wanted.popleft())
         if not self.to_ask:
             return
         first = dict(reversed(self.to_ask))
@@ -36,8 +40,8 @@ class Verdicts:
             (sign_id, command) for sign_id, command in self.to_ask if command != first[sign_id] and sign_id in numbers
         ]
         for sign_id, number in numbers.items():
-            end = partial(self.end, self.signs[sign_id], first[sign_id])
-            self.gets.begin(self.signs[sign_id], number, self.asked, end)
+            if (sign := self.signs.get(sign_id)) is not None:
+                self.gets.begin(sign, number, self.asked, partial(self.end, sign, first[sign_id]))
 
     def end(self, sign: Sign, command: Command, values: Values | str) -> None:
         """What came of it; where the sign said nothing, nothing is said."""

@@ -1,0 +1,99 @@
+"""What a worker reads: what signs show, their tables, and what they found wrong with a message; and alarms.
+
+In a thread of its own, over a connection of its own, so that lines do not wait for it. A worker without one has it do
+its work between two rounds.
+"""
+
+import select
+import threading
+import time
+
+from wisangub.room.fleet import Sign
+from wisangub.room.output import LOG
+from wisangub.room.store.alarms import EVERY
+from wisangub.room.store.database import Failed, Taken
+from wisangub.room.store.store import Store
+from wisangub.snmp.mib import Mib
+
+from .gets import Gets
+from .readings import Readings
+from .tables import Tables
+from .verdicts import Verdicts
+
+_LONG = 15.0  # seconds that it fails before that is said: the worker itself says at once that a database is away
+
+
+class Reader:
+    """Gets, and what comes of them. `signs` are those that do not stand still; the worker changes them meanwhile."""
+
+    def __init__(self, store: Store, signs: dict[int, Sign], program: str, mib: Mib, look: float, most: int) -> None:
+        self.store, self.signs, self.every = store, signs, look
+        self.gets = Gets()
+        self.readings = Readings(store, signs, self.gets, most)
+        self.tables = Tables(store, signs, self.gets)
+        self.verdicts = Verdicts(store, signs, self.gets, mib, program)
+        self.next_look, self.next_alarms = 0.0, time.monotonic() + EVERY
+        self.failing: float | None = None  # since when
+        self.is_stopped = threading.Event()
+        self.thread: threading.Thread | None = None
+
+    def start(self) -> None:
+        """From here on it works in a thread."""
+        self.thread = threading.Thread(target=self.run, name="readings", daemon=True)
+        self.thread.start()
+
+    def run(self) -> None:
+        """Until it is stopped."""
+        while not self.is_stopped.is_set():
+            try:
+                self.round(max(0.0, self.next_look - time.monotonic()))
+                self.failing = None
+            except (Failed, Taken) as fault:
+                self._tell(fault)
+                self.is_stopped.wait(self.every)
+
+    def _tell(self, fault: Exception) -> None:
+        """Says a fault that stays, once."""
+        now = time.monotonic()
+        if self.failing is None:
+            self.failing = now
+        elif now - self.failing > _LONG:
+            LOG.warning(f"readings: the database: {fault}")
+            self.failing = float("inf")
+
+    def round(self, wait: float = 0.0) -> None:
+        """Takes what is heard within so many seconds, and looks whether something is due."""
+        for file in self._heard(wait):
+            if file in self.gets.waiting:
+                self.gets.heard(file)
+        if time.monotonic() >= self.next_look:
+            self.next_look = time.monotonic() + self.every
+            self.look()
+
+    def _heard(self, wait: float) -> list[int]:
+        """The sockets at which something waits."""
+        ready = select.poll()
+        for file in self.gets.waiting:
+            ready.register(file, select.POLLIN)
+        return [file for file, _ in ready.poll(1000 * wait)]
+
+    def look(self) -> None:
+        """Keeps what was said, and asks for what is due."""
+        self.readings.keep()
+        self.tables.keep()
+        self.verdicts.keep()
+        self.readings.begin()
+        self.tables.begin()
+        self.verdicts.begin()
+        self.gets.again()
+        if time.monotonic() >= self.next_alarms:
+            self.next_alarms = time.monotonic() + EVERY
+            self.store.alarms.look()
+
+    def stop(self) -> None:
+        """Ends the thread, and lets all Gets go."""
+        self.is_stopped.set()
+        if self.thread is not None:
+            self.thread.join()
+            self.store.database.close()
+        self.gets.close()
