@@ -5,6 +5,8 @@ from dataclasses import dataclass, field
 from model import text
 from model.sign import Sign
 from trials.wrong_signs import bench
+from trials.wrong_signs.load import sign_of
+from trials.wrong_signs.table import MUTANTS
 from wisangub.snmp import wire
 from wisangub.snmp.names import Memory, RowStatus, scalar
 from wisangub.tester.findings.results import Verdict
@@ -169,6 +171,21 @@ def test_requests_that_are_lost_late_and_doubled_show_no_difference() -> None:
     results = bench.run(session, ["set", "random"])
     assert results.verdict() is Verdict.CONFORMS, (results.unjudged(), [held.title for held in results.once()])
     assert session.pair.port.way.late and session.pair.port.way.doubled
+
+
+def test_where_one_in_five_is_lost_late_or_doubled_a_difference_has_to_be_sure() -> None:
+    session = bench.session(text.BENCH, seed=1, faulty=0.2, requests=0, both_ways=True)
+    session.results.lossy = 40.0
+    results = bench.run(session, ["durations"])
+    assert results.verdict() is Verdict.CONFORMS, (results.unjudged(), [held.title for held in results.differences()])
+    assert session.pair.port.way.slowest < 6 and session.pair.clock.now() < 600
+
+
+def test_a_wrong_sign_is_found_where_requests_are_lost() -> None:
+    wrong = sign_of([mutant for mutant in MUTANTS if mutant.name == "no_minutes_are_refused"], text.BENCH)
+    session = bench.session(text.BENCH, wrong, seed=2, faulty=0.1, requests=0, both_ways=True, most_differences=1)
+    results = bench.run(session, ["durations"])
+    assert [held.rule.chapter for held in results.differences()] == ["durations"] and not results.stopped
 
 
 def test_a_late_request_to_any_row_is_seen_on_the_way_back() -> None:

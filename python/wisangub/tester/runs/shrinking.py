@@ -3,7 +3,6 @@
 from dataclasses import dataclass
 from typing import Sequence
 
-from wisangub.tester.findings.compare import Kind
 from wisangub.tester.findings.differences import Signature
 from wisangub.tester.requests.steps import Ask, Raw, Step, Wait, datagrams
 from wisangub.tester.sign.pair import Inconclusive
@@ -11,6 +10,8 @@ from wisangub.tester.sign.pair import Inconclusive
 from .runner import Run, Runner
 
 _MOST_RUNS = 150
+# runs on a way that loses some: so many of so many have to show it, and the first so many not all without it
+_SURE, _SURE_OF, _NEVER = 5, 8, 1
 
 
 @dataclass
@@ -42,16 +43,26 @@ class Shrinking:
         self.best = run
         return True
 
-    def is_seen_again(self, steps: Sequence[Step], times: int) -> bool:
-        """Whether so many runs in a row show the difference at the last of the steps, each after all that was late."""
-        return all(self._shows_after_late_ones(steps) for _ in range(times))
-
-    def _shows_after_late_ones(self, steps: Sequence[Step]) -> bool:
-        try:
-            self.runner.reset.let_late_come()
-        except Inconclusive:
-            return False
-        return self.shows(steps, of_any_cost=True)
+    def is_seen_again(self, steps: Sequence[Step]) -> bool:
+        """Whether a run shows the difference at the last of the steps once more. On a way that loses some it has to be
+        a run in which nothing was lost, late or doubled, or most of many, each after all that was late."""
+        port = self.runner.pair.port
+        if not port.is_lossy():
+            return self.shows(steps, of_any_cost=True)
+        seen = 0
+        for runs in range(1, _SURE_OF + 1):
+            try:
+                self.runner.reset.let_late_come()
+                before = port.way.troubles()
+                seen += (is_seen := self.shows(steps, of_any_cost=True))
+                port.listen(max(port.way.slowest, port.wait))
+            except Inconclusive:
+                continue
+            if port.way.troubles() == before:
+                return is_seen
+            if seen >= _SURE or runs - seen > (_SURE_OF - _SURE if seen else _NEVER):
+                break
+        return seen >= _SURE
 
     def waits_alone(self) -> None:
         """So many seconds in one, and the request that differs; also after the first of the steps."""
@@ -109,11 +120,9 @@ def shrunk(runner: Runner, run: Run, block: Sequence[Step], is_made_smaller: boo
     `block` is what was done last, which often suffices.
     """
     shrinking = Shrinking(runner, run.signature, run, runner.pair.clock.now() + runner.most_seconds)
-    is_silent = run.exchange.mismatch is not None and run.exchange.mismatch.kind is Kind.NO_ANSWER
-    times = (3 if is_silent else 2) if runner.pair.port.is_lossy() else 1
-    is_seen = len(block) < len(run.steps) and shrinking.is_seen_again(block, times)
-    for _ in range(2):
-        is_seen = is_seen or shrinking.is_seen_again(run.steps, times)
+    is_seen = len(block) < len(run.steps) and shrinking.is_seen_again(block)
+    for _ in range(1 if runner.pair.port.is_lossy() else 2):
+        is_seen = is_seen or shrinking.is_seen_again(run.steps)
     if is_seen and is_made_smaller:
         shrinking.waits_alone()
         shrinking.without_steps()

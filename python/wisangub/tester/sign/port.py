@@ -13,6 +13,7 @@ from .way import Oddity, Way
 _TRIES, _LOSSY_TRIES = 3, 8
 _PAUSE, _AT_ONCE = 0.05, 0.001  # seconds in which nobody looked, and within which a reply was there already
 _MOST_KEPT = 8  # datagrams of one request number that are remembered
+_LEAST_WAIT = 0.25  # seconds that a read waits at least
 _LEAST_LOOK = 0.05  # seconds that a look waits at least
 
 
@@ -133,6 +134,7 @@ class Port:
         wait: float | None = None,
         is_answered: bool = True,
         is_again: bool = False,
+        is_counted: bool = True,
     ) -> Heard:
         """A request that is sent once. The octets of the reply that is expected need not be looked into. What is to
         have no answer is not `is_answered`, and what is not waited for as ever is not counted as lost."""
@@ -148,12 +150,13 @@ class Port:
             self.usual += (ended - begun - self.usual) / 8
             self.way.answered(number, is_answered)
         elif is_answered:
-            self.way.silent(begun, wait is None)
+            self.way.silent(begun, is_counted)
         return Heard(reply, 1, begun, ended)
 
     def look(self, octets: bytes, number: int) -> Heard:
         """A read whose reply counts only where it comes about as fast as replies do."""
-        heard = self.ask_once(octets, number, wait=min(self.wait, max(_LEAST_LOOK, 4 * self.usual)))
+        wait = min(self.wait, max(_LEAST_LOOK, 4 * self.usual))
+        heard = self.ask_once(octets, number, wait=wait, is_counted=False)
         if heard.reply is None:
             self.given_up.add(number)
         return heard
@@ -162,10 +165,14 @@ class Port:
         """How often a read is sent: more often on a way that loses some, until that is no reason for no reply."""
         return _LOSSY_TRIES if self.is_lossy() else _TRIES
 
+    def _read_wait(self) -> float:
+        """Seconds after which a read is asked again: on a way that loses some, when a reply is late beside others."""
+        return min(self.wait, max(_LEAST_WAIT, 4 * self.usual)) if self.is_lossy() else self.wait
+
     def ask(self, octets: bytes, number: int, expected: bytes | None = None) -> Heard:
         """A request that may be asked again, three times in all, and more on a way that loses some."""
         for tries in range(1, self._tries() + 1):
-            heard = self.ask_once(octets, number, expected, is_again=tries > 1)
+            heard = self.ask_once(octets, number, expected, self._read_wait(), is_again=tries > 1)
             heard.tries = tries
             if heard.reply is not None:
                 break
@@ -184,7 +191,7 @@ class Port:
             self.way.send(sentinel_number, sentinel, is_again=tries > 0)
             begun = self.clock.now()
             self.send(sentinel)
-            until = self.clock.now() + self.wait
+            until = self.clock.now() + self._read_wait()
             while (reply := self._receive(until)) is not None:
                 message = spelled(reply)
                 if message is not None and message.number == sentinel_number:

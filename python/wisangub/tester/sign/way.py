@@ -71,6 +71,10 @@ class Way:
         """The share of requests whose reply did not come, came late or came twice."""
         return min(100.0, 100 * (self.unanswered + self.doubled) / self.asked) if self.asked else 0.0
 
+    def troubles(self) -> tuple[int, int, int]:
+        """How many replies were missing, late and doubled so far."""
+        return self.unanswered, self.late, self.doubled
+
     def send(self, number: int, octets: bytes, is_again: bool = False) -> None:
         """A request is sent whose reply is waited for, be it again since there was none. Raises Stopped where it is no
         use to go on."""
