@@ -1,7 +1,7 @@
 """Texts of lines and pages that are each so wide or so high that their room, or the lack of it, tells something."""
 
 from dataclasses import dataclass, field
-from typing import Protocol, Sequence
+from typing import Protocol
 
 MOST_TEXT, MOST_PAGES, MOST_GAP = 512, 6, 9
 Char = tuple[int, int]  # a font's number, and a character's
@@ -127,15 +127,6 @@ class PageFrame(_Text):
             more, font = self._spelled(character, font)
             octets += (b"" if not at else b"[nl]" if gap is None else b"[nl%d]" % gap) + more
         return self._take(octets, font)
-
-
-def spans_fit(sizes: Sequence[int], room: int) -> bool:
-    """Whether a left, a middle and a right part of these sizes, 0 where there is none, find room."""
-    left, middle, right = sizes
-    if max(sizes) > room or left + right > room:
-        return False
-    begin = (room - middle) // 2
-    return not middle or left <= begin and begin + middle <= room - right
 
 
 def gaps(total: int, count: int) -> list[int] | None:

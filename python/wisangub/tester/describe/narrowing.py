@@ -1,5 +1,6 @@
 """What is possible, narrowed by texts: each text is a row of tests of which the first that fails is told."""
 
+import random
 from dataclasses import dataclass
 from typing import Callable, Generic, Sequence, TypeVar
 
@@ -7,6 +8,7 @@ from .lines import Frame, Line, Page
 from .validations import SYNTAX, TOO_BIG, Unlike, Validations, Verdict
 
 T = TypeVar("T")
+_MOST_LOOKED_AT, _SAMPLES = 500, 3  # hypotheses that tests are chosen by, and times that others are taken
 
 
 @dataclass(frozen=True)
@@ -36,8 +38,7 @@ def narrow(
     """What is left of the hypotheses when no test tells them apart. Raises Unlike where none is left."""
     left = list(possible)
     while len(left) > 1:
-        made = frame()
-        chain = _chain(left, tests, made)
+        made, chain = _text(left, tests, frame)
         if not chain:
             break
         failed = first_without_room(validations.ask(made.text()), made, len(chain))
@@ -45,6 +46,19 @@ def narrow(
     if not left:
         raise Unlike("it lays texts out otherwise than the profile says, so their room does not tell its fonts")
     return left
+
+
+def _text(left: Sequence[T], tests: Sequence[Test[T]], frame: Callable[[], Frame]) -> tuple[Frame, list[Test[T]]]:
+    """A text and its tests, by all that is left or, where that is more, by samples: the sign's seconds go on."""
+    if len(left) <= _MOST_LOOKED_AT:
+        made = frame()
+        return made, _chain(left, tests, made)
+    for seed in range(_SAMPLES):
+        made = frame()
+        chain = _chain(random.Random(seed).sample(left, _MOST_LOOKED_AT), tests, made)
+        if chain:
+            break
+    return made, chain
 
 
 def _fails(hypothesis: T, chain: Sequence[Test[T]]) -> int:

@@ -7,7 +7,7 @@ from typing import Callable, Iterator, Sequence
 
 from .fillers import Fillers
 from .fonts import MOST_SIDE, Found
-from .lines import Char, Line, LineFrame, average, spans_fit
+from .lines import Line, LineFrame, average
 from .narrowing import Test, narrow
 from .validations import Validations
 
@@ -45,11 +45,18 @@ class Spacings:
             left = self.left[font.number]
             self.left[font.number] = narrow(self.validations, left, list(self._beside(font)), self.frame)
         self._settle(font)
-        spaces = sorted({space for space, _ in self.left[font.number]})
+        left = self.left[font.number]
+        spaces = sorted({space for space, _ in left})
         if len(spaces) > 1:
             font.notes.append(
                 f"space: {spaces[0]} to {spaces[-1]} are alike to every text, each with characters so much narrower or "
                 "wider; set both by the maker's word"
+            )
+        columns = sorted(width for space, width in left if space == font.space)
+        if len(columns) > 1:
+            font.notes.append(
+                f"widths: they hang on character {font.reference}, for which {columns[0]} to {columns[-1]} columns are "
+                "alike to every text; set them by the maker's word"
             )
 
     def _possible(self, font: Found) -> list[_Single]:
@@ -95,26 +102,16 @@ class Spacings:
                 held = (wide,) * max(0, first) + (other,) * count
                 if first < 0 or len(held) < 2 or len(held) > 3 * most + 8:
                     continue
-                yield Test(Line(held), self._fits_two(held, wide))
+                yield Test(Line(held), self._fits_two(first, count, len(held) - 1))
                 if count:
-                    yield Test(Line(held[:-1], right=held[-1:]), self._fits_two(held[:-1], wide, right=held[-1:]))
-                if count and first:
-                    yield Test(Line(held[:1], held[1:]), self._fits_two(held[:1], wide, held[1:]))
+                    yield Test(Line(held[:-1], right=held[-1:]), self._fits_two(first, count, len(held) - 2))
+                if count and first:  # what is left of a centred part finds room where it does twice
+                    yield Test(Line(held[:1], held[1:]), self._fits_two(first + 1, count, len(held) - 2))
 
-    def _fits_two(
-        self, left: Sequence[Char], wide: Char, centre: Sequence[Char] = (), right: Sequence[Char] = ()
-    ) -> Callable[[_Double], bool]:
-        counts = [(sum(char == wide for char in part), len(part)) for part in (left, centre, right)]
-
-        def fits(held: _Double) -> bool:
-            space, first, second = held
-            sizes = [
-                wides * first + (count - wides) * second + (count - 1) * space if count else 0
-                for wides, count in counts
-            ]
-            return spans_fit(sizes, self.width)
-
-        return fits
+    def _fits_two(self, firsts: int, seconds: int, gaps: int) -> Callable[[_Double], bool]:
+        """Whether so many of both characters and of gaps between them take no more than the matrix has."""
+        room = self.width
+        return lambda held: gaps * held[0] + firsts * held[1] + seconds * held[2] <= room
 
     # --- beside others ---------------------------------------------------------------------------------------
 
