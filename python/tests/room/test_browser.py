@@ -25,6 +25,7 @@ PAGES = (
     "/blank?sign=1&sign=3",
     "/batches/1",
     "/library",
+    "/plans",
     "/users",
     "/groups",
     "/groups/1",

@@ -23,11 +23,11 @@ from wisangub.room.store.queries import sign as sign_view
 from wisangub.room.store.readings import BLOCK, Said
 from wisangub.room.store.store import Store
 
+from .people import person
+
 BLANK = "blank 1 65535 255 192.0.2.1"
 OTHER = Sign("other", "", "127.0.0.1", 1162, b"", b"public", 10.0, 1)
 SIGN = Sign("one", "a place", "127.0.0.1", 1161, b"", b"public", 10.0, 1)
-
-from .people import person
 
 
 def two_stores(where: str) -> tuple[Store, Store, int]:

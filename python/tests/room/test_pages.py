@@ -7,10 +7,11 @@ from . import needs
 
 needs.modules("aiohttp", "jinja2")
 
-from wisangub.room.store import groups, history, library, rules
+from wisangub.room.store import groups, history, library, plans, rules
 from wisangub.room.store.library import Written
 from wisangub.room.store.lines import Line
 from wisangub.room.store.users import Role
+from wisangub.room.times import Times
 from wisangub.room.web.app import ROUTES
 from wisangub.room.web.security import POLICY
 from wisangub.room.web.words import Clock, age_word, audit_words, minutes_word
@@ -32,6 +33,8 @@ PAGES = {
     "/batches/1": Role.READER,
     "/library": Role.READER,
     "/library/1": Role.READER,
+    "/plans": Role.READER,
+    "/plans/1": Role.READER,
     "/compose": Role.OPERATOR,
     "/compose?sign={one}&sign={gantry}": Role.OPERATOR,
     "/compose?again=1": Role.OPERATOR,
@@ -52,6 +55,8 @@ POSTS = {
     "/users": Role.ADMINISTRATOR,
     "/commands/1/withdraw": Role.OPERATOR,
     "/alarms/1/acknowledge": Role.OPERATOR,
+    "/plans": Role.OPERATOR,
+    "/plans/1": Role.OPERATOR,
     "/library": Role.OPERATOR,
     "/library/1": Role.OPERATOR,
     "/library/1/approve": Role.ADMINISTRATOR,
@@ -105,6 +110,9 @@ def filled(bench: Bench) -> None:
     purpose = rules.purposes(bench.store.database)[0].id
     library.add(bench.store.database, Written("<i>Folder</i>", "<b>Name</b>", b"[fo2]FOG", purpose), "operator")
     library.approve(bench.store.database, 1, b"[fo2]FOG", bench.service.faces[bench.one].key, "administrator")
+    plan = plans.keep(bench.store.database, "<b>Name of a plan</b>", [(bench.one, line)], "operator")
+    times = Times.of("2020-01-01", "2099-01-01", "06", "20:00", "05:00", "Europe/Berlin")
+    plans.add_schedule(bench.store.database, plan, times, "operator")
     group = groups.add(bench.store.database, "<b>Name of a group</b>", "route", "administrator")
     signs = frozenset([bench.one, bench.two])
     groups.change_signs(bench.store.database, group, signs, signs, "administrator")

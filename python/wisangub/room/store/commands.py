@@ -37,22 +37,26 @@ class Commands:
         try:
             with self.database.transaction():
                 rights.check(self.database, who, lines)
-                rows = self._run(
-                    f"INSERT INTO batches (confirmation, who, at, what) VALUES (?, ?, {CLOCK}, ?) RETURNING id",
-                    confirmation,
-                    who,
-                    what,
-                )
-                batch, forbidden = whole(rows[0][0]), rules.words(self.database)
-                for sign, line in lines:
-                    command = self._put(sign, who, line, forbidden)
-                    self._run("INSERT INTO batch_commands (batch, command) VALUES (?, ?)", batch, command)
-                return batch
+                return self.put_all(lines, who, what, confirmation)
         except Taken:
             rows = self._run("SELECT id FROM batches WHERE confirmation = ? AND who = ?", confirmation, who)
             if not rows:
                 raise
             return whole(rows[0][0])
+
+    def put_all(self, lines: Sequence[tuple[int, str]], who: str, what: str, confirmation: str) -> int:
+        """What was asked together, within a transaction of who has found that it may be asked for: its number."""
+        rows = self._run(
+            f"INSERT INTO batches (confirmation, who, at, what) VALUES (?, ?, {CLOCK}, ?) RETURNING id",
+            confirmation,
+            who,
+            what,
+        )
+        batch, forbidden = whole(rows[0][0]), rules.words(self.database)
+        for sign, line in lines:
+            command = self._put(sign, who, line, forbidden)
+            self._run("INSERT INTO batch_commands (batch, command) VALUES (?, ?)", batch, command)
+        return batch
 
     def _put(self, sign: int, who: str, line: str, forbidden: list[str]) -> int:
         """A command with its line of the audit, within a transaction: its number."""
@@ -108,15 +112,19 @@ class Commands:
         with self.database.transaction():
             for (sign,) in self._run("SELECT sign FROM commands WHERE id = ?", command):
                 rights.need(self.database, who, whole(sign))
-            rows = self._run(
-                f"UPDATE commands SET outcome = ?, ended = {CLOCK}"
-                " WHERE id = ? AND line_number IS NULL AND outcome IS NULL RETURNING sign",
-                f"withdrawn by {who}",
-                command,
-            )
-            if rows:
-                note(self.database, who, f"{self._name_of(whole(rows[0][0]))}: command {command} is withdrawn")
-            return bool(rows)
+            return self.end_waiting(command, who)
+
+    def end_waiting(self, command: int, who: str) -> bool:
+        """Withdraws a command, within a transaction of who has found that it may be."""
+        rows = self._run(
+            f"UPDATE commands SET outcome = ?, ended = {CLOCK}"
+            " WHERE id = ? AND line_number IS NULL AND outcome IS NULL RETURNING sign",
+            f"withdrawn by {who}",
+            command,
+        )
+        if rows:
+            note(self.database, who, f"{self._name_of(whole(rows[0][0]))}: command {command} is withdrawn")
+        return bool(rows)
 
     def how(self, command: int) -> str | None:
         """How a command ended; None where it has not."""

@@ -95,13 +95,21 @@ def need(database: Database, who: str, sign: int, level: Level = Level.APPROVED)
 
 def check(database: Database, who: str, lines: Iterable[tuple[int, str]]) -> None:
     """Refuses commands for signs that a user may not give there."""
-    rights = of_user(database, who)
+    for refused in refusals(database, who, lines).values():
+        raise refused
+
+
+def refusals(database: Database, who: str, lines: Iterable[tuple[int, str]]) -> dict[int, Refusal]:
+    """Why a user may not give a command to a sign, of those that he may not."""
+    rights, found = of_user(database, who), {}
     for sign, line in lines:
         level = rights.level(sign)
         if level < Level.APPROVED:
-            raise _refusal(database, who, sign, "command it")
-        if level < Level.PUBLISH and not _is_approved(database, sign, line):
-            raise _refusal(database, who, sign, "show more than approved texts, by the priority of their purpose")
+            found[sign] = _refusal(database, who, sign, "command it")
+        elif level < Level.PUBLISH and not _is_approved(database, sign, line):
+            words = "show more than approved texts, by the priority of their purpose"
+            found[sign] = _refusal(database, who, sign, words)
+    return found
 
 
 def _refusal(database: Database, who: str, sign: int, what: str) -> Refusal:

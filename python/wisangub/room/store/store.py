@@ -7,6 +7,7 @@ from .connection import Database
 from .leases import Leases
 from .lines import Lines
 from .messages import Messages
+from .plans import Plans
 from .readings import Readings
 from .signs import Signs
 
@@ -24,3 +25,4 @@ class Store:
         self.readings = Readings(database)
         self.messages = Messages(database)
         self.alarms = Alarms(database)
+        self.plans = Plans(database)

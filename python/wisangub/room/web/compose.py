@@ -9,9 +9,10 @@ from typing import Any
 from aiohttp import web
 
 from wisangub.room.plain import forbidden_in, plain_of
-from wisangub.room.store import library, queries, rules
+from wisangub.room.store import library, plans, queries, rules
 from wisangub.room.store.database import Database
 from wisangub.room.store.library import Text
+from wisangub.room.store.plans import Plan
 from wisangub.room.store.queries import SignView
 from wisangub.room.store.rules import Purpose
 from wisangub.snmp.names import Memory, RowStatus
@@ -223,10 +224,11 @@ async def confirmation(request: web.Request, draft: Draft, text: bytes) -> web.R
     """The last page before it is asked for."""
     service = service_of(request)
 
-    def held(database: Database) -> tuple[list[Line], float, set[str]]:
-        return *lines(service, database, draft, text), library.kinds_of(database, text)
+    def held(database: Database) -> tuple[list[Line], float, set[str], list[Plan]]:
+        return *lines(service, database, draft, text), library.kinds_of(database, text), plans.listed(database)
 
-    found, now, kinds = await service.connections.run(held)
+    found, now, kinds, known = await service.connections.run(held)
+    may = rights_of(request).may_command
     return service.page(
         request,
         "confirm.html",
@@ -234,6 +236,7 @@ async def confirmation(request: web.Request, draft: Draft, text: bytes) -> web.R
         lines=found,
         now=now,
         unapproved=[one.sign.name for one in found if service.faces[one.sign.id].key not in kinds],
+        plans=[plan.name for plan in known if all(map(may, plan.signs))],
         shown_text=text_of(text),
         confirmation=service.seal.confirmation(visitor_of(request).login, draft.confirmed),
     )

@@ -39,7 +39,16 @@ async def _is_drawn(service: Service, draft: Draft) -> bool:
     return all(one.src is not None for one in await compose.looks(service, draft.signs, draft.text))
 
 
-async def send(request: web.Request) -> web.StreamResponse:
+@dataclass(frozen=True)
+class Confirmed:
+    """What somebody confirmed as it was shown to him, and the word that it counts by."""
+
+    draft: Draft
+    word: str
+
+
+async def confirmed(request: web.Request) -> Confirmed | web.Response:
+    """What a form confirms; or the form again, where the text does not fit any more."""
     service, visitor = service_of(request), visitor_of(request)
     fields = await request.post()
     kind, confirmation = str(fields.get("kind", "")), str(fields.get("confirmation", ""))
@@ -55,9 +64,23 @@ async def send(request: web.Request) -> web.StreamResponse:
             text="This is not what was confirmed here, so nothing was done. Please look at it again."
         )
 
+    return Confirmed(draft, confirmation)
+
+
+def lines_of(service: Service, draft: Draft, owner: str) -> list[tuple[int, str]]:
+    """The line of each sign."""
+    return [(sign_id, draft.line(owner, _own_address(service.signs[sign_id]))) for sign_id in draft.signs]
+
+
+async def send(request: web.Request) -> web.StreamResponse:
+    """Asks for what was confirmed."""
+    service, visitor, found = service_of(request), visitor_of(request), await confirmed(request)
+    if isinstance(found, web.Response):
+        return found
+    draft, confirmation = found.draft, found.word
+
     def done(database: Database) -> int:
-        signs = [(sign_id, service.signs[sign_id]) for sign_id in draft.signs]
-        lines = [(sign_id, draft.line(visitor.name, _own_address(sign))) for sign_id, sign in signs]
+        lines = lines_of(service, draft, visitor.name)
         return Commands(database).ask_all(lines, visitor.name, asked(lines[0][1]).what, confirmation)
 
     try:

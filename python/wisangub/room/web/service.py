@@ -47,6 +47,7 @@ class Service:
         self.limits = Limits(settings.patience, settings.is_behind_tls)
         self.mib = Mib.read()
         self.clock = words.Clock(settings.zone)
+        self.zone_name = str(settings.zone or "")  # none for the machine's
         self.templates = self.environment()
         self.card = functools.lru_cache(_MOST_CARDS)(self._made_card)
 

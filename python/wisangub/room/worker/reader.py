@@ -1,4 +1,4 @@
-"""What a worker reads: what signs show, their tables, and what they found wrong with a message; and alarms.
+"""What a worker reads: what signs show, their tables, and what they found wrong with a message; alarms, and plans.
 
 In a thread of its own, over a connection of its own, so that lines do not wait for it. A worker without one has it do
 its work between two rounds.
@@ -10,6 +10,7 @@ import time
 
 from wisangub.room.fleet import Sign
 from wisangub.room.output import LOG
+from wisangub.room.store import plans
 from wisangub.room.store.alarms import EVERY
 from wisangub.room.store.database import Failed, Taken
 from wisangub.room.store.store import Store
@@ -32,7 +33,7 @@ class Reader:
         self.readings = Readings(store, signs, self.gets, most)
         self.tables = Tables(store, signs, self.gets)
         self.verdicts = Verdicts(store, signs, self.gets, mib, program)
-        self.next_look, self.next_alarms = 0.0, time.monotonic() + EVERY
+        self.next_look, self.next_alarms, self.next_plans = 0.0, time.monotonic() + EVERY, 0.0
         self.failing: float | None = None  # since when
         self.is_stopped = threading.Event()
         self.thread: threading.Thread | None = None
@@ -89,6 +90,9 @@ class Reader:
         if time.monotonic() >= self.next_alarms:
             self.next_alarms = time.monotonic() + EVERY
             self.store.alarms.look()
+        if time.monotonic() >= self.next_plans:
+            self.next_plans = time.monotonic() + plans.EVERY
+            self.store.plans.look()
 
     def stop(self) -> None:
         """Ends the thread, and lets all Gets go."""

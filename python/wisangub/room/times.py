@@ -1,0 +1,95 @@
+"""When something is on: from a day until a day, on days of the week, from and until times of a zone."""
+
+import datetime
+import zoneinfo
+from dataclasses import dataclass
+from typing import Iterator
+
+from wisangub.refusal import Refusal
+
+_DAY = datetime.timedelta(days=1)
+_LOOKED = 400  # days that are looked at for the next time: a day of the week of a leap year is among them
+DAYS = ("Mon", "Tue", "Wed", "Thu", "Fri", "Sat", "Sun")
+Span = tuple[float, float]  # seconds since 1970: from, and until
+
+
+@dataclass(frozen=True)
+class Times:
+    """`days` are those of the week, 0 is Monday, each with its own beginning and end, which is on the next day where it
+    is not after the beginning; without days it is on from the first day's beginning to the last day's end. `zone` is a
+    name such as Europe/Berlin, or empty for that of the machine."""
+
+    first_day: datetime.date
+    last_day: datetime.date
+    days: frozenset[int]
+    begins: datetime.time
+    ends: datetime.time
+    zone: str = ""
+
+    @staticmethod
+    def of(first_day: str, last_day: str, days: str, begins: str, ends: str, zone: str) -> "Times":
+        """By words, as a form and the database have them; refused where they are no days and times, or never on."""
+        try:
+            made = Times(
+                datetime.date.fromisoformat(first_day),
+                datetime.date.fromisoformat(last_day),
+                frozenset(map(int, days)),
+                datetime.time.fromisoformat(begins),
+                datetime.time.fromisoformat(ends),
+                zone,
+            )
+        except ValueError:
+            raise Refusal("a schedule has two days and two times, such as 2026-11-30 and 06:00") from None
+        if not made.days <= frozenset(range(7)) or next(made.spans(made.first_day), None) is None:
+            raise Refusal("a schedule ends after it begins, and one of its days is between them")
+        return made
+
+    @property
+    def word(self) -> str:
+        """The days of the week as digits."""
+        return "".join(map(str, sorted(self.days)))
+
+    def at(self, day: datetime.date, time: datetime.time) -> float:
+        """Seconds since 1970 of a local time. Of one that comes twice it is the first; one that is left out, as clocks
+        go forward, is as much later as they go."""
+        return datetime.datetime.combine(day, time, _zone(self.zone)).timestamp()
+
+    def spans(self, day: datetime.date) -> Iterator[Span]:
+        """When it is on, from what begins on this day or later."""
+        if not self.days:
+            span = self.at(self.first_day, self.begins), self.at(self.last_day, self.ends)
+            if span[0] < span[1]:
+                yield span
+            return
+        day = max(day, self.first_day)
+        ends = min(self.last_day, day + _LOOKED * _DAY)
+        while day <= ends:
+            if day.weekday() in self.days:
+                last = day if self.begins < self.ends else day + _DAY
+                yield self.at(day, self.begins), self.at(last, self.ends)
+            day += _DAY
+
+    def day_of(self, now: float) -> datetime.date:
+        return datetime.datetime.fromtimestamp(now, _zone(self.zone)).date()
+
+    def on(self, now: float) -> Span | None:
+        """From when until when it is on, where that is now."""
+        for span in self.spans(self.day_of(now) - _DAY):
+            if span[0] <= now:
+                if now < span[1]:
+                    return span
+            else:
+                break
+        return None
+
+    def next(self, now: float) -> float | None:
+        """When it is on next."""
+        return next((begins for begins, _ in self.spans(self.day_of(now)) if begins > now), None)
+
+
+def _zone(name: str) -> datetime.tzinfo | None:
+    """The zone of a name; none for the machine's."""
+    try:
+        return zoneinfo.ZoneInfo(name) if name else None
+    except (zoneinfo.ZoneInfoNotFoundError, ValueError, OSError):
+        raise Refusal(f"{name!r} is no time zone of this machine") from None
