@@ -26,6 +26,7 @@ MODULES = tuple(
         "resume",
         "texts",
         "load",
+        "files",
         "claims",
         "besides",
         "ways",

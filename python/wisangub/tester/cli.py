@@ -19,15 +19,18 @@ from .report import terminal, words
 from .report.baseline import Baseline
 from .report.earlier import Earlier
 from .report.outputs import Outputs
+from .report.page import as_html
+from .report.pdf import print_page, printer
 from .report.picture import pictures
 from .runs.repeat import repeat
 from .session import Session, chapters_of
+from .sign.capture import Capture
 from .sign.claimed import ClaimedOracle
 from .sign.claims import claims_of
 from .sign.clock import RealClock
 from .sign.described import Bad, cause, described
 from .sign.judge import Judge, SignJudge
-from .sign.link import UdpLink
+from .sign.link import Link, UdpLink
 from .sign.oracle import Oracle, made
 from .sign.pair import Pair
 from .sign.port import Port
@@ -102,6 +105,10 @@ def _arguments() -> argparse.ArgumentParser:
         help="how many texts are validated; the report says how many of how many",
     )
     parser.add_argument("--html", type=pathlib.Path, metavar="FILE", help="the report as a page")
+    parser.add_argument("--pdf", type=pathlib.Path, metavar="FILE", help="the same as a PDF, where Chromium is there")
+    parser.add_argument(
+        "--pcap", type=pathlib.Path, metavar="FILE", help="what was sent and what came, as tcpdump writes it"
+    )
     parser.add_argument("--junit", type=pathlib.Path, metavar="FILE")
     parser.add_argument("--json", type=pathlib.Path, metavar="FILE")
     parser.add_argument(
@@ -190,11 +197,19 @@ def _about_of(asked: argparse.Namespace, description: bytes) -> words.About:
     )
 
 
+def _link(asked: argparse.Namespace, clock: RealClock) -> Link:
+    """The socket to the sign, whose datagrams are captured where that is asked for. Raises OSError and Refusal."""
+    link = UdpLink(*_address(asked.to), clock)
+    if asked.pcap is None:
+        return link
+    return Capture(link, asked.pcap.open("wb"), *link.addresses())
+
+
 def _session(asked: argparse.Namespace, description: bytes, oracle: Oracle, judge: Judge, watcher: Watcher) -> Session:
     """The test of the sign at its address."""
     sign, clock = described(description), RealClock()
     communities = (sign.reader, sign.writer)
-    port = Port(UdpLink(*_address(asked.to), clock), clock, asked.wait, patience=asked.silent)
+    port = Port(_link(asked, clock), clock, asked.wait, patience=asked.silent)
     if asked.budget is not None:
         port.way.deadline = clock.now() + 60 * asked.budget
     claims = claims_of(asked.claims, sign)
@@ -223,6 +238,7 @@ def _tested(asked: argparse.Namespace, session: Session, watcher: terminal.Plain
     baseline = Baseline.read(asked.baseline) if asked.baseline else None
     taken_up = _taken_up(asked, about, session)
     outputs = Outputs(asked, about, lambda results: words.not_tested(context, results, ALL))
+    program = printer() if asked.pdf else ""
     try:
         print("\n".join(line for line in (words.head(about), taken_up) if line), flush=True)
         if taken_up:
@@ -238,6 +254,8 @@ def _tested(asked: argparse.Namespace, session: Session, watcher: terminal.Plain
         if baseline is not None:
             print("\n".join(baseline.lines(results)), flush=True)
         outputs.write(results)
+        if asked.pdf:
+            print_page(program, as_html(results, about, words.not_tested(context, results, ALL)), asked.pdf)
     finally:
         outputs.close()
     return results.verdict().status

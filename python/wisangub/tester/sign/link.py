@@ -37,6 +37,11 @@ class UdpLink:
         self.socket.connect(address)
         self.clock = clock
 
+    def addresses(self) -> tuple[tuple[str, int], tuple[str, int]]:
+        """Where datagrams go out, and where they go to."""
+        (here, port, *_), (there, other, *_) = self.socket.getsockname(), self.socket.getpeername()
+        return (str(here), int(port)), (str(there), int(other))
+
     def send(self, octets: bytes) -> None:
         try:
             self.socket.send(octets)

@@ -1,0 +1,69 @@
+"""A capture of what was sent, and the report as a PDF."""
+
+import io
+import pathlib
+import shutil
+import struct
+import tempfile
+
+from wisangub.refusal import Refusal
+from wisangub.tester.report import pdf
+from wisangub.tester.sign.capture import Capture, packet_of
+
+from .skipping import skip
+
+HERE, THERE = ("127.0.0.1", 40000), ("192.0.2.7", 161)
+
+
+class Echo:
+    """A link on which each datagram comes back."""
+
+    def __init__(self) -> None:
+        self.octets: bytes | None = None
+
+    def send(self, octets: bytes) -> None:
+        self.octets = octets
+
+    def receive(self, until: float) -> bytes | None:
+        octets, self.octets = self.octets, None
+        return octets
+
+    def close(self) -> None:
+        ...
+
+
+def test_a_capture_has_each_datagram_with_its_headers() -> None:
+    file = io.BytesIO()
+    link = Capture(Echo(), file, HERE, THERE)
+    link.send(b"\x30\x00")
+    assert link.receive(1.0) == b"\x30\x00" and link.receive(1.0) is None
+    held = file.getvalue()
+    assert struct.unpack("<IHHiIII", held[:24]) == (0xA1B2C3D4, 2, 4, 0, 0, 65535, 101)
+    first = struct.unpack("<IIII", held[24:40])
+    assert first[2] == first[3] == 30 and held[40:70] == packet_of(b"\x30\x00", HERE, THERE)
+    assert held[40 + 12 : 40 + 20] == bytes([127, 0, 0, 1, 192, 0, 2, 7]) and held[60:64] == b"\x9c\x40\x00\xa1"
+    assert held[86:116] == packet_of(b"\x30\x00", THERE, HERE) and len(held) == 116
+
+
+def test_a_packet_of_ipv6_has_its_addresses() -> None:
+    packet = packet_of(b"A", ("::1", 1), ("fe80::2%eth0", 2))
+    assert packet[0] == 0x60 and packet[4:8] == b"\x00\x09\x11\x40" and len(packet) == 49 and packet[-1:] == b"A"
+
+
+def test_a_report_is_printed_where_chromium_is_there() -> None:
+    if shutil.which("chromium") is None:
+        skip("there is no chromium")
+    with tempfile.TemporaryDirectory() as folder:
+        path = pathlib.Path(folder) / "report.pdf"
+        pdf.print_page(pdf.printer(), "<!doctype html><title>t</title><p>conforms", path)
+        assert path.read_bytes().startswith(b"%PDF-")
+
+
+def test_no_report_is_printed_by_a_program_that_makes_none() -> None:
+    with tempfile.TemporaryDirectory() as folder:
+        try:
+            pdf.print_page("/bin/true", "<p>", pathlib.Path(folder) / "report.pdf")
+        except Refusal as refused:
+            assert "Chromium printed no report" in str(refused)
+        else:
+            raise AssertionError
