@@ -61,20 +61,19 @@ def test_a_card_is_made_anew_where_its_sign_says_something_new(tmp_path: pathlib
     async def act(bench: Bench, visitor: Visitors) -> None:
         room, held = bench.service, bench.store.database
 
+        def parts() -> dict[str, str]:
+            return wall.parts(room, wall.cards(room, held, frozenset(room.signs))[0])
+
         def made() -> int:
             before = room.card.cache_info().misses
-            wall.parts(room, held, frozenset(room.signs))
+            parts()
             return room.card.cache_info().misses - before
 
         assert [made(), made()] == [len(bench.rows), 0]
         bench.read(bench.two, text=b"NEW".hex())
-        assert [made(), made()] == [1, 0] and "shows NEW" in wall.parts(room, held, frozenset(room.signs))[
-            f"sign-{bench.two}"
-        ]
+        assert [made(), made()] == [1, 0] and "shows NEW" in parts()[f"sign-{bench.two}"]
         bench.store.commands.ask(bench.one, "operator", "blank 1 65535 255 127.0.0.1")
-        assert [made(), made()] == [1, 0] and "1 waiting" in wall.parts(room, held, frozenset(room.signs))[
-            f"sign-{bench.one}"
-        ]
+        assert [made(), made()] == [1, 0] and "1 waiting" in parts()[f"sign-{bench.one}"]
 
     run(tmp_path, where, act)
 

@@ -16,7 +16,7 @@ from . import send, sign_pages, wall
 from .connections import Connections
 from .service import Service, rights_of, service_of, visitor_of
 
-_VIEW = re.compile(r"wall|(sign|table|batch)/(\d{1,9})")
+_VIEW = re.compile(r"wall(?:/((?:\d{1,9}(?:,\d{1,9}){0,99})?))?|(sign|table|batch)/(\d{1,9})")
 _MOST_STREAMS, MOST_OF_ONE = 400, 12
 SILENCE = 15.0  # seconds after which a line says that the stream is there, and the log-in is looked at
 AGES = 5.0  # seconds after which what was said may be too old, though nothing was written
@@ -69,6 +69,7 @@ class Hub:
         self.connections = Connections(service.settings.database, 1)  # a mark is of one connection
         self.last: dict[_Key, _Parts] = {}
         self.mark, self.looked = "", 0.0
+        self.every: list[wall.Card] | None = None
         self.clock: float | None = None  # the database's time, less this machine's since it was started
 
     def made(self, key: _Key) -> Callable[[Database], _Parts]:
@@ -76,16 +77,28 @@ class Hub:
         view, seen = key
         found = _VIEW.fullmatch(view)
         assert found is not None
-        if found[1] is None:
-            every = frozenset(self.service.signs) if seen is None else seen
-            return lambda database: wall.parts(self.service, database, every)
-        number = int(found[2])
-        if found[1] == "batch":
+        if found[2] is None:
+            signs = None if found[1] is None else set(map(int, filter(None, found[1].split(","))))
+
+            def made(database: Database) -> _Parts:
+                return wall.parts(
+                    self.service, [one for one in self.cards(database) if seen is None or one.sign.id in seen], signs
+                )
+
+            return made
+        number = int(found[3])
+        if found[2] == "batch":
             return lambda database: send.parts(
                 self.service, database, number, lambda sign: seen is None or sign in seen
             )
-        of = _OF[found[1]]
+        of = _OF[found[2]]
         return lambda database: of(self.service, database, number)
+
+    def cards(self, database: Database) -> list[wall.Card]:
+        """The cards of all signs, once for all walls of a look."""
+        if self.every is None:
+            self.every = wall.cards(self.service, database, frozenset(self.service.signs))[0]
+        return self.every
 
     async def run(self) -> None:
         """For ever."""
@@ -112,7 +125,7 @@ class Hub:
         mark, now = await self.connections.run(lambda database: database.mark()), time.monotonic()
         watched = {stream.key for stream in self.streams}
         is_new = mark != self.mark or now - self.looked > AGES
-        self.last = {key: parts for key, parts in self.last.items() if key in watched}
+        self.last, self.every = {key: parts for key, parts in self.last.items() if key in watched}, None
         for key in watched:
             if not is_new and key in self.last:
                 continue
@@ -154,8 +167,8 @@ async def events(request: web.Request) -> web.StreamResponse:
     service, view = service_of(request), request.query.get("view", "")
     found = _VIEW.fullmatch(view)
     may_see = rights_of(request).may_see
-    is_of_sign = found is not None and found[1] in ("sign", "table")
-    if found is None or is_of_sign and not (int(found[2]) in service.signs and may_see(int(found[2]))):
+    is_of_sign = found is not None and found[2] in ("sign", "table")
+    if found is None or is_of_sign and not (int(found[3]) in service.signs and may_see(int(found[3]))):
         raise web.HTTPNotFound(text="There is no such view.")
     stream = Stream(view, request)
     _hub_of(request).enter(stream)

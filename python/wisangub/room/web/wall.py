@@ -1,9 +1,11 @@
-"""The fleet as a wall of lit signs."""
+"""The fleet as a wall of lit signs, in pages."""
 
 from dataclasses import dataclass
+from typing import Any
 
 from aiohttp import web
 
+from wisangub.room.plain import plain_of
 from wisangub.room.store import alarms, groups, queries
 from wisangub.room.store.database import Database
 from wisangub.room.store.queries import CommandView, SignView
@@ -12,6 +14,8 @@ from .progress import Step, states
 from .service import Service, rights_of, service_of
 
 _WIDE = 160  # columns of a matrix that takes two places
+PAGE = 100  # signs of a page
+_STATES = ("lit", "blank", "busy", "silent")
 
 
 @dataclass(frozen=True)
@@ -61,20 +65,56 @@ def cards(service: Service, database: Database, seen: frozenset[int]) -> tuple[l
     return [_card(service, sign, now, of.get(sign.id, []), sign.id in others) for sign in found], now
 
 
+@dataclass(frozen=True)
+class Wanted:
+    """Which signs are looked for, by words in name, place or text, and by state; and which page of them."""
+
+    find: str = ""
+    show: str = ""
+    page: int = 1
+
+    @staticmethod
+    def of(request: web.Request) -> "Wanted":
+        page, show = request.query.get("page", "1"), request.query.get("show", "")
+        if not page.isascii() or not page.isdigit() or len(page) > 6:
+            raise web.HTTPBadRequest(text="A page is a number.")
+        return Wanted(request.query.get("find", "").strip()[:100], show if show in _STATES else "", int(page))
+
+    def takes(self, card: Card, groups_of: list[str]) -> bool:
+        text = plain_of(card.sign.shown.text) if card.sign.shown else ""
+        words = " ".join([card.sign.name, card.sign.place, text, *groups_of]).lower()
+        return self.find.lower() in words and self.show in ("", card.state)
+
+
 async def wall(request: web.Request) -> web.Response:
-    service = service_of(request)
+    service, wanted = service_of(request), Wanted.of(request)
     seen = rights_of(request).seen(service.signs)
 
-    def found(database: Database) -> tuple[list[Card], float, dict[int, list[str]]]:
+    def asked(database: Database) -> tuple[list[Card], float, dict[int, list[str]]]:
         return *cards(service, database, seen), groups.names_of_signs(database)
 
-    made, now, names = await service.connections.run(found)
-    return service.page(request, "wall.html", cards=made, now=now, groups=names, view="wall")
+    every, now, names = await service.connections.run(asked)
+    found = [one for one in every if wanted.takes(one, names.get(one.sign.id, []))]
+    pages = max(1, -(-len(found) // PAGE))
+    page = min(max(1, wanted.page), pages)
+    shown = found[(page - 1) * PAGE : page * PAGE]
+    values: dict[str, Any] = {
+        "cards": shown,
+        "groups": names,
+        "every": every,
+        "found": len(found),
+        "wanted": wanted,
+        "page": page,
+        "pages": pages,
+        "is_whole": len(every) <= PAGE,
+        "now": now,
+        "view": "wall/" + ",".join(str(one.sign.id) for one in shown) if len(every) > PAGE else "wall",
+    }
+    return await service.connections.work(lambda: service.page(request, "wall.html", **values))
 
 
-def parts(service: Service, database: Database, seen: frozenset[int]) -> dict[str, str]:
-    """What an event may replace: each card of these signs."""
-    found, _ = cards(service, database, seen)
-    return {f"sign-{one.sign.id}": service.card(one) for one in found} | {
-        "counts": service.part("parts.html", "counts", found)
+def parts(service: Service, every: list[Card], signs: set[int] | None = None) -> dict[str, str]:
+    """What an event may replace: each card, of these signs or of all."""
+    return {f"sign-{one.sign.id}": service.card(one) for one in every if signs is None or one.sign.id in signs} | {
+        "counts": service.part("parts.html", "counts", every)
     }

@@ -114,6 +114,8 @@ async function listenAgain(view, link) {
 
 const find = document.getElementById("find");
 const only = document.getElementById("only");
+const wall = document.getElementById("wall");
+const isWhole = wall !== null && wall.dataset.whole === "1"; // all signs are on this page: it finds among them by itself
 
 function seen(card) {
   const inner = card.querySelector(".inner");
@@ -125,7 +127,7 @@ function choose() {
   if (!find) return;
   let count = 0;
   for (const card of document.querySelectorAll(".card")) {
-    card.hidden = !seen(card);
+    card.hidden = isWhole && !seen(card);
     count += !card.hidden;
   }
   document.getElementById("nothing").hidden = count > 0;
@@ -137,9 +139,13 @@ function choose() {
 }
 
 if (find) {
-  find.addEventListener("input", choose);
-  only.addEventListener("change", choose);
-  find.addEventListener("keydown", (event) => { if (event.key === "Enter") event.preventDefault(); });
+  const look = document.getElementById("look");
+  look.hidden = isWhole;
+  if (isWhole) {
+    find.addEventListener("input", choose);
+    find.addEventListener("keydown", (event) => { if (event.key === "Enter") event.preventDefault(); });
+  }
+  only.addEventListener("change", () => { if (isWhole) choose(); else find.form.requestSubmit(look); });
   document.addEventListener("change", (event) => { if (event.target.name === "sign") choose(); });
   document.addEventListener("keydown", (event) => {
     const isWriting = event.target.matches("input, textarea, select");
