@@ -56,7 +56,7 @@ PYTEST = ("-q", "-rs", "-p", "no:cacheprovider")
 PARTS = 2  # in which the tests run, side by side
 WORDS = re.compile(r"(\d+) (passed|failed|error|errors)\b")
 SKIPPED = re.compile(r"^SKIPPED \[\d+\] (\S+?)(?::\d+)?: (.*)$", re.MULTILINE)
-LIMIT = 560  # seconds, on a machine that is busy
+LIMIT = 900  # seconds, on a machine that is busy
 MOST_SHOWN = 6000
 
 
