@@ -2,16 +2,13 @@
 
 import contextlib
 import logging
-import os
 from typing import Any, Iterator, Sequence
 
-os.environ.setdefault("PSYCOPG_WAIT_FUNC", "wait_selector")  # select, its first choice, takes no file above 1023
+import psycopg
 
-import psycopg  # noqa: E402
+from wisangub.refusal import Refusal
 
-from wisangub.refusal import Refusal  # noqa: E402
-
-from .connection import PATIENCE, Away, Database, Failed, NotYet, Row, Taken  # noqa: E402
+from .connection import PATIENCE, Away, Database, Failed, NotYet, Row, Taken
 
 SETTINGS = {
     "default_transaction_isolation": "read committed",
