@@ -5,3 +5,4 @@ pub mod Bits
 pub mod Division
 pub mod Places
 pub mod Remainders
+pub mod Eights

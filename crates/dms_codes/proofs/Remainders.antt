@@ -29,7 +29,7 @@ entry_bits octet h =
     ap (low_bits 16) (remainder_at octet h) ∙ ap (λ count. low_bits count (number left)) (sym sixteen) ∙ low_bits-number left
 
 -- the lower and the upper octet
-split : (n : ℕ) → low_bits 16 n ≡ low_bits 8 n ++ low_bits 8 (n / 2 ^ 8)
+pub split : (n : ℕ) → low_bits 16 n ≡ low_bits 8 n ++ low_bits 8 (n / 2 ^ 8)
 split n = let half : n / 2 / 2 / 2 / 2 / 2 / 2 / 2 / 2 ≡ n / 2 ^ 8 = omega arith in ap (λ high. low_bits 8 n ++ low_bits 8 high) half
 
 -- An octet goes in by one look into the table.

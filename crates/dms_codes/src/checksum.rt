@@ -1,8 +1,13 @@
 //! The checksum of a message (ISO/IEC 3309, the 16-bit frame check sequence).
 
 ghost use Rattle.std.specs.Prelude.{◌≡◌};
+ghost use Rattle.std.specs.List.{flat_map};
 ghost use Rattle.dms_codes.specs.Checksum.{message_checksum, octet_bits};
 ghost use Rattle.dms_codes.specs.Register.{TakesIn};
+
+use crate::octet_tables::{
+    BEFORE_FIVE, BEFORE_FOUR, BEFORE_ONE, BEFORE_SEVEN, BEFORE_SIX, BEFORE_THREE, BEFORE_TWO,
+};
 
 /// For each octet the remainder of its eight bits, followed by sixteen zeros.
 pub const REMAINDERS: [u16; 256] = [
@@ -38,12 +43,35 @@ fn register_after(register: u16, octet: u8) -> u16
     REMAINDERS[usize::from(index)] ^ (register >> 8)
 }
 
+/// The register after eight more octets, each of which goes through the table of the octets that follow it.
+#[inline]
+fn register_after_eight(register: u16, octets: [u8; 8]) -> u16
+    ensures { TakesIn (flat_map octet_bits octets) register result }
+{
+    let [a, b, c, d, e, f, g, h] = octets;
+    let first = (register ^ u16::from(a)) & 0xff;
+    let second = (register >> 8) ^ u16::from(b);
+    BEFORE_SEVEN[usize::from(first)]
+        ^ BEFORE_SIX[usize::from(second)]
+        ^ BEFORE_FIVE[usize::from(c)]
+        ^ BEFORE_FOUR[usize::from(d)]
+        ^ BEFORE_THREE[usize::from(e)]
+        ^ BEFORE_TWO[usize::from(f)]
+        ^ BEFORE_ONE[usize::from(g)]
+        ^ REMAINDERS[usize::from(h)]
+}
+
 /// The checksum of a message: CRC-16 of ISO/IEC 3309 over its text, its beacon and its pixel service.
 pub fn crc(text: &[u8], beacon: u8, pixel: u8) -> u16
     ensures { result ≡ message_checksum text.now beacon pixel }
 {
     let mut register = u16::MAX;
-    for octet in text {
+    let mut rest = text;
+    while let [a, b, c, d, e, f, g, h, more @ ..] = rest {
+        register = register_after_eight(register, [*a, *b, *c, *d, *e, *f, *g, *h]);
+        rest = more;
+    }
+    for octet in rest {
         register = register_after(register, *octet);
     }
     !register_after(register_after(register, beacon), pixel)

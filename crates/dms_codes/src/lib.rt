@@ -14,6 +14,7 @@ pub mod laws;
 mod limits;
 pub mod memory;
 mod mode;
+mod octet_tables;
 mod row_id;
 mod status;
 mod validation_error;

@@ -20,5 +20,5 @@ extent_push (a ∷ b ∷ rest) block some = let more : extent ((b ∷ rest) ++ b
 -- a later block of a row
 pub sums_more : (total : ℕ) (run : Run) (blocks : List Block) (block : Block) → Sums run blocks → run.any ≡ true
     → total ≡ run.size + unwrap_or block.gap (average run.spacing block.spacing) + block.size
-    → Sums (record { any = true; size = total; spacing = block.spacing }) (blocks ++ block ∷ [])
+    → Sums (record { any = run.any; size = total; spacing = block.spacing }) (blocks ++ block ∷ [])
 sums_more total run blocks block sums some is = grind (arith, unwrap_or, extent_push, last_spacing_push)

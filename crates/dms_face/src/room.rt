@@ -58,29 +58,25 @@ impl Run {
         spacing: 0,
     };
 
-    /// The row with one more block at its end.
-    #[inline]
-    pub fn with(self, block: Block) -> Run
-        requires { self.size ≤ 256 }
-        ensures sums { (blocks : List Block) → Sums self blocks → Sums result (blocks ++ block ∷ []) }
-        ensures within { result.size ≤ 766 }
+    /// One more block stands at the row's end.
+    #[inline(always)]
+    pub fn push(&mut self, block: Block)
+        requires { self.old.size ≤ 256 }
+        ensures sums { (blocks : List Block) → Sums self.old blocks → Sums self.new (blocks ++ block ∷ []) }
+        ensures within { self.new.size ≤ 766 }
     {
         if !self.any {
-            return Run {
-                any: true,
-                size: u32::from(block.size),
-                spacing: block.spacing,
-            };
+            self.any = true;
+            self.size = u32::from(block.size);
+            self.spacing = block.spacing;
+            return;
         }
         let gap = match block.gap {
             Some(gap) => gap,
             None => average(self.spacing, block.spacing),
         };
-        Run {
-            any: true,
-            size: self.size + u32::from(gap) + u32::from(block.size),
-            spacing: block.spacing,
-        }
+        self.size += u32::from(gap) + u32::from(block.size);
+        self.spacing = block.spacing;
     }
 }
 
@@ -114,9 +110,9 @@ impl Places {
         ensures within { AreWithin 766 self.new }
     {
         match block.place {
-            Place::Start => self.start = self.start.with(block),
-            Place::Halfway => self.halfway = self.halfway.with(block),
-            Place::End => self.end = self.end.with(block),
+            Place::Start => self.start.push(block),
+            Place::Halfway => self.halfway.push(block),
+            Place::End => self.end.push(block),
         }
     }
 

@@ -141,15 +141,17 @@ impl<'a> Totals<'a> {
     {
         let height = self.font.height();
         let spacing = self.font.line_spacing();
-        let grows = !self.holds_character() || height > self.height || spacing > self.spacing;
+        let grows = height > self.height || spacing > self.spacing;
         self.characters.push(Block {
             place: self.side.place(),
             size: glyph.width(),
             spacing: self.font.character_spacing(),
             gap: None,
         });
-        self.height = self.height.max(height);
-        self.spacing = self.spacing.max(spacing);
+        if grows {
+            self.height = self.height.max(height);
+            self.spacing = self.spacing.max(spacing);
+        }
         grows
     }
 
@@ -307,7 +309,7 @@ impl<'a> Totals<'a> {
     }
 
     /// An item is taken, after those that were taken before it without a fault; or its fault where it stands.
-    #[inline]
+    #[inline(always)]
     pub fn take(
         &mut self,
         face: &'a Face,

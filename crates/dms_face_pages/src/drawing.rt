@@ -252,7 +252,7 @@ fn extent<T: Placed>(things: &[T], place: Place) -> u32
     for thing in things {
         let block = thing.block();
         if block.is_at(place) {
-            run = run.with(block);
+            run.push(block);
         }
     }
     run.size
@@ -283,7 +283,7 @@ fn draw_side(
         if !block.is_at(side) {
             continue;
         }
-        run = run.with(block);
+        run.push(block);
         let x = first + run.size - u32::from(block.size);
         let y = bottom.saturating_sub(u32::from(character.style.font.height()));
         draw_character(cells, face, x, y, character);
@@ -331,7 +331,7 @@ fn draw_part(cells: &mut Cells, face: &Face, lines: &[TextLine<'_>], part: Place
         if !block.is_at(part) {
             continue;
         }
-        run = run.with(block);
+        run.push(block);
         draw_line(cells, face, line, first + run.size - u32::from(block.size));
     }
 }

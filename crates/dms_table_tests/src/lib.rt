@@ -1,4 +1,5 @@
-//! Tests of the checksum, of codes, of the names of objects and of the message table through their public calls.
+//! Tests of the checksum, of codes, of the names of objects, of replies and of the message table through their public
+//! calls.
 #![tactic(auto)]
 
 #[cfg(test)]
@@ -9,5 +10,7 @@ mod codes;
 mod message_codes;
 #[cfg(test)]
 mod objects;
+#[cfg(test)]
+mod replies;
 #[cfg(test)]
 mod tables;

@@ -1,3 +1,4 @@
 pub mod WordReading
 pub mod FieldLaws
 pub mod WordTests
+pub mod LineLaws

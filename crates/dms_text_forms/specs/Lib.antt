@@ -8,3 +8,4 @@ pub mod LineText
 -- reading from the beginning, which only proofs go through: proofs/FieldLaws.antt joins it to the above
 pub mod FieldsReading
 pub mod FieldsView
+pub mod LineReading

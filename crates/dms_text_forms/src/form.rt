@@ -1,9 +1,10 @@
 //! The first word of a line that is not what is wanted there.
 
-ghost use Rattle.std.specs.Prelude.{◌≡◌, ◌+◌, ◌<◌, ◌^◌, [], length};
+ghost use Rattle.std.specs.Prelude.{◌≡◌, ◌+◌, ◌<◌, ◌≤◌, ◌^◌, [], length, IfSome};
 ghost use Rattle.dms_text.specs.Words.{words_of};
 ghost use Rattle.dms_text_forms.specs.Form.{is_wanted, is_number, is_address, address_at, word_fault};
 ghost use Rattle.dms_text_forms.specs.Form.{fault_from};
+ghost use Rattle.dms_text_forms.specs.LineReading.{number_within};
 
 use crate::digits::{are_octets, is_code};
 use crate::fault::{WordFault, WordFaultKind};
@@ -49,7 +50,7 @@ fn fault_at(place: usize, kind: WordFaultKind) -> Option<WordFault>
 
 /// The word that stands where no more words are wanted.
 #[tactic(auto, unfolding(crate::specs::Form::fault_from))]
-fn fault_at_end(place: usize, words: Words<'_>) -> Option<WordFault>
+pub(crate) fn fault_at_end(place: usize, words: Words<'_>) -> Option<WordFault>
     ensures { result ≡ fault_from place [] words.entry }
 {
     if words.is_empty() {
@@ -62,7 +63,7 @@ fn fault_at_end(place: usize, words: Words<'_>) -> Option<WordFault>
 }
 
 /// Whether a word is what is wanted.
-fn is_wanted(wanted: Wanted, word: &[u8]) -> bool
+pub(crate) fn is_wanted(wanted: Wanted, word: &[u8]) -> bool
     ensures { result ≡ is_wanted wanted word.now }
 {
     match wanted {
@@ -88,6 +89,21 @@ fn is_number(word: &[u8], most: usize, low: u64, high: u64) -> bool
     match number(word, 10, most) {
         Some(number) => low <= number && number <= high,
         None => false,
+    }
+}
+
+/// The number of one to `most` decimal digits that a word is, from `low` to `high`.
+pub(crate) fn number_within(word: &[u8], most: usize, low: u64, high: u64) -> Option<u64>
+    requires { most < 16 }
+    ensures value { result ≡ number_within most low high word.now }
+    ensures least { IfSome result (λ number. low ≤ number) }
+    ensures greatest { IfSome result (λ number. number ≤ high) }
+{
+    let number = number(word, 10, most)?;
+    if low <= number && number <= high {
+        Some(number)
+    } else {
+        None
     }
 }
 

@@ -12,10 +12,12 @@ mod digits;
 mod fault;
 pub mod fields;
 mod form;
+mod line_words;
 mod vocabulary;
 mod wanted;
 
 pub use fault::{WordFault, WordFaultKind};
 pub use form::word_fault;
+pub use line_words::LineWords;
 pub use vocabulary::{Keyword, WordName};
 pub use wanted::Wanted;

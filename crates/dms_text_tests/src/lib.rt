@@ -1,4 +1,4 @@
-//! Tests of text, readers and writers, conversations, MULTI and fonts through their public calls.
+//! Tests of text, readers and writers, conversations, values as words, MULTI and fonts through their public calls.
 #![tactic(auto)]
 
 #[cfg(test)]
@@ -11,3 +11,5 @@ mod multi;
 mod streams;
 #[cfg(test)]
 mod text;
+#[cfg(test)]
+mod values;

@@ -13,3 +13,4 @@ pub mod CanonicalIntegers
 pub mod CanonicalNames
 pub mod CanonicalElements
 pub mod Shortest
+pub mod BelowDms

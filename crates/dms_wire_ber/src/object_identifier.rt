@@ -201,10 +201,15 @@ fn first_two(sub_identifier: u32) -> (u32, u32)
 }
 
 /// The order of object identifiers (RFC 1157, 4.1.3): the first two numbers that differ decide, and one that another
-/// begins with comes before it.
+/// begins with comes before it. Of two names below dms what follows dms is compared.
 pub fn oid_cmp(a: &Oid<'_>, b: &Oid<'_>) -> Ordering
     ensures { result ≡ numbers_cmp a.now b.now }
 {
+    if let Some(left) = below_dms(a.content) {
+        if let Some(right) = below_dms(b.content) {
+            return sub_identifiers_cmp(left, right);
+        }
+    }
     sub_identifiers_cmp(a.content, b.content)
 }
 

@@ -10,8 +10,8 @@ use Rattle.dms_face_pages.proofs.PlacingLaws.{among, front_extent, last_fits, su
 use Rattle.dms_face_pages.proofs.DrawingLaws.{shows_more}
 use Rattle.dms_face_pages.proofs.drawing.draw_side.Goals as goal
 
-pub with-run-requires : goal.with-run-requires
-with-run-requires c =
+pub push-requires : goal.push-requires
+push-requires c =
     omega (arith, front_extent character_block c.args.side c.loop-character.character-index c.args.characters.now, c.loop-character.invariant.0.size, c.requires.room)
 
 pub overflow_sub-x : goal.overflow_sub-x
@@ -23,21 +23,21 @@ loop-character-preserved c =
     let i = c.loop-character.character-index in
     let x = c.character-item.result in
     let front = map character_block (among character_block c.args.side i xs) in
-    let sums = c.with-run.ensures.sums front c.loop-character.invariant.0 in
+    let sums = c.push.ensures.sums front c.loop-character.invariant.0 in
     let below : i < length xs = omega arith in
     let is : get_or xs i x ≡ x = sym c.character-item.is in
     let here : has_place character_block c.args.side x ≡ true = sym (ap (is_at c.args.side) c.block-block.ensures) ∙ sym c.is_at.ensures ∙ c.if-not-is_at.false in
-    let own = subst (λ (block : Block). Sums c.with-run.result (front ++ block ∷ [])) c.block-block.ensures sums in
-    let at = c.args.first + c.with-run.result.size - c.from.result in
+    let own = subst (λ (block : Block). Sums c.push.new.self (front ++ block ∷ [])) c.block-block.ensures sums in
+    let at = c.args.first + c.push.new.self.size - c.from.result in
     let at_is : at ≡ c.args.first + extent (front ++ character_block x ∷ []) - (character_block x).size =
-    ap (λ n. c.args.first + c.with-run.result.size - n) (c.from.ensures ∙ ap (λ (block : Block). block.size) c.block-block.ensures)
+    ap (λ n. c.args.first + c.push.new.self.size - n) (c.from.ensures ∙ ap (λ (block : Block). block.size) c.block-block.ensures)
     ∙ ap (λ n. c.args.first + n - (character_block x).size) own.size in
     let low : c.saturating_sub-y.result ≡ c.args.bottom - x.style.font.height =
     c.saturating_sub-y.ensures
     ∙ ap (λ n. c.args.bottom - n) (c.from-in-loop-character.ensures ∙ c.height.ensures.value ∙ ap (λ (it : Character). it.style.font.height) c.character.view_is) in
     let face = c.args.face.now in
     let long : length c.draw_character.new.cells.cells ≡ length c.loop-character.cells.cells = c.draw_character.ensures.len in (
-      sums_more_of character_block c.args.side i xs x c.with-run.result below is here own,
+      sums_more_of character_block c.args.side i xs x c.push.new.self below is here own,
       λ page before shows.
           subst (λ l. Shows face page l c.draw_character.new.cells.cells)
           (placed_more character_block c.args.side i xs x (placed_above c.args.bottom) c.args.first at before below is here at_is)

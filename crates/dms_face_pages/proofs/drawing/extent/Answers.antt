@@ -5,8 +5,8 @@ use Rattle.dms_face_pages.specs.Drawing.{has_place}
 use Rattle.dms_face_pages.proofs.PlacingLaws.{front_extent, at_place-map}
 use Rattle.dms_face_pages.proofs.drawing.extent.Goals as goal
 
-pub with-run-requires : goal.with-run-requires
-with-run-requires g c =
+pub push-requires : goal.push-requires
+push-requires g c =
     omega (arith, front_extent g.T.Placed.block_of c.args.place c.loop-thing.thing-index c.args.things.now, c.loop-thing.invariant.size, c.requires)
 
 pub returns : goal.returns
