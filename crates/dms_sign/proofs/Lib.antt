@@ -12,7 +12,6 @@ pub mod KnownTexts
 pub mod StepShown
 pub mod StepDefaults
 pub mod Wholes
-pub mod Walks
 pub mod Sending
 pub mod Addressed
 pub mod Writes

@@ -3,7 +3,7 @@ use Rattle.std.proofs.Common.{◌≡◌, ℕ, zero, suc, ◌+◌, ◌-◌, ◌�
 use Rattle.std.specs.Option.{is_none}
 use Rattle.dms_face.specs.Layout.{under}
 use Rattle.dms_table.specs.Rows.{is_settling}
-use Rattle.dms_table.specs.Validation.{settled, verdict}
+use Rattle.dms_table.specs.Validation.{verdict}
 use Rattle.dms_table.proofs.Settlement.{nothing_settled, no_verdict}
 use Rattle.dms_sign_access.specs.Reports.{settled_reports}
 use Rattle.dms_sign.specs.State.{SignState}

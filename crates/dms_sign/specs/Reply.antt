@@ -1,17 +1,16 @@
 -- The reply to a message, and what comes of a datagram (RFC 1157, 4.1).
-use Rattle.std.specs.Prelude.{ℕ, ◌&&◌, ◌||◌, Bool, true, false, if◌then◌else◌, List, length, nat_le, Option, Some, None}
+use Rattle.std.specs.Prelude.{◌&&◌, ◌||◌, Bool, true, false, if◌then◌else◌, List, ℕ, Option, Some, None}
 use Rattle.dms_wire.specs.declared.message.Kind.{Kind}
 use Rattle.dms_wire.specs.declared.message.Kind.TheVariants.{Get, GetNext, Response, Set}
-use Rattle.dms_wire.specs.declared.error_status.ErrorStatus.TheVariants.{TooBig}
 use Rattle.dms_wire.specs.ErrorStatus.{error_status_number}
 use Rattle.dms_wire.specs.Message.{SnmpMessage}
 use Rattle.dms_wire.specs.MessageOf.{message_of}
 use Rattle.dms_wire.specs.Canonical.{canonical}
 use Rattle.dms_wire.specs.Response.{response_to}
+pub use Rattle.dms_mib_replies.specs.Replies.{too_big, or_too_big}
 use Rattle.dms_codes.specs.declared.codes.Activation.{Activation}
 use Rattle.dms_sign.specs.State.{SignState}
 use Rattle.dms_sign.specs.Requests.{Answer, is_community, answer_of_any_size}
-use Rattle.dms_wire_ber.specs.Limits.{longest_datagram}
 
 -- ---- replies
 
@@ -19,14 +18,6 @@ use Rattle.dms_wire_ber.specs.Limits.{longest_datagram}
 abbrev pub response_of : SnmpMessage → Answer → SnmpMessage
 response_of m answer =
     record (response_to m (error_status_number answer.status) answer.index) { bindings = answer.bindings }
-
-abbrev pub too_big : ℕ
-too_big = error_status_number TooBig
-
--- this Response to a request, or tooBig where its octets do not fit a datagram (RFC 1157, 4.1.2)
-abbrev pub or_too_big : SnmpMessage → SnmpMessage → SnmpMessage
-or_too_big m response =
-    if nat_le (length (canonical response)) longest_datagram then response else response_to m too_big 0
 
 -- the Response that is sent
 abbrev pub response_sent : SnmpMessage → Answer → SnmpMessage

@@ -3,16 +3,14 @@
 use Rattle.std.specs.Prelude.{ℕ, ◌&&◌, ◌||◌, Bool, List, Option, Some, None, ⊤}
 use Rattle.dms_wire.specs.declared.message.Kind.{Kind}
 use Rattle.dms_wire.specs.declared.message.Kind.TheVariants.{Get, GetNext, Response, Set}
-use Rattle.dms_wire.specs.Message.{VarBind, SnmpMessage}
-use Rattle.dms_wire.specs.Spelling.{Spells}
-use Rattle.dms_wire.specs.Canonical.{canonical}
-use Rattle.dms_wire.specs.Response.{response_with}
+use Rattle.dms_wire.specs.Message.{SnmpMessage}
+pub use Rattle.dms_mib_replies.specs.Replies.{reply_with, IsRead}
 use Rattle.dms_codes.specs.declared.codes.Activation.{Activation}
 use Rattle.dms_sign.specs.declared.sign.reply.Receipt.{Receipt}
 use Rattle.dms_sign.specs.declared.sign.reply.Receipt.TheVariants.{Dropped, Replied, Accepted}
 use Rattle.dms_sign.specs.State.{SignState}
 use Rattle.dms_sign.specs.Requests.{is_community}
-use Rattle.dms_sign.specs.Reply.{or_too_big, Received, dropped, heard}
+use Rattle.dms_sign.specs.Reply.{Received, dropped, heard}
 
 -- what was sent, of the octets that were left
 abbrev pub sent : Receipt → List ℕ → Option (List ℕ)
@@ -24,15 +22,6 @@ abbrev pub accepted_by : Receipt → Option Activation
 accepted_by Dropped = None
 accepted_by Replied = None
 accepted_by (Accepted activation) = Some activation
-
--- the octets of a Response, or those of tooBig where they do not fit a datagram
-abbrev pub reply_with : SnmpMessage → ℕ → ℕ → List VarBind → List ℕ
-reply_with m status index bindings = canonical (or_too_big m (response_with m status index bindings))
-
--- octets spell the message, and they fit a datagram
-pub record IsRead (m : SnmpMessage) : Type 0 where
-  pub octets : List ℕ
-  pub spelled : Spells m octets
 
 -- something is sent
 abbrev pub IsAnswered : Receipt → Type 0

@@ -1,7 +1,7 @@
 -- What a sign answers to a message, where a reply may have any size, and what it is afterwards (RFC 1157, 4.1.2 to
 -- 4.1.5).
 use Rattle.std.specs.Prelude.{ℕ, ◌==◌, Bool, if◌then◌else◌, List, [], ◌∷◌, map, nat_eq, filter_map}
-use Rattle.std.specs.Prelude.{find, Option, Some, None, is_none, unwrap_or, Result, Ok, Err}
+use Rattle.std.specs.Prelude.{find, Option, Some, None, unwrap_or, Result, Ok, Err}
 use Rattle.std.specs.List.{position_from}
 use Rattle.std.specs.Cmp.Lexicographic.{pointwise}
 use Rattle.dms_wire.specs.declared.message.Kind.{Kind}
@@ -9,6 +9,7 @@ use Rattle.dms_wire.specs.declared.message.Kind.TheVariants.{Get, GetNext, Respo
 use Rattle.dms_wire.specs.declared.error_status.ErrorStatus.{ErrorStatus}
 use Rattle.dms_wire.specs.declared.error_status.ErrorStatus.TheVariants.{NoError, NoSuchName, GenErr}
 use Rattle.dms_wire.specs.Message.{VarBind, SnmpMessage}
+use Rattle.dms_mib_replies.specs.Replies.{has_no_value_by, with_value_by, is_last_by, next_after_by}
 use Rattle.dms_codes.specs.declared.codes.Activation.{Activation}
 use Rattle.dms_table.specs.declared.activation.Cause.{Cause}
 use Rattle.dms_table.specs.Rows.{TableModel, asked}
@@ -48,11 +49,11 @@ found_unless s bindings found (Some index) = refused s bindings NoSuchName index
 
 -- no instance has this name
 abbrev pub has_no_value : SignState → VarBind → Bool
-has_no_value s binding = is_none (value_of s binding.name)
+has_no_value s = has_no_value_by (value_of s)
 
 -- the binding with the value that its name has
 abbrev pub with_value : SignState → VarBind → VarBind
-with_value s binding = record { name = binding.name; value = unwrap_or (value_of s binding.name) binding.value }
+with_value s = with_value_by (value_of s)
 
 -- a Get: each value, or noSuchName at the first name that has none (RFC 1157, 4.1.2)
 abbrev pub get : SignState → List VarBind → Answer
@@ -60,11 +61,11 @@ get s bindings = found_unless s bindings (map (with_value s) bindings) (position
 
 -- no instance comes after this name
 abbrev pub is_last : SignState → VarBind → Bool
-is_last s binding = is_none (value_after s binding.name)
+is_last s = is_last_by (value_after s)
 
 -- the binding of the instance that comes next
 abbrev pub next_after : SignState → VarBind → VarBind
-next_after s binding = unwrap_or (value_after s binding.name) binding
+next_after s = next_after_by (value_after s)
 
 -- a GetNext: what comes after each name, or noSuchName at the first that is the last (RFC 1157, 4.1.3)
 abbrev pub get_next : SignState → List VarBind → Answer

@@ -32,7 +32,6 @@ use std::marker::Model;
 mod events;
 mod own_codes;
 pub mod reply;
-mod requests;
 mod set_request;
 mod values;
 

@@ -7,25 +7,41 @@ ghost use Rattle.dms_wire.specs.View.{object_value};
 ghost use Rattle.dms_mib_instances.specs.Objects.{instance_named};
 ghost use Rattle.dms_mib_instances.specs.Places.{HasCounts};
 ghost use Rattle.dms_sign_access.specs.Cells.{number_value, cell_value};
-ghost use Rattle.dms_sign.specs.Values.{free_octets, scalar_value, value_at, value_of};
+ghost use Rattle.dms_sign.specs.Values.{free_octets, scalar_value, value_at};
 
 use crate::sign::Sign;
 use dms_codes::{MAX_TEXT, RowId, memory};
-use dms_mib::{Column, Instance, Scalar};
+use dms_mib::{Column, Instance, Name, Scalar};
 use dms_mib_instances::Counts;
+use dms_mib_replies::{Next, NextName, Objects};
 use dms_sign_access::{cell_value, number_value, shown_value, small_value};
 use dms_wire::{Oid, Value};
 
-impl Sign {
-    /// What this name reads, where it is that of an instance.
+impl Objects for Sign {
+    ghost use Rattle.dms_sign.specs.Values.{value_of, value_after};
+
+    ghost reads = { value_of };
+
+    ghost follows = { value_after };
+
     #[tactic(auto, unfolding(crate::specs::Values::value_of))]
-    pub fn value(&self, name: &Oid<'_>) -> Option<Value<'_>>
-        ensures { option_map object_value result ≡ value_of self.now name.now }
-    {
+    fn value(&self, name: &Oid<'_>) -> Option<Value<'_>> {
         let instance = self.named(name)?;
         self.value_at(instance)
     }
 
+    #[tactic(auto, unfolding(crate::specs::Values::value_after))]
+    fn next(&self, name: &Oid<'_>) -> Option<Next<'_>> {
+        let instance = self.counts().next(name)?;
+        let value = self.value_at(instance)?;
+        Some(Next {
+            name: NextName::Instance(Name::of(instance)),
+            value,
+        })
+    }
+}
+
+impl Sign {
     /// The instance of this name.
     pub(super) fn named(&self, name: &Oid<'_>) -> Option<Instance>
         ensures { result ≡ instance_named self.now.table name.now }

@@ -4,7 +4,8 @@ use Rattle.dms_wire.specs.declared.error_status.ErrorStatus.TheVariants.{NoError
 use Rattle.dms_wire.specs.View.{snmp_message}
 use Rattle.dms_sign.specs.Requests.{set, may_write}
 use Rattle.dms_sign.specs.SetView.{Says}
-use Rattle.dms_sign.proofs.Sending.{few_are_read, reply_says}
+use Rattle.dms_mib_replies.proofs.Fitting.{few_are_read}
+use Rattle.dms_sign.proofs.Sending.{reply_says}
 use Rattle.dms_sign.proofs.Assigned.{set_echoes}
 use Rattle.dms_sign.proofs.sign.Sign.answer_set.Goals as goal
 

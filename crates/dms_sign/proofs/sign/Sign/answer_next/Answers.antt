@@ -1,6 +1,0 @@
-use Rattle.dms_wire.specs.View.{snmp_message}
-use Rattle.dms_sign.proofs.Sending.{few_are_read}
-use Rattle.dms_sign.proofs.sign.Sign.answer_next.Goals as goal
-
-pub values_after-requires-clause-few : goal.values_after-requires-clause-few
-values_after-requires-clause-few c = few_are_read (snmp_message c.args.message.now) c.requires
