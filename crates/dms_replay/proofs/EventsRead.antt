@@ -81,11 +81,11 @@ all_read order all left events read end =
 
 -- ---- the first line that is no event's
 
-goes_on : (order : Order) (line : NumberedLine) (rest : List NumberedLine) (event : EventModel) → event_of order line.octets ≡ Some event
+pub goes_on : (order : Order) (line : NumberedLine) (rest : List NumberedLine) (event : EventModel) → event_of order line.octets ≡ Some event
     → from_no_event order (line ∷ rest) ≡ from_no_event order rest
 goes_on order line rest event e = ap (λ o. cond (is_some o) (from_no_event order rest) (line ∷ rest)) e
 
-stops : (order : Order) (line : NumberedLine) (rest : List NumberedLine) → event_of order line.octets ≡ None → from_no_event order (line ∷ rest) ≡ line ∷ rest
+pub stops : (order : Order) (line : NumberedLine) (rest : List NumberedLine) → event_of order line.octets ≡ None → from_no_event order (line ∷ rest) ≡ line ∷ rest
 stops order line rest e = ap (λ o. cond (is_some o) (from_no_event order rest) (line ∷ rest)) e
 
 -- the lines from the first on are read up to those that are left

@@ -66,10 +66,10 @@ one_name lines rest others it that this other = names_are lines rest others this
     names_are lines rest others prefix another it that e h (described prefix_lines sign spelled) (described other_lines other says) =
         one_prefix lines rest others it that (record { prefix = prefix_lines; lines_are = e; spelled = spelled }) (record { prefix = other_lines; lines_are = h; spelled = says })
 
-named_by : (octets : List ℕ) (it : Description) (events : List EventModel) (script : SpellsScript octets it events) → NamesPrefix (kept_lines octets) script.event_lines it
+pub named_by : (octets : List ℕ) (it : Description) (events : List EventModel) (script : SpellsScript octets it events) → NamesPrefix (kept_lines octets) script.event_lines it
 named_by octets it events script = record { prefix = script.sign_lines; lines_are = script.lines_are; names = script.names }
 
-moved : (it that : Description) (lines others : List (List ℕ)) (events : List EventModel) → it ≡ that → lines ≡ others → SpellsEach (SpellsEvent that.table.order) events others
+pub moved : (it that : Description) (lines others : List (List ℕ)) (events : List EventModel) → it ≡ that → lines ≡ others → SpellsEach (SpellsEvent that.table.order) events others
     → SpellsEach (SpellsEvent it.table.order) events lines
 moved it that lines others events same same_lines each =
     subst (λ (sign : Description). SpellsEach (SpellsEvent sign.table.order) events lines) (sym same)

@@ -12,6 +12,7 @@ use Rattle.dms_text_forms.specs.declared.wanted.Wanted.{Wanted}
 use Rattle.dms_text_forms.specs.declared.wanted.Wanted.TheVariants as wanted
 use Rattle.dms_sign_text_causes.specs.Texts.{cause_text}
 use Rattle.dms_sign_text.specs.Causes.{first_cause}
+use Rattle.dms_sign_text.specs.Description.{Description}
 use Rattle.dms_centre_text.specs.declared.command_word.CommandWord.TheVariants as asked
 use Rattle.dms_replay.specs.declared.keyword.EventKeyword.{EventKeyword}
 use Rattle.dms_replay.specs.declared.keyword.EventKeyword.TheVariants as key
@@ -20,6 +21,7 @@ use Rattle.dms_replay.specs.declared.reasons.EventCause.TheVariants as event
 use Rattle.dms_replay.specs.declared.reasons.ScriptCause.{ScriptCause}
 use Rattle.dms_replay.specs.declared.reasons.ScriptCause.TheVariants as script
 use Rattle.dms_replay.specs.EventReading.{keyword_of}
+use Rattle.dms_replay.specs.Script.{NamesPrefix}
 
 -- ---- events
 
@@ -69,10 +71,17 @@ event_cause_at octets number = line_numbered number (lines_left (record { number
 
 -- ---- the whole
 
--- what is said is the first cause of the sign's description, or the cause of the line of this number
+-- the first lines name a sign
+pub record NamesASign (octets : List ℕ) : Type 0 where
+  pub sign : Description
+  pub rest : List (List ℕ)
+  pub names : NamesPrefix (kept_lines octets) rest sign
+
+-- what is said is the first cause of the sign's description, where the first lines name no sign, or the cause of the
+-- line of this number, where they name one
 abbrev pub IsCauseOf : List ℕ → ℕ → ScriptCause → Type 0
-IsCauseOf octets number (script.Sign cause) = first_cause (kept_lines octets) ≡ Some cause
-IsCauseOf octets number (script.Event cause) = event_cause_at octets number ≡ Some cause
+IsCauseOf octets number (script.Sign cause) = (NamesASign octets → ⊥) × (first_cause (kept_lines octets) ≡ Some cause)
+IsCauseOf octets number (script.Event cause) = NamesASign octets × (event_cause_at octets number ≡ Some cause)
 
 -- ---- words
 

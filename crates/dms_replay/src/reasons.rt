@@ -1,12 +1,13 @@
 //! Why a script is refused: the cause that its line is at fault.
 
-ghost use Rattle.std.specs.Prelude.{◌≡◌, ◌≤◌, IfOk, IfSome, length, option_map};
+ghost use Rattle.std.specs.Prelude.{◌≡◌, ◌≤◌, IfOk, IfSome, IfNone, length, option_map};
 ghost use Rattle.dms_text.specs.Lines.{lines_left};
 ghost use Rattle.dms_text_streams.specs.DescriptionText.{longest_input};
 ghost use Rattle.dms_replay.specs.RefusedScript.{IsRefusedIn};
 ghost use Rattle.dms_replay.specs.Replayed.{NoScript};
 ghost use Rattle.dms_replay.specs.Reasons.{event_form, event_cause, line_numbered, line_found, event_cause_at};
 ghost use Rattle.dms_replay.specs.Reasons.{IsCauseOf};
+ghost use Rattle.dms_replay.specs.declared.reasons.ScriptCause.TheVariants as causes;
 
 use crate::keyword::EventKeyword;
 use crate::script::{named_sign, read_script};
@@ -64,33 +65,47 @@ impl fmt::Display for ScriptCause {
     }
 }
 
-/// Why the line of this number is the one for which the script is refused. None is said of any other line, and none
-/// where the text spells a script. It must have at most `LONGEST_INPUT` octets.
+/// Why the line of this number is the one for which the script is refused. There is a cause of each such line; none is
+/// said of any other line, and none where the text spells a script. It must have at most `LONGEST_INPUT` octets.
 pub fn why(alloc: Global, octets: &[u8], number: usize) -> Result<Option<ScriptCause>, AllocError>
     requires { length octets.now ≤ longest_input }
     ensures cause { IfOk result (λ found. IfSome found (IsCauseOf octets.now number)) }
     ensures refused { IfOk result (λ found. IfSome found (λ cause. NoScript octets.now)) }
     ensures number { IfOk result (λ found. IfSome found (λ cause. IsRefusedIn octets.now number)) }
+    ensures told { IfOk result (λ found. IfNone found (IsRefusedIn octets.now number → ⊥)) }
 {
-    match read_script(alloc, octets) {
-        Err(ReplayFault::Line(line)) if line == number => cause_at(alloc, octets, number),
-        Err(ReplayFault::Memory) => Err(AllocError),
+    let Err(fault) = read_script(alloc, octets) else {
+        return Ok(None);
+    };
+    match fault {
+        ReplayFault::Line(line) if line == number => cause_at(alloc, octets, number),
+        ReplayFault::Memory => Err(AllocError),
         _ => Ok(None),
     }
 }
 
 /// The cause of a line of a script that is refused for it.
 fn cause_at(alloc: Global, octets: &[u8], number: usize) -> Result<Option<ScriptCause>, AllocError>
-    ensures { IfOk result (λ found. IfSome found (IsCauseOf octets.now number)) }
+    ensures cause { IfOk result (λ found. IfSome found (IsCauseOf octets.now number)) }
+    ensures told { IfOk result (λ found. IfNone found (IsRefusedIn octets.now number → ⊥)) }
 {
-    match named_sign(alloc, octets) {
-        Ok(_) => Ok(event_cause_at(octets, number).map(ScriptCause::Event)),
-        Err(ReplayFault::Memory) => Err(AllocError),
-        Err(_) => match first_cause(alloc, octets)? {
+    let Err(fault) = named_sign(alloc, octets) else {
+        return Ok(cause_of_event(octets, number));
+    };
+    match fault {
+        ReplayFault::Memory => Err(AllocError),
+        _ => match first_cause(alloc, octets)? {
             Some(cause) => Ok(Some(ScriptCause::Sign(cause))),
             None => Ok(None),
         },
     }
+}
+
+/// The cause of the line of this number, which is no event.
+fn cause_of_event(octets: &[u8], number: usize) -> Option<ScriptCause>
+    ensures { result ≡ option_map causes.Event (event_cause_at octets.now number) }
+{
+    event_cause_at(octets, number).map(ScriptCause::Event)
 }
 
 /// Why the line of this number is no event.

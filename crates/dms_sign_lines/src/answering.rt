@@ -28,7 +28,7 @@ use std::io::Write;
 
 /// The octets of the longest answer to a datagram: `accepted`, a code of twelve octets, those of a reply, two spaces
 /// and a newline.
-const LONGEST_RECEIPT: usize = 8 + 2 * 12 + 2 * MAX_DATAGRAM + 3;
+pub const LONGEST_RECEIPT: usize = 8 + 2 * 12 + 2 * MAX_DATAGRAM + 3;
 
 /// The answer to a line, which is given without its newline; each line of the answer ends in one. A line is its words
 /// with one space between two, so that a carriage return belongs to the last word:
@@ -113,7 +113,7 @@ fn receive(alloc: Global, sign: &mut Sign, datagram: &[u8]) -> Result<Vec<u8>, A
 }
 
 /// Appends what came of a datagram, for which there is room.
-fn put_receipt(text: &mut Vec<u8>, order: Order, receipt: Receipt, reply: &[u8])
+pub fn put_receipt(text: &mut Vec<u8>, order: Order, receipt: Receipt, reply: &[u8])
     requires short { length reply.now ≤ longest_datagram }
     requires room { vec_len text.old + longest_receipt_line ≤ vec_capacity text.old }
     ensures { text.new.items ≡ text.old.items ++ receipt_line order (sent receipt reply.now) (accepted_by receipt) }

@@ -16,5 +16,5 @@ pub mod laws;
 mod live;
 mod sign_call;
 
-pub use answering::{answer, shown_pages};
+pub use answering::{LONGEST_RECEIPT, answer, put_receipt, shown_pages};
 pub use live::LiveSign;

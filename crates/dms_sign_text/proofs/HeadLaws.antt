@@ -1,6 +1,7 @@
 -- What the first seven lines of a description spell is what is read of them.
 use Rattle.std.proofs.Common.{◌≡◌, ℕ, ◌<◌, ◌==◌, List, [], ◌∷◌, length, Some, None, ap, subst, ◌∙◌, arith}
 use Rattle.std.specs.Prelude.{codes}
+use Rattle.std.proofs.lemmas.Option.{same_Some}
 use Rattle.dms_text.specs.Numbers.{SpellsDecimal}
 use Rattle.dms_text.proofs.WordLaws.{begun, goes_on, word_found, word_only, keyword_found, keyword_only}
 use Rattle.dms_face.specs.Face.{FaceModel}
@@ -88,14 +89,17 @@ pub order_line_found : (table : TableModel) (words : List (List ℕ)) → order_
 unfolding order_of
 order_line_found table words e =
     let read = begun _ _ _ e in
-    let word = begun _ _ _ read.2 in
+    let found = begun _ _ _ read.2 in
+    let word = begun _ _ _ found.1 in
     let order = begun _ _ _ word.2 in
-    let end = last_found _ _ table.order order.2 in
+    let same : (order.0, word.0.1) ≡ found.0 = same_Some _ _ order.2 in
+    let end = last_found _ _ table.order found.2 in
     record {
       order_word = word.0.0;
       words_are = keyword_found (codes "order") words read.0 read.1
-          ∙ ap (λ rest. codes "order" ∷ rest) ((word_found read.0 word.0 word.1).0 ∙ ap (λ rest. word.0.0 ∷ rest) end.0);
-      order = order_found table.order word.0.0 (order.1 ∙ ap Some end.1);
+          ∙ ap (λ rest. codes "order" ∷ rest) ((word_found read.0 word.0 word.1).0
+          ∙ ap (λ rest. word.0.0 ∷ rest) (ap (λ (pair : Order × List (List ℕ)). pair.1) same ∙ end.0));
+      order = order_found table.order word.0.0 (order.1 ∙ ap (λ (pair : Order × List (List ℕ)). Some pair.0) same ∙ ap Some end.1);
     }
 
 named_some : (order : Order) (word : List ℕ) → order_named word ≡ Some order → 0 < length word

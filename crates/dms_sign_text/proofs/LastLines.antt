@@ -1,6 +1,7 @@
 -- Lines of a text that are left, which are its last.
 use Rattle.std.proofs.Common.{◌≡◌, ℕ, ◌-◌, Bool, true, false, cond, List, [], ◌∷◌, ◌++◌, length, drop, refl, sym, ap, subst, ◌∙◌, arith, append_assoc}
 use Rattle.dms_text.specs.Lines.{NumberedLine, TextLeft, lines_left}
+use Rattle.dms_text_forms.specs.declared.wanted.Wanted.{Wanted}
 use Rattle.dms_sign_text.specs.RefusedLine.{NumberedLines, numbered_left, octets_of, last_lines, Leaves, from_misfit}
 use Rattle.dms_sign_text.specs.Views.{after, past, HaveForms}
 use Rattle.std.proofs.lemmas.List.{length-append, length-map}
@@ -37,8 +38,8 @@ from_later (form ∷ forms) (line ∷ lines) = elim (form line.octets) as (λ fi
 ]
 
 -- what comes after the first lines is left
-pub leaves_rest : (forms : List (List ℕ → Bool)) (left rest : TextLeft) → HaveForms forms left rest → Leaves (numbered_left left) (numbered_left rest)
-leaves_rest forms left rest have =
+pub leaves_rest : (forms : List (List ℕ → Bool)) (wanted : List (List Wanted)) (left rest : TextLeft) → HaveForms forms wanted left rest → Leaves (numbered_left left) (numbered_left rest)
+leaves_rest forms wanted left rest have =
     let later = from_later (forms ++ []) (lines_left left) in
     record { prefix = later.0; lines_are = later.1 ∙ ap (λ lines. later.0 ++ lines) (have.lines []); after_is = have.after }
 

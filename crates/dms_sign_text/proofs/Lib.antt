@@ -16,3 +16,8 @@ pub mod LastLines
 pub mod Refused
 pub mod TextsDescribed
 pub mod ShownParts
+pub mod Said
+pub mod WordsFit
+mod Stops
+mod NoCause
+pub mod FirstCause

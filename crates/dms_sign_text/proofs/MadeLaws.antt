@@ -43,7 +43,7 @@ none_fails test i (x ∷ xs) e =
 
 -- ---- a stock
 
-none_after : {A : Type 0} (b : Bool) (o : Option A) (x : A) → cond b o (Some x) ≡ None → (b ≡ true) × (o ≡ None)
+pub none_after : {A : Type 0} (b : Bool) (o : Option A) (x : A) → cond b o (Some x) ≡ None → (b ≡ true) × (o ≡ None)
 none_after b o x e = grind arith
 
 record HasCounts (stock : Stock) : Type 0 where

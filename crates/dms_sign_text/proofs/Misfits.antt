@@ -7,96 +7,108 @@ use Rattle.dms_sign_text.specs.Views.{HaveForms, IsMisfit, FindsLine, FindsNoLin
 use Rattle.dms_sign_text.specs.Setups.{octets_left}
 use Rattle.dms_sign_text.specs.DescriptionReading.{line_at}
 use Rattle.dms_text.specs.Reading.{◌>>=◌}
-use Rattle.dms_sign_text.specs.declared.fault.DescriptionFault.{DescriptionFault}
-use Rattle.dms_sign_text.specs.declared.fault.DescriptionFault.TheVariants as faults
-use Rattle.std.specs.Option.{is_some}
+use Rattle.std.specs.Option.{is_some, option_or}
+use Rattle.std.specs.Prelude.{option_map}
+use Rattle.dms_text_forms.specs.Form.{word_fault}
+use Rattle.dms_text_forms.specs.declared.wanted.Wanted.{Wanted}
+use Rattle.dms_text_forms.specs.declared.fault.WordFault.{WordFault}
+use Rattle.dms_sign_text_causes.specs.declared.cause.LineCause.TheVariants as causes
+use Rattle.dms_sign_text.specs.Causes.{head_cause, first_four_words}
+use Rattle.dms_sign_text.specs.declared.line_fault.LineFault.{LineFault}
 
 -- ---- one line
 
-pub fits_one : {A : Type 0} (read : List (List ℕ) → Option A) (left rest : TextLeft) (line : NumberedLine) (value : A) → lines_left left ≡ line ∷ lines_left rest
-    → number_after rest ≡ number_after left → read (words_of line.octets) ≡ Some value → HaveForms (has_form read ∷ []) left rest
-fits_one read left rest line value is after reads = record {
-  lines = λ more. ap (from_misfit (has_form read ∷ more)) is
-      ∙ ap (λ fits. cond fits (from_misfit more (lines_left rest)) (line ∷ lines_left rest)) (ap is_some reads);
-  after = after;
-}
+first_cause_is : (wanted : List Wanted) (more : List (List Wanted)) (left : TextLeft) (line : NumberedLine) (others : List NumberedLine) (found : Option WordFault)
+    → lines_left left ≡ line ∷ others → word_fault wanted (words_of line.octets) ≡ found
+    → head_cause (wanted ∷ more) (octets_left left) ≡ option_or (option_map causes.Word found) (head_cause more (octets_of others))
+first_cause_is wanted more left line others found is words =
+    ap (λ lines. head_cause (wanted ∷ more) (octets_of lines)) is
+    ∙ ap (λ fault. option_or (option_map causes.Word fault) (head_cause more (octets_of others))) words
 
-pub misfit_one : {A : Type 0} (read : List (List ℕ) → Option A) (left rest : TextLeft) (line : NumberedLine) → lines_left left ≡ line ∷ lines_left rest
-    → read (words_of line.octets) ≡ None → IsMisfit (has_form read ∷ []) left (faults.Line line.number)
-misfit_one read left rest line is reads = record {
-  is = λ more. sym (ap (λ lines. faults.Line (first_number lines (number_after left)))
-      (ap (from_misfit (has_form read ∷ more)) is ∙ ap (λ fits. cond fits (from_misfit more (lines_left rest)) (line ∷ lines_left rest)) (ap is_some reads)));
-}
-
-pub missing_one : {A : Type 0} (read : List (List ℕ) → Option A) (left : TextLeft) (fault : DescriptionFault) → lines_left left ≡ []
-    → fault ≡ faults.Line (number_after left) → IsMisfit (has_form read ∷ []) left fault
-missing_one read left fault is number = record {
-  is = λ more.
-      number ∙ sym (ap (λ lines. faults.Line (first_number lines (number_after left))) (ap (from_misfit (has_form read ∷ more)) is));
-}
-
-pub finds_line : {A : Type 0} (read : List (List ℕ) → Option A) (left rest : TextLeft) (line : NumberedLine) (value : A) → lines_left left ≡ line ∷ lines_left rest
-    → number_after rest ≡ number_after left → read (words_of line.octets) ≡ Some value → FindsLine read left value rest
-finds_line read left rest line value is after reads = record {
+pub finds_line : {A : Type 0} (read : List (List ℕ) → Option A) (wanted : List Wanted) (left rest : TextLeft) (line : NumberedLine) (value : A) → lines_left left ≡ line ∷ lines_left rest
+    → number_after rest ≡ number_after left → read (words_of line.octets) ≡ Some value → word_fault wanted (words_of line.octets) ≡ None → FindsLine read wanted left value rest
+finds_line read wanted left rest line value is after reads taken = record {
   said = ap (λ lines. line_at read (octets_of lines)) is ∙ ap (λ found. found >>= λ said. Some (said, octets_left rest)) reads;
-  forms = fits_one read left rest line value is after reads;
+  forms = record {
+    lines = λ more. ap (from_misfit (has_form read ∷ more)) is
+        ∙ ap (λ fits. cond fits (from_misfit more (lines_left rest)) (line ∷ lines_left rest)) (ap is_some reads);
+    after = after;
+    causes = λ more. first_cause_is wanted more left line (lines_left rest) None is taken;
+  };
 }
 
-pub finds_misfit : {A : Type 0} (read : List (List ℕ) → Option A) (left rest : TextLeft) (line : NumberedLine) → lines_left left ≡ line ∷ lines_left rest
-    → read (words_of line.octets) ≡ None → FindsNoLine read left (faults.Line line.number)
-finds_misfit read left rest line is reads = record {
+pub finds_misfit : {A : Type 0} (read : List (List ℕ) → Option A) (wanted : List Wanted) (left rest : TextLeft) (line : NumberedLine) (fault : WordFault) (found : LineFault) → lines_left left ≡ line ∷ lines_left rest
+    → read (words_of line.octets) ≡ None → word_fault wanted (words_of line.octets) ≡ Some fault → found.line ≡ line.number → found.cause ≡ causes.Word fault → FindsNoLine read wanted left found
+finds_misfit read wanted left rest line fault found is reads lacks number cause = record {
   none = ap (λ lines. line_at read (octets_of lines)) is ∙ ap (λ found. found >>= λ said. Some (said, octets_left rest)) reads;
-  misfit = misfit_one read left rest line is reads;
+  misfit = record {
+    is = λ more. number ∙ sym (ap (λ lines. first_number lines (number_after left))
+        (ap (from_misfit (has_form read ∷ more)) is ∙ ap (λ fits. cond fits (from_misfit more (lines_left rest)) (line ∷ lines_left rest)) (ap is_some reads)));
+    cause = λ more. first_cause_is wanted more left line (lines_left rest) (Some fault) is lacks ∙ ap Some (sym cause);
+  };
 }
 
-pub finds_nothing : {A : Type 0} (read : List (List ℕ) → Option A) (left : TextLeft) (fault : DescriptionFault) → lines_left left ≡ []
-    → fault ≡ faults.Line (number_after left) → FindsNoLine read left fault
-finds_nothing read left fault is number =
-    record { none = ap (λ lines. line_at read (octets_of lines)) is; misfit = missing_one read left fault is number }
+pub finds_nothing : {A : Type 0} (read : List (List ℕ) → Option A) (wanted : List Wanted) (left : TextLeft) (found : LineFault) → lines_left left ≡ []
+    → found.line ≡ number_after left → found.cause ≡ causes.NoEnd → FindsNoLine read wanted left found
+finds_nothing read wanted left found is number cause = record {
+  none = ap (λ lines. line_at read (octets_of lines)) is;
+  misfit = record {
+    is = λ more. number ∙ sym (ap (λ lines. first_number lines (number_after left)) (ap (from_misfit (has_form read ∷ more)) is));
+    cause = λ more. ap (λ lines. head_cause (wanted ∷ more) (octets_of lines)) is ∙ ap Some (sym cause);
+  };
+}
 
 pub ruleset one = (finds_line, finds_misfit, finds_nothing)
 
 -- ---- lines one after another
 
-pub fits_next : (form : List ℕ → Bool) (forms : List (List ℕ → Bool)) (left mid rest : TextLeft) → HaveForms (form ∷ []) left mid → HaveForms forms mid rest → HaveForms (form ∷ forms) left rest
-fits_next form forms left mid rest first next = record {
+pub fits_next : (form : List ℕ → Bool) (forms : List (List ℕ → Bool)) (words : List Wanted) (wanted : List (List Wanted)) (left mid rest : TextLeft) → HaveForms (form ∷ []) (words ∷ []) left mid
+    → HaveForms forms wanted mid rest → HaveForms (form ∷ forms) (words ∷ wanted) left rest
+fits_next form forms words wanted left mid rest first next = record {
   lines = λ more. first.lines (forms ++ more) ∙ next.lines more;
   after = next.after ∙ first.after;
+  causes = λ more. first.causes (wanted ++ more) ∙ next.causes more;
 }
 
-pub misfit_next : (form : List ℕ → Bool) (forms : List (List ℕ → Bool)) (left mid : TextLeft) (fault : DescriptionFault) → HaveForms (form ∷ []) left mid → IsMisfit forms mid fault
-    → IsMisfit (form ∷ forms) left fault
-misfit_next form forms left mid fault first next = record {
+pub misfit_next : (form : List ℕ → Bool) (forms : List (List ℕ → Bool)) (words : List Wanted) (wanted : List (List Wanted)) (left mid : TextLeft) (fault : LineFault) → HaveForms (form ∷ []) (words ∷ []) left mid
+    → IsMisfit forms wanted mid fault → IsMisfit (form ∷ forms) (words ∷ wanted) left fault
+misfit_next form forms words wanted left mid fault first next = record {
   is = λ more.
       next.is more
-      ∙ sym (ap (λ lines. faults.Line (first_number lines (number_after mid))) (first.lines (forms ++ more)))
-      ∙ ap (λ after. faults.Line (first_number (from_misfit (form ∷ forms ++ more) (lines_left left)) after)) first.after;
+      ∙ sym (ap (λ lines. first_number lines (number_after mid)) (first.lines (forms ++ more)))
+      ∙ ap (λ after. first_number (from_misfit (form ∷ forms ++ more) (lines_left left)) after) first.after;
+  cause = λ more. first.causes (wanted ++ more) ∙ next.cause more;
 }
 
 -- a misfit is one of the first of more lines
-pub misfit_first : (form : List ℕ → Bool) (forms : List (List ℕ → Bool)) (left : TextLeft) (fault : DescriptionFault) → IsMisfit (form ∷ []) left fault → IsMisfit (form ∷ forms) left fault
-misfit_first form forms left fault misfit = record { is = λ more. misfit.is (forms ++ more) }
+pub misfit_first : (form : List ℕ → Bool) (forms : List (List ℕ → Bool)) (words : List Wanted) (wanted : List (List Wanted)) (left : TextLeft) (fault : LineFault)
+    → IsMisfit (form ∷ []) (words ∷ []) left fault → IsMisfit (form ∷ forms) (words ∷ wanted) left fault
+misfit_first form forms words wanted left fault misfit = record { is = λ more. misfit.is (forms ++ more); cause = λ more. misfit.cause (wanted ++ more) }
 
 pub ruleset more = (fits_next, misfit_next, misfit_first)
 
 -- of all seven lines, one of the last three is a misfit
-pub misfit_after_four : (forms : List (List ℕ → Bool)) (left mid : TextLeft) (fault : DescriptionFault) → HaveForms first_four_forms left mid → IsMisfit forms mid fault
-    → IsMisfit (first_four_forms ++ forms) left fault
-misfit_after_four forms left mid fault first next = record {
+pub misfit_after_four : (forms : List (List ℕ → Bool)) (wanted : List (List Wanted)) (left mid : TextLeft) (fault : LineFault) → HaveForms first_four_forms first_four_words left mid
+    → IsMisfit forms wanted mid fault → IsMisfit (first_four_forms ++ forms) (first_four_words ++ wanted) left fault
+misfit_after_four forms wanted left mid fault first next = record {
   is = λ more.
       next.is more
-      ∙ sym (ap (λ lines. faults.Line (first_number lines (number_after mid))) (first.lines (forms ++ more)))
-      ∙ ap (λ after. faults.Line (first_number (from_misfit (first_four_forms ++ forms ++ more) (lines_left left)) after)) first.after;
+      ∙ sym (ap (λ lines. first_number lines (number_after mid)) (first.lines (forms ++ more)))
+      ∙ ap (λ after. first_number (from_misfit (first_four_forms ++ forms ++ more) (lines_left left)) after) first.after;
+  cause = λ more. first.causes (wanted ++ more) ∙ next.cause more;
 }
 
 -- one of the first four is
-pub misfit_in_four : (forms : List (List ℕ → Bool)) (left : TextLeft) (fault : DescriptionFault) → IsMisfit first_four_forms left fault → IsMisfit (first_four_forms ++ forms) left fault
-misfit_in_four forms left fault misfit = record { is = λ more. misfit.is (forms ++ more) }
+pub misfit_in_four : (forms : List (List ℕ → Bool)) (wanted : List (List Wanted)) (left : TextLeft) (fault : LineFault) → IsMisfit first_four_forms first_four_words left fault
+    → IsMisfit (first_four_forms ++ forms) (first_four_words ++ wanted) left fault
+misfit_in_four forms wanted left fault misfit = record { is = λ more. misfit.is (forms ++ more); cause = λ more. misfit.cause (wanted ++ more) }
 
-pub fits_after_four : (forms : List (List ℕ → Bool)) (left mid rest : TextLeft) → HaveForms first_four_forms left mid → HaveForms forms mid rest → HaveForms (first_four_forms ++ forms) left rest
-fits_after_four forms left mid rest first next = record {
+pub fits_after_four : (forms : List (List ℕ → Bool)) (wanted : List (List Wanted)) (left mid rest : TextLeft) → HaveForms first_four_forms first_four_words left mid → HaveForms forms wanted mid rest
+    → HaveForms (first_four_forms ++ forms) (first_four_words ++ wanted) left rest
+fits_after_four forms wanted left mid rest first next = record {
   lines = λ more. first.lines (forms ++ more) ∙ next.lines more;
   after = next.after ∙ first.after;
+  causes = λ more. first.causes (wanted ++ more) ∙ next.causes more;
 }
 
 pub ruleset seven = (misfit_after_four, misfit_in_four, misfit_next, misfit_first)

@@ -7,6 +7,8 @@ use Rattle.std.proofs.lemmas.Option.{same_Some}
 use Rattle.dms_text.specs.Lines.{NumberedLine, TextLeft, lines_left, number_after, kept_lines}
 use Rattle.dms_sign_text.specs.declared.fault.DescriptionFault.{DescriptionFault}
 use Rattle.dms_sign_text.specs.declared.fault.DescriptionFault.TheVariants as faults
+use Rattle.dms_sign_text.specs.declared.line_fault.LineFault.{LineFault}
+use Rattle.dms_sign_text.specs.Causes.{head_words}
 use Rattle.dms_sign_text.specs.declared.setup.Setup.{Setup}
 use Rattle.dms_sign_text.specs.Description.{Description, SpellsSign}
 use Rattle.dms_sign_text.specs.DescriptionReading.{HeadModel, head_at, rows_from, fonts_at}
@@ -20,19 +22,18 @@ use Rattle.dms_sign_text.proofs.DescriptionLaws.{one_prefix}
 -- ---- the first lines
 
 -- one of the first seven lines is a misfit
-pub misfit_refused : (left : TextLeft) (fault : DescriptionFault) → head_at (octets_left left) ≡ None → IsMisfit first_forms left fault
-    → NamesLine (λ number. number ≡ refused_number (numbered_left left)) fault
+pub misfit_refused : (left : TextLeft) (fault : LineFault) → head_at (octets_left left) ≡ None → IsMisfit first_forms head_words left fault
+    → fault.line ≡ refused_number (numbered_left left)
 misfit_refused left fault none misfit =
     let from : List NumberedLine = from_misfit first_forms (lines_left left) in
-    subst (NamesLine (λ number. number ≡ refused_number (numbered_left left))) (sym (misfit.is []))
-    (sym (ap (λ some. first_number (cond some (after_fonts from) from) (number_after left)) (ap is_some none)))
+    misfit.is [] ∙ sym (ap (λ some. first_number (cond some (after_fonts from) from) (number_after left)) (ap is_some none))
 
 -- what is left of lines of which the first seven were read, and then the rows and the fonts
 pub record ReadTo (left : TextLeft) (found : NumberedLines) : Type 0 where
   pub leaves : Leaves (numbered_left left) found
   pub number : first_number found.lines found.after ≡ refused_number (numbered_left left)
 
-pub read_to : (left mid : TextLeft) (head : HeadModel) (start between found : NumberedLines) → head_at (octets_left left) ≡ Some (head, octets_left mid) → HaveForms first_forms left mid
+pub read_to : (left mid : TextLeft) (head : HeadModel) (start between found : NumberedLines) → head_at (octets_left left) ≡ Some (head, octets_left mid) → HaveForms first_forms head_words left mid
     → start ≡ numbered_left mid → Leaves start between → octets_of between.lines ≡ (rows_from [] (octets_of start.lines)).1
     → Leaves between found → octets_of found.lines ≡ (fonts_at (octets_of between.lines)).1 → ReadTo left found
 read_to left mid head start between found some have starts rows rows_are fonts fonts_are =
@@ -42,7 +43,7 @@ read_to left mid head start between found some have starts rows rows_are fonts f
     let count : octets_of found.lines ≡ (fonts_at (rows_from [] (octets_of start.lines)).1).1 = fonts_are ∙ ap (λ ls. (fonts_at ls).1) rows_are in
     let last : after_fonts from ≡ found.lines = ap after_fonts rest ∙ ap (λ ls. last_lines (length ls) start.lines) (sym count) ∙ last_are start found later in
     let all : Leaves (numbered_left left) found =
-    leaves_then _ _ _ (leaves_rest first_forms left mid have) (subst (λ ls. Leaves ls found) starts later) in
+    leaves_then _ _ _ (leaves_rest first_forms head_words left mid have) (subst (λ ls. Leaves ls found) starts later) in
     record {
       leaves = all;
       number =

@@ -1,5 +1,5 @@
 -- Why the lines of a description are refused: the cause that the first line at fault has (this profile).
-use Rattle.std.specs.Prelude.{ℕ, Bool, true, false, if◌then◌else◌, List, [], ◌∷◌, codes}
+use Rattle.std.specs.Prelude.{ℕ, Bool, true, false, if◌then◌else◌, List, [], ◌∷◌, ◌++◌, codes}
 use Rattle.std.specs.Prelude.{length, Option, Some, None, option_map, Result, Ok, Err}
 use Rattle.std.specs.Option.{option_or}
 use Rattle.dms_text.specs.Words.{words_of}
@@ -12,7 +12,9 @@ use Rattle.dms_face_font.specs.declared.fault.FontFaultKind.TheVariants.{Header,
 use Rattle.dms_face.specs.Face.{FaceModel, checked}
 use Rattle.dms_face.specs.declared.fault.FaceFault.{FaceFault}
 use Rattle.dms_table.specs.Rows.{RowModel}
-use Rattle.dms_sign_text_causes.specs.Forms.{form_words}
+use Rattle.dms_text_forms.specs.declared.wanted.Wanted.{Wanted}
+use Rattle.dms_sign_text_causes.specs.Forms.{size_words, communities_words, rows_words, order_words, has_words}
+use Rattle.dms_sign_text_causes.specs.Forms.{defaults_words, first_words, form_words}
 use Rattle.dms_sign_text_causes.specs.declared.forms.DescriptionLine.{DescriptionLine}
 use Rattle.dms_sign_text_causes.specs.declared.forms.DescriptionLine.TheVariants as forms
 use Rattle.dms_sign_text_causes.specs.SignCauses.{face_cause, communities_cause, counts_cause, rows_cause}
@@ -26,19 +28,26 @@ use Rattle.dms_sign_text.specs.DescriptionReading.{HeadModel, head_at, rows_from
 
 -- ---- the words of a line
 
+-- the first word of a line that is not as it is wanted
+abbrev pub words_cause : List Wanted → List ℕ → Option LineCause
+words_cause wanted line = option_map causes.Word (word_fault wanted (words_of line))
+
 -- the first word of a line that is not of its form
 abbrev pub form_cause : DescriptionLine → List ℕ → Option LineCause
-form_cause form line = option_map causes.Word (word_fault (form_words form) (words_of line))
+form_cause form line = words_cause (form_words form) line
 
--- the lines with which a description begins
-abbrev pub head_forms : List DescriptionLine
-head_forms = forms.Size ∷ forms.Communities ∷ forms.Rows ∷ forms.Order ∷ forms.Has ∷ forms.Defaults ∷ forms.First ∷ []
+-- the words of the lines with which a description begins
+abbrev pub first_four_words : List (List Wanted)
+first_four_words = size_words ∷ communities_words ∷ rows_words ∷ order_words ∷ []
 
--- the first of these lines that has not its form
-abbrev pub head_cause : List DescriptionLine → List (List ℕ) → Option LineCause
+abbrev pub head_words : List (List Wanted)
+head_words = first_four_words ++ has_words ∷ defaults_words ∷ first_words ∷ []
+
+-- the first of these lines that has not its words
+abbrev pub head_cause : List (List Wanted) → List (List ℕ) → Option LineCause
 head_cause [] lines = None
-head_cause (form ∷ others) [] = Some causes.NoEnd
-head_cause (form ∷ others) (line ∷ lines) = option_or (form_cause form line) (head_cause others lines)
+head_cause (wanted ∷ others) [] = Some causes.NoEnd
+head_cause (wanted ∷ others) (line ∷ lines) = option_or (words_cause wanted line) (head_cause others lines)
 
 -- ---- a line after the first seven
 
@@ -141,4 +150,4 @@ body_cause (Some head) = rows_then_cause head.0 (rows_from [] head.1)
 
 -- the first cause for which these lines are no sign's
 unfoldable pub first_cause : List (List ℕ) → Option LineCause
-first_cause lines = option_or (head_cause head_forms lines) (body_cause (head_at lines))
+first_cause lines = option_or (head_cause head_words lines) (body_cause (head_at lines))

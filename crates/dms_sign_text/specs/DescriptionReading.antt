@@ -52,12 +52,17 @@ order_named word =
     else if same_octets word (codes "swapped") then Some Swapped
     else None
 
+abbrev pub order_at : List (List ℕ) → Option (Order × List (List ℕ))
+order_at words = do
+  word ← word_at words
+  order ← order_named word.0
+  Some (order, word.1)
+
 unfoldable pub order_of : List (List ℕ) → Option Order
 order_of words = do
   after ← keyword_at (codes "order") words
-  word ← word_at after
-  order ← order_named word.0
-  if_last order word.1
+  order ← order_at after
+  if_last order.0 order.1
 
 unfoldable pub services_of : List (List ℕ) → Option Services
 services_of words = do

@@ -15,7 +15,10 @@ use Rattle.dms_sign.specs.declared.config.ConfigFault.TheVariants as config
 use Rattle.dms_sign.specs.State.{SignState, start}
 use Rattle.dms_sign.specs.Construction.{CanBeMade}
 use Rattle.dms_sign_text.specs.declared.fault.DescriptionFault.{DescriptionFault}
-use Rattle.dms_sign_text.specs.declared.fault.DescriptionFault.TheVariants.{Line, Memory}
+use Rattle.dms_sign_text.specs.declared.fault.DescriptionFault.TheVariants.{Memory}
+use Rattle.dms_sign_text.specs.declared.line_fault.LineFault.{LineFault}
+use Rattle.dms_sign_text.specs.Causes.{head_cause}
+use Rattle.dms_text_forms.specs.declared.wanted.Wanted.{Wanted}
 use Rattle.dms_sign_text.specs.declared.head.Communities.{Communities}
 use Rattle.dms_sign_text.specs.declared.head.Beginning.{Beginning}
 use Rattle.dms_sign_text.specs.declared.head.Head.{Head}
@@ -74,28 +77,32 @@ after (line ∷ lines) = lines
 abbrev pub past : NumberedLines → NumberedLines
 past lines = record { lines = after lines.lines; after = lines.after }
 
--- the first lines have these forms, and the rest is left after them
-pub record HaveForms (forms : List (List ℕ → Bool)) (left rest : TextLeft) : Type 0 where
+-- the first lines have these forms and words, and the rest is left after them
+pub record HaveForms (forms : List (List ℕ → Bool)) (wanted : List (List Wanted)) (left rest : TextLeft) : Type 0 where
   pub lines : (more : List (List ℕ → Bool))
       → from_misfit (forms ++ more) (lines_left left) ≡ from_misfit more (lines_left rest)
   pub after : number_after rest ≡ number_after left
+  pub causes : (more : List (List Wanted))
+      → head_cause (wanted ++ more) (octets_left left) ≡ head_cause more (octets_left rest)
 
 -- the fault is that of the first of the lines that has not its form, be there more lines with forms after these or not
-pub record IsMisfit (forms : List (List ℕ → Bool)) (left : TextLeft) (fault : DescriptionFault) : Type 0 where
+pub record IsMisfit (forms : List (List ℕ → Bool)) (wanted : List (List Wanted)) (left : TextLeft)
+    (fault : LineFault) : Type 0 where
   pub is : (more : List (List ℕ → Bool))
-      → fault ≡ Line (first_number (from_misfit (forms ++ more) (lines_left left)) (number_after left))
+      → fault.line ≡ first_number (from_misfit (forms ++ more) (lines_left left)) (number_after left)
+  pub cause : (more : List (List Wanted)) → head_cause (wanted ++ more) (octets_left left) ≡ Some fault.cause
 
 -- the first line says this, and the rest is left after it
-pub record FindsLine {A : Type 0} (read : List (List ℕ) → Option A) (left : TextLeft) (value : A)
-    (rest : TextLeft) : Type 0 where
+pub record FindsLine {A : Type 0} (read : List (List ℕ) → Option A) (wanted : List Wanted) (left : TextLeft)
+    (value : A) (rest : TextLeft) : Type 0 where
   pub said : line_at read (octets_left left) ≡ Some (value, octets_left rest)
-  pub forms : HaveForms (has_form read ∷ []) left rest
+  pub forms : HaveForms (has_form read ∷ []) (wanted ∷ []) left rest
 
 -- the first line says no such thing, and the fault is its own
-pub record FindsNoLine {A : Type 0} (read : List (List ℕ) → Option A) (left : TextLeft)
-    (fault : DescriptionFault) : Type 0 where
+pub record FindsNoLine {A : Type 0} (read : List (List ℕ) → Option A) (wanted : List Wanted) (left : TextLeft)
+    (fault : LineFault) : Type 0 where
   pub none : line_at read (octets_left left) ≡ None
-  pub misfit : IsMisfit (has_form read ∷ []) left fault
+  pub misfit : IsMisfit (has_form read ∷ []) (wanted ∷ []) left fault
 
 -- the answer is the expected one; without one, there is none or memory ran out
 abbrev pub ReadsOrMemory : {A B : Type 0} → (A → B) → Result A DescriptionFault → Option B → Type 0

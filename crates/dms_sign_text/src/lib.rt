@@ -25,6 +25,7 @@ mod fault;
 mod fonts;
 mod head;
 pub mod laws;
+mod line_fault;
 mod making;
 mod reader;
 mod reading_fault;

@@ -1,13 +1,13 @@
 //! Why a description is refused: the cause that its line is at fault.
 
-ghost use Rattle.std.specs.Prelude.{◌≡◌, IfOk, IfSome, map};
+ghost use Rattle.std.specs.Prelude.{◌≡◌, IfOk, IfSome, IfNone, map};
 ghost use Rattle.std.specs.Str.Lines.{lines};
 ghost use Rattle.dms_text.specs.Lines.{kept_lines};
 ghost use Rattle.dms_sign_text.specs.Description.{Description, SpellsSign};
 ghost use Rattle.dms_sign_text.specs.RefusedLine.{octets_of, all_numbered, IsRefusedLine};
 ghost use Rattle.dms_sign_text.specs.Setups.{octets_left};
 ghost use Rattle.dms_sign_text.specs.Views.{head_seen, row_seen, after};
-ghost use Rattle.dms_sign_text.specs.Causes.{head_cause, form_cause, glyph_cause, last_font, is_no_glyph};
+ghost use Rattle.dms_sign_text.specs.Causes.{form_cause, glyph_cause, last_font, is_no_glyph};
 ghost use Rattle.dms_sign_text.specs.Causes.{line_cause, after_cause, stop_cause, body_cause, first_cause};
 
 use crate::body_word::BodyWord;
@@ -24,52 +24,47 @@ use dms_text::{Lines, are_same};
 use dms_text_forms::word_fault;
 use std::alloc::{AllocError, Global};
 
-/// The lines with which a description begins.
-const HEAD: [DescriptionLine; 7] = [
-    DescriptionLine::Size,
-    DescriptionLine::Communities,
-    DescriptionLine::Rows,
-    DescriptionLine::Order,
-    DescriptionLine::Has,
-    DescriptionLine::Defaults,
-    DescriptionLine::First,
-];
-
-/// Why the line of this number is the one for which the description is refused. None is said of any other line, and
-/// none where the description is a sign's.
+/// Why the line of this number is the one for which the description is refused. There is a cause of each such line;
+/// none is said of any other line, and none where the description is a sign's.
 pub fn why(alloc: Global, octets: &[u8], number: usize) -> Result<Option<LineCause>, AllocError>
     ensures cause { IfOk result (λ found. IfSome found (λ cause. first_cause (kept_lines octets.now) ≡ Some cause)) }
     ensures refused { IfOk result
         (λ found. IfSome found (λ cause. (it : Description) → SpellsSign (kept_lines octets.now) it → ⊥)) }
     ensures number { IfOk result
         (λ found. IfSome found (λ cause. IsRefusedLine (all_numbered (lines octets.now)) number)) }
+    ensures told { IfOk result
+        (λ found. IfNone found (IsRefusedLine (all_numbered (lines octets.now)) number → ⊥)) }
 {
-    match description(alloc, octets) {
-        Err(DescriptionFault::Line(line)) if line == number => first_cause(alloc, octets),
-        Err(DescriptionFault::Memory) => Err(AllocError),
-        _ => Ok(None),
+    let Err(fault) = description(alloc, octets) else {
+        return Ok(None);
+    };
+    match fault {
+        DescriptionFault::Line(line) if line == number => first_cause(alloc, octets),
+        DescriptionFault::Line(_) => Ok(None),
+        DescriptionFault::Memory => Err(AllocError),
     }
 }
 
-/// The first cause for which these octets are no sign's description.
+/// The first cause for which these octets are no sign's description: none only where they are one.
 pub fn first_cause(alloc: Global, octets: &[u8]) -> Result<Option<LineCause>, AllocError>
-    ensures { IfOk result (λ found. found ≡ first_cause (kept_lines octets.now)) }
+    ensures cause { IfOk result (λ found. found ≡ first_cause (kept_lines octets.now)) }
+    ensures told { IfOk result
+        (λ found. IfNone found ((it : Description) × SpellsSign (kept_lines octets.now) it)) }
 {
     cause_of(alloc, octets)
 }
 
 /// What is wrong with the lines that are left of a text.
-#[tactic(auto, unfolding(crate::specs::Causes::first_cause))]
 fn cause_of(alloc: Global, octets: &[u8]) -> Result<Option<LineCause>, AllocError>
-    ensures { IfOk result (λ found. found ≡ first_cause (octets_left (record { number = 1; text = octets.now }))) }
+    ensures cause { IfOk result
+        (λ found. found ≡ first_cause (octets_left (record { number = 1; text = octets.now }))) }
+    ensures told { IfOk result (λ found. IfNone found
+        ((it : Description) × SpellsSign (octets_left (record { number = 1; text = octets.now })) it)) }
 {
-    if let Some(cause) = head_cause(&HEAD, Lines::of(octets)) {
-        return Ok(Some(cause));
+    match Head::read(Lines::of(octets)) {
+        Ok((head, lines)) => body_cause(alloc, &head, lines),
+        Err(fault) => Ok(Some(fault.cause)),
     }
-    let Ok((head, lines)) = Head::read(Lines::of(octets)) else {
-        return Ok(None);
-    };
-    body_cause(alloc, &head, lines)
 }
 
 /// Why the lines after the first seven end no sign.
@@ -83,25 +78,6 @@ fn body_cause(
     let (rows, upcoming) = rows(alloc, Upcoming::of(lines))?;
     let (fonts, upcoming) = fonts(alloc, upcoming)?;
     stop_cause(alloc, head, rows.as_slice(), fonts, upcoming)
-}
-
-/// The first of these lines that has not its form.
-fn head_cause(forms: &[DescriptionLine], lines: Lines<'_>) -> Option<LineCause>
-    ensures { result ≡ head_cause forms.now (octets_left lines.entry) }
-{
-    match forms {
-        [] => None,
-        [form, others @ ..] => {
-            let mut lines = lines;
-            let Some(line) = lines.next_line() else {
-                return Some(LineCause::NoEnd);
-            };
-            match form_cause(*form, line.octets) {
-                Some(cause) => Some(cause),
-                None => head_cause(others, lines),
-            }
-        }
-    }
 }
 
 /// The first word of a line that is not of its form.

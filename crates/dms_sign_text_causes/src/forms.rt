@@ -1,24 +1,10 @@
-//! What each word of a description's lines is to be.
+//! What each word of a description's lines after the first seven is to be.
 
 use dms_text_forms::{Keyword, Wanted, WordName};
 
-/// A line of a description.
+/// A line of a description after the first seven.
 #[derive(Clone, Copy)]
 pub enum DescriptionLine {
-    /// The columns and rows of the matrix.
-    Size,
-    /// The two communities.
-    Communities,
-    /// The numbers of changeable and volatile rows.
-    Rows,
-    /// The order of a checksum's octets.
-    Order,
-    /// What the sign has.
-    Has,
-    /// The nine defaults.
-    Defaults,
-    /// The number of the first request.
-    First,
     /// A permanent row.
     Permanent,
     /// The first line of a font.
@@ -38,43 +24,6 @@ impl DescriptionLine {
         ensures { result.now ≡ form_words self }
     {
         match self {
-            DescriptionLine::Size => &[
-                Wanted::Keyword(Keyword::Size),
-                Wanted::Number(0, 65535),
-                Wanted::Number(0, 65535),
-            ],
-            DescriptionLine::Communities => &[
-                Wanted::Keyword(Keyword::Communities),
-                Wanted::Name(WordName::Reader),
-                Wanted::Name(WordName::Writer),
-            ],
-            DescriptionLine::Rows => &[
-                Wanted::Keyword(Keyword::Rows),
-                Wanted::Number(0, 255),
-                Wanted::Number(0, 255),
-            ],
-            DescriptionLine::Order => &[
-                Wanted::Keyword(Keyword::Order),
-                Wanted::Either(Keyword::High, Keyword::Swapped),
-            ],
-            DescriptionLine::Has => &[
-                Wanted::Keyword(Keyword::Has),
-                Wanted::Number(0, 1),
-                Wanted::Number(0, 1),
-            ],
-            DescriptionLine::Defaults => &[
-                Wanted::Keyword(Keyword::Defaults),
-                Wanted::Number(0, 255),
-                Wanted::Number(0, 255),
-                Wanted::Number(0, 255),
-                Wanted::Number(0, 255),
-                Wanted::Number(0, 255),
-                Wanted::Number(0, 255),
-                Wanted::Number(0, 255),
-                Wanted::Number(0, 255),
-                Wanted::Number(0, 255),
-            ],
-            DescriptionLine::First => &[Wanted::Keyword(Keyword::First), Wanted::FourOctets],
             DescriptionLine::Permanent => &[
                 Wanted::Keyword(Keyword::Permanent),
                 Wanted::Octets(WordName::Text),
