@@ -1,0 +1,7 @@
+pub mod Named
+pub mod Alone
+pub mod Objects
+pub mod Sizes
+pub mod Unions
+pub mod SignWalk
+pub mod DeviceWalk

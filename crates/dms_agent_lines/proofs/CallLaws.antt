@@ -1,0 +1,232 @@
+-- The call of a line is the one that the line spells, and the answer is the one of the call.
+use Rattle.std.proofs.Common.{◌≡◌, ℕ, ◌<◌, List, [], ◌∷◌, ◌++◌, length, Some, None, option_map, refl, sym, ap, subst, ◌∙◌, arith}
+use Rattle.std.specs.Prelude.{codes}
+use Rattle.std.proofs.lemmas.Option.{same_Some, none-some}
+use Rattle.dms_text.specs.Words.{words_of}
+use Rattle.dms_text.specs.Reading.{word_at}
+use Rattle.dms_text.proofs.WordLaws.{begun, goes_on, word_found, word_only, decimal_found, decimal_only}
+use Rattle.dms_codes.proofs.Options.{mapped_some}
+use Rattle.dms_text_forms.specs.Fields.{SpellsOne}
+use Rattle.dms_text_forms.proofs.WordReading.{last_found, by_keyword, by_text}
+use Rattle.dms_text_forms.proofs.FieldLaws.{last_octets_found, last_octets_only}
+use Rattle.dms_text_streams.proofs.CallReading.{bare_found, nothing_found}
+use Rattle.dms_device.specs.declared.access.Access.{Access}
+use Rattle.dms_device.specs.declared.access.Access.TheVariants.{ReadOnly, Number, Octets}
+use Rattle.dms_agent.specs.declared.agent.Agent.{Agent}
+use Rattle.dms_sign_lines.specs.Answer as sign
+use Rattle.dms_agent_lines.specs.AgentCall.{AgentCall, NewObject, receive, publish, withdraw, tell}
+use Rattle.dms_agent_lines.specs.AgentLine.{SpellsAccess, SpellsObject, SpellsCallWords, SpellsAgentCall, SpellsNoAgentCall}
+use Rattle.dms_agent_lines.specs.AgentReading.{number_access_at, octets_access_at, access_after, written_access_at, access_at, object_at, withdraw_at, keyword_of, call_after, call_of}
+use Rattle.dms_agent_lines.specs.AgentAnswer.{answer_text, after_line, call_text, after_call, text_if, after_if}
+use Rattle.dms_agent_lines.specs.ObjectFields.{SpellsName}
+use Rattle.dms_agent_lines.specs.declared.keywords.AgentKeyword.{AgentKeyword}
+use Rattle.dms_agent_lines.specs.declared.keywords.AgentKeyword.TheVariants as key
+use Rattle.dms_agent_lines.proofs.ObjectWordLaws.{name_found, name_only, name_some, integer_found, integer_only}
+use Rattle.dms_agent_lines.proofs.ValueLaws.{value_found, value_only}
+
+-- ---- keywords
+
+abbrev keyword_text : AgentKeyword → List ℕ
+keyword_text key.Datagram = codes "datagram"
+keyword_text key.Object = codes "object"
+keyword_text key.NoObject = codes "no-object"
+keyword_text key.Objects = codes "objects"
+
+keyword_some : (keyword : AgentKeyword) → 0 < length (keyword_text keyword)
+keyword_some keyword = grind arith
+
+keyword_only : (keyword : AgentKeyword) → keyword_of (keyword_text keyword) ≡ Some keyword
+unfolding keyword_of
+keyword_only keyword = grind arith
+
+keyword_found : (word : List ℕ) (keyword : AgentKeyword) → keyword_of word ≡ Some keyword → word ≡ keyword_text keyword
+unfolding keyword_of
+keyword_found word keyword e =
+    by_text keyword_text word key.Datagram keyword _ e λ e.
+    by_text keyword_text word key.Object keyword _ e λ e.
+    by_text keyword_text word key.NoObject keyword _ e λ e.
+    by_text keyword_text word key.Objects keyword _ e λ e.
+    absurd (none-some keyword e)
+
+-- ---- what a manager may write
+
+number_access_found : (words : List (List ℕ)) (access : Access) → number_access_at words ≡ Some access → SpellsAccess access (codes "number" ∷ words)
+unfolding number_access_at
+number_access_found words access e =
+    let least = begun _ _ _ e in
+    let most = begun _ _ _ least.2 in
+    let first = integer_found words least.0 least.1 in
+    let second = integer_found least.0.1 most.0 most.1 in
+    let end = last_found (Number least.0.0 most.0.0) most.0.1 access most.2 in
+    subst (λ access. SpellsAccess access (codes "number" ∷ words)) end.1 (record {
+      least_word = first.word;
+      most_word = second.word;
+      words_are = ap (λ rest. codes "number" ∷ rest) (first.words_are
+          ∙ ap (λ rest. first.word ∷ rest) (second.words_are ∙ ap (λ rest. second.word ∷ rest) end.0));
+      has_least = first.spelled;
+      has_most = second.spelled;
+    })
+
+octets_access_found : (words : List (List ℕ)) (access : Access) → octets_access_at words ≡ Some access → SpellsAccess access (codes "octets" ∷ words)
+unfolding octets_access_at
+octets_access_found words access e =
+    let least = begun _ _ _ e in
+    let most = begun _ _ _ least.2 in
+    let first = decimal_found 0 65535 words least.0 least.1 in
+    let second = decimal_found 0 65535 least.0.1 most.0 most.1 in
+    let end = last_found (Octets least.0.0 most.0.0) most.0.1 access most.2 in
+    subst (λ access. SpellsAccess access (codes "octets" ∷ words)) end.1 (record {
+      least_word = first.word;
+      most_word = second.word;
+      words_are = ap (λ rest. codes "octets" ∷ rest) (first.words_are
+          ∙ ap (λ rest. first.word ∷ rest) (second.words_are ∙ ap (λ rest. second.word ∷ rest) end.0));
+      has_least = first.spelled;
+      has_most = second.spelled;
+    })
+
+access_after_found : (word : List ℕ) (words : List (List ℕ)) (access : Access) → access_after word words ≡ Some access → SpellsAccess access (word ∷ words)
+access_after_found word words access e =
+    let at = λ (keyword : List ℕ) (is : word ≡ keyword) (read : SpellsAccess access (keyword ∷ words)).
+    subst (λ word. SpellsAccess access (word ∷ words)) (sym is) read
+    in
+    by_keyword word (codes "number") _ _ access e (λ is e. at _ is (number_access_found words access e)) λ e.
+    by_keyword word (codes "octets") _ _ access e (λ is e. at _ is (octets_access_found words access e)) λ e.
+    absurd (none-some access e)
+
+written_access_found : (words : List (List ℕ)) (access : Access) → written_access_at words ≡ Some access → SpellsAccess access words
+unfolding written_access_at
+written_access_found words access e =
+    let read = begun _ _ _ e in
+    subst (SpellsAccess access) (sym (word_found words read.0 read.1).0) (access_after_found read.0.0 read.0.1 access read.2)
+
+access_found : (words : List (List ℕ)) (access : Access) → access_at words ≡ Some access → SpellsAccess access words
+access_found [] access e = subst (λ access. SpellsAccess access []) (same_Some _ _ e) refl
+access_found (word ∷ words) access e = written_access_found (word ∷ words) access e
+
+number_read : (words : List (List ℕ)) → access_at (codes "number" ∷ words) ≡ number_access_at words
+unfolding written_access_at word_at
+number_read words = refl
+
+octets_read : (words : List (List ℕ)) → access_at (codes "octets" ∷ words) ≡ octets_access_at words
+unfolding written_access_at word_at
+octets_read words = refl
+
+access_only : (access : Access) (words : List (List ℕ)) → SpellsAccess access words → access_at words ≡ Some access
+unfolding number_access_at octets_access_at
+access_only ReadOnly words spelled = ap access_at spelled
+access_only (Number least most) words spelled =
+    ap access_at spelled.words_are
+    ∙ number_read (spelled.least_word ∷ spelled.most_word ∷ [])
+    ∙ goes_on _ _ _ (integer_only spelled.least_word (spelled.most_word ∷ []) least spelled.has_least)
+    ∙ goes_on _ _ _ (integer_only spelled.most_word [] most spelled.has_most)
+access_only (Octets least most) words spelled =
+    ap access_at spelled.words_are
+    ∙ octets_read (spelled.least_word ∷ spelled.most_word ∷ [])
+    ∙ goes_on _ _ _ (decimal_only 0 65535 least spelled.least_word (spelled.most_word ∷ []) spelled.has_least)
+    ∙ goes_on _ _ _ (decimal_only 0 65535 most spelled.most_word [] spelled.has_most)
+
+-- ---- objects and names
+
+object_found : (words : List (List ℕ)) (object : NewObject) → object_at words ≡ Some object → SpellsObject object (codes "object" ∷ words)
+unfolding object_at
+object_found words object e =
+    let read = begun _ _ _ e in
+    let name = begun _ _ _ read.2 in
+    let value = begun _ _ _ name.2 in
+    let access = begun _ _ _ value.2 in
+    let front = value_found read.0.1 value.0 value.1 in
+    let made : NewObject = record { name = name.0; value = value.0.0; access = access.0 } in
+    let same : made ≡ object = same_Some _ _ access.2 in
+    subst (λ object. SpellsObject object (codes "object" ∷ words)) same (record {
+      name_word = read.0.0;
+      value_words = front.front;
+      access_words = value.0.1;
+      words_are = ap (λ rest. codes "object" ∷ rest) ((word_found words read.0 read.1).0 ∙ ap (λ rest. read.0.0 ∷ rest) front.words_are);
+      name = name_found read.0.0 name.0 name.1;
+      value = front.spelled;
+      access = access_found value.0.1 access.0 access.1;
+    })
+
+object_only : (object : NewObject) (words : List (List ℕ)) (spelled : SpellsObject object words)
+    → object_at (spelled.name_word ∷ (spelled.value_words ++ spelled.access_words)) ≡ Some object
+unfolding object_at
+object_only object words spelled =
+    goes_on _ _ _ (word_only spelled.name_word _ (name_some spelled.name_word object.name spelled.name))
+    ∙ goes_on _ _ _ (name_only spelled.name_word object.name spelled.name)
+    ∙ goes_on _ _ _ (value_only object.value spelled.value_words spelled.access_words spelled.value)
+    ∙ goes_on _ _ _ (access_only object.access spelled.access_words spelled.access)
+
+withdraw_found : (words : List (List ℕ)) (name : List ℕ) → withdraw_at words ≡ Some name → SpellsOne (codes "no-object") (SpellsName name) (codes "no-object" ∷ words)
+unfolding withdraw_at
+withdraw_found words name e =
+    let read = begun _ _ _ e in
+    let found = begun _ _ _ read.2 in
+    let end = last_found found.0 read.0.1 name found.2 in
+    record {
+      word = read.0.0;
+      words_are = ap (λ rest. codes "no-object" ∷ rest) ((word_found words read.0 read.1).0 ∙ ap (λ rest. read.0.0 ∷ rest) end.0);
+      spelled = subst (λ name. SpellsName name read.0.0) end.1 (name_found read.0.0 found.0 found.1);
+    }
+
+withdraw_only : (name word : List ℕ) → SpellsName name word → withdraw_at (word ∷ []) ≡ Some name
+unfolding withdraw_at
+withdraw_only name word spelled = goes_on _ _ _ (word_only word [] (name_some word name spelled)) ∙ goes_on _ _ _ (name_only word name spelled)
+
+-- ---- calls
+
+after_found : (keyword : AgentKeyword) (words : List (List ℕ)) (call : AgentCall) → call_after keyword words ≡ Some call
+    → SpellsCallWords call (keyword_text keyword ∷ words)
+after_found key.Datagram words call e =
+    let made = mapped_some _ _ _ e in subst (λ call. SpellsCallWords call (codes "datagram" ∷ words)) made.2 (last_octets_found (codes "datagram") words made.0 made.1)
+after_found key.Object words call e =
+    let made = mapped_some _ _ _ e in subst (λ call. SpellsCallWords call (codes "object" ∷ words)) made.2 (object_found words made.0 made.1)
+after_found key.NoObject words call e =
+    let made = mapped_some _ _ _ e in subst (λ call. SpellsCallWords call (codes "no-object" ∷ words)) made.2 (withdraw_found words made.0 made.1)
+after_found key.Objects words call e = bare_found SpellsCallWords (codes "objects") (codes "objects") tell call words refl e refl
+
+-- what is read of a line is what it spells
+pub call_found : (line : List ℕ) (call : AgentCall) → call_of line ≡ Some call → SpellsAgentCall call line
+unfolding call_of
+call_found line call e =
+    let read = begun _ _ _ e in
+    let keyword = begun _ _ _ read.2 in
+    let words : words_of line ≡ keyword_text keyword.0 ∷ read.0.1 =
+    (word_found (words_of line) read.0 read.1).0 ∙ ap (λ word. word ∷ read.0.1) (keyword_found read.0.0 keyword.0 keyword.1) in
+    subst (SpellsCallWords call) (sym words) (after_found keyword.0 read.0.1 call keyword.2)
+
+line_read : (keyword : AgentKeyword) (line : List ℕ) (words : List (List ℕ)) → words_of line ≡ keyword_text keyword ∷ words
+    → call_of line ≡ call_after keyword words
+unfolding call_of
+line_read keyword line words e =
+    goes_on _ _ _ (ap word_at e ∙ word_only (keyword_text keyword) words (keyword_some keyword)) ∙ goes_on _ _ _ (keyword_only keyword)
+
+-- what a line spells is read of it
+pub call_only : (line : List ℕ) (call : AgentCall) → SpellsAgentCall call line → call_of line ≡ Some call
+call_only line (receive octets) spelled =
+    line_read key.Datagram line _ spelled.words_are ∙ ap (option_map receive) (last_octets_only octets spelled.word spelled.spelled)
+call_only line (publish object) spelled =
+    line_read key.Object line _ spelled.words_are ∙ ap (option_map publish) (object_only object (words_of line) spelled)
+call_only line (withdraw name) spelled =
+    line_read key.NoObject line _ spelled.words_are ∙ ap (option_map withdraw) (withdraw_only name spelled.word spelled.spelled)
+call_only line tell spelled = line_read key.Objects line [] spelled
+
+-- a line spells at most one call
+pub one_call : (line : List ℕ) (one other : AgentCall) → SpellsAgentCall one line → SpellsAgentCall other line → one ≡ other
+one_call line one other this that = same_Some _ _ (sym (call_only line one this) ∙ call_only line other that)
+
+none_read : (line : List ℕ) → SpellsNoAgentCall line → call_of line ≡ None
+none_read line none = nothing_found (call_of line) (λ call e. none call (call_found line call e))
+
+-- ---- answers
+
+pub text_of_call : (a : Agent) (line : List ℕ) (call : AgentCall) → SpellsAgentCall call line → answer_text a line ≡ call_text a call
+text_of_call a line call spelled = ap (text_if a line) (call_only line call spelled)
+
+pub after_the_call : (a : Agent) (line : List ℕ) (call : AgentCall) → SpellsAgentCall call line → after_line a line ≡ after_call a call
+after_the_call a line call spelled = ap (after_if a line) (call_only line call spelled)
+
+pub text_of_the_sign : (a : Agent) (line : List ℕ) → SpellsNoAgentCall line → answer_text a line ≡ sign.answer_text a.sign line
+text_of_the_sign a line none = ap (text_if a line) (none_read line none)
+
+pub after_the_sign : (a : Agent) (line : List ℕ) → SpellsNoAgentCall line → after_line a line ≡ record a { sign = sign.after_line a.sign line }
+after_the_sign a line none = ap (after_if a line) (none_read line none)

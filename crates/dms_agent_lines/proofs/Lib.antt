@@ -1,0 +1,6 @@
+pub mod ObjectWordLaws
+pub mod ValueLaws
+pub mod CallLaws
+pub mod Faultless
+pub mod SetLines
+pub mod Signs

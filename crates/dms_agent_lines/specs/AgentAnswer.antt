@@ -1,0 +1,106 @@
+-- What a live sign answers to a line, with the objects beside it, and what both are afterwards (this profile). Each
+-- line of an answer ends in a newline.
+use Rattle.std.specs.Prelude.{ℕ, if◌then◌else◌, false, not, List, [], ◌++◌, map, codes, Option, Some, None}
+use Rattle.std.specs.Prelude.{is_some}
+use Rattle.std.specs.List.{flat_map}
+use Rattle.dms_wire_ber.specs.NameText.{dotted}
+use Rattle.dms_codes.specs.declared.codes.Order.{Order}
+use Rattle.dms_sign.specs.Values.{value_of}
+use Rattle.dms_device.specs.Object.{DeviceObject, fits}
+use Rattle.dms_device.specs.Objects.{device_value}
+use Rattle.dms_device.specs.Publishing.{published, withdrawn}
+use Rattle.dms_device.specs.Taken.{told}
+use Rattle.dms_agent.specs.declared.agent.Agent.{Agent}
+use Rattle.dms_agent.specs.Received.{AgentReceived, agent_received}
+use Rattle.dms_text_forms.specs.LineText.{ended}
+use Rattle.dms_text_streams.specs.Conversation.{ok_line}
+use Rattle.dms_text_values.specs.ValueText.{value_text}
+use Rattle.dms_sign_lines.specs.Answer as sign
+use Rattle.dms_agent_lines.specs.AgentCall.{AgentCall, NewObject, receive, publish, withdraw, tell}
+use Rattle.dms_agent_lines.specs.AgentReading.{call_of}
+
+-- ---- parts of answers
+
+abbrev pub refused : List ℕ → List ℕ
+refused why = ended (codes "refused " ++ why)
+
+abbrev pub received_text : Order → AgentReceived → List ℕ
+received_text order received = sign.receipt_line order received.reply received.accepted
+
+-- the line of an object that a manager set, and nothing of another
+abbrev pub set_line : DeviceObject → List ℕ
+set_line object =
+    if object.is_set
+    then (codes "set " ++ dotted object.name ++ codes " ") ++ value_text object.value ++ codes "\n" else []
+
+abbrev pub set_lines : List DeviceObject → List ℕ
+set_lines objects = flat_map set_line objects
+
+-- ---- publishing
+
+-- why an object is not published: the first of these
+abbrev pub publish_refusal : Agent → NewObject → Option (List ℕ)
+publish_refusal a object =
+    if not (fits object.access object.value) then Some (codes "the value is not one that its access takes")
+    else if is_some (value_of a.sign object.name) then Some (codes "the sign has an object of this name")
+    else None
+
+abbrev pub refused_or_ok : Option (List ℕ) → List ℕ
+refused_or_ok None = ok_line
+refused_or_ok (Some why) = refused why
+
+abbrev pub publish_text : Agent → NewObject → List ℕ
+publish_text a object = refused_or_ok (publish_refusal a object)
+
+-- the object as it is published: no manager set it yet
+abbrev pub made : NewObject → DeviceObject
+made object = record { name = object.name; value = object.value; access = object.access; is_set = false }
+
+abbrev pub published_unless : Agent → NewObject → Option (List ℕ) → Agent
+published_unless a object None = record a { device = published a.device (made object) }
+published_unless a object (Some why) = a
+
+abbrev pub after_publish : Agent → NewObject → Agent
+after_publish a object = published_unless a object (publish_refusal a object)
+
+-- ---- withdrawing
+
+abbrev pub withdraw_text : Agent → List ℕ → List ℕ
+withdraw_text a name =
+    if is_some (device_value a.device name) then ok_line else refused (codes "there is no object of this name")
+
+abbrev pub after_withdraw : Agent → List ℕ → Agent
+after_withdraw a name =
+    if is_some (device_value a.device name) then record a { device = withdrawn a.device name } else a
+
+-- ---- calls
+
+abbrev pub call_text : Agent → AgentCall → List ℕ
+call_text a (receive octets) = received_text a.sign.table.order (agent_received a octets)
+call_text a (publish object) = publish_text a object
+call_text a (withdraw name) = withdraw_text a name
+call_text a tell = set_lines a.device ++ ok_line
+
+abbrev pub after_call : Agent → AgentCall → Agent
+after_call a (receive octets) = (agent_received a octets).after
+after_call a (publish object) = after_publish a object
+after_call a (withdraw name) = after_withdraw a name
+after_call a tell = record a { device = map told a.device }
+
+-- ---- lines
+
+abbrev pub text_if : Agent → List ℕ → Option AgentCall → List ℕ
+text_if a line None = sign.answer_text a.sign line
+text_if a line (Some call) = call_text a call
+
+abbrev pub after_if : Agent → List ℕ → Option AgentCall → Agent
+after_if a line None = record a { sign = sign.after_line a.sign line }
+after_if a line (Some call) = after_call a call
+
+-- the answer to a line; one that is none of these is the sign's
+abbrev pub answer_text : Agent → List ℕ → List ℕ
+answer_text a line = text_if a line (call_of line)
+
+-- the sign and the objects after a line
+abbrev pub after_line : Agent → List ℕ → Agent
+after_line a line = after_if a line (call_of line)

@@ -1,0 +1,19 @@
+-- What a line asks of a sign and the objects beside it (this profile).
+use Rattle.std.specs.Prelude.{ℕ, List}
+use Rattle.dms_wire.specs.Message.{ObjectValue}
+use Rattle.dms_device.specs.declared.access.Access.{Access}
+
+-- an object to be published
+pub record NewObject : Type 0 where
+  pub name : List ℕ
+  pub value : ObjectValue
+  pub access : Access
+
+pub data AgentCall : Type 0 where
+  -- the sign and the objects receive these octets
+  receive : (octets : List ℕ) → AgentCall
+  publish : (object : NewObject) → AgentCall
+  -- the object of this name is withdrawn
+  withdraw : (name : List ℕ) → AgentCall
+  -- firmware is told which objects a manager set
+  tell : AgentCall

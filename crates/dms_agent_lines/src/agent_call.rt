@@ -1,0 +1,39 @@
+//! What a line asks of an agent.
+
+use dms_device::Access;
+use dms_text_values::{NameRead, ValueWords};
+use std::marker::Model;
+
+/// What a line asks of an agent.
+#[derive(Drop)]
+pub(crate) enum AgentCall<'a> {
+    /// `datagram OCTETS`: the agent receives these octets.
+    Receive(Vec<u8>),
+    /// `object NAME VALUE ACCESS`: an object is published.
+    Publish(ObjectWords<'a>),
+    /// `no-object NAME`: the object of a name is withdrawn.
+    Withdraw(NameRead),
+    /// `objects`: firmware is told which objects a manager set.
+    Tell,
+}
+
+/// The words of an object, read. A contract sees the object that they spell; a message can have its value.
+#[derive(Drop)]
+pub(crate) struct ObjectWords<'a> {
+    pub(crate) name: NameRead,
+    pub(crate) value: ValueWords<'a>,
+    pub(crate) access: Access,
+}
+
+impl<'a> Model for ObjectWords<'a> {
+    ghost use Rattle.std.specs.Prelude.{◌≡◌, true};
+    ghost use Rattle.dms_device.specs.Object.{can_be_sent};
+    ghost use Rattle.dms_text_values.specs.View.{worded_value};
+    ghost use Rattle.dms_agent_lines.specs.AgentCall.{NewObject};
+
+    ghost Value = { NewObject };
+
+    ghost view = { λ a. record { name = a.name; value = worded_value a.value; access = a.access } };
+
+    ghost invariant = { λ a. can_be_sent (worded_value a.value) ≡ true };
+}

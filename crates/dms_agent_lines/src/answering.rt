@@ -1,0 +1,224 @@
+//! The answer of a live sign, and of the objects beside it, to a line.
+
+ghost use Rattle.std.specs.Prelude.{◌≡◌, ◌++◌, true, false, None, map, codes, IfOk, IfErr, OnOk, OnErr};
+ghost use Rattle.dms_wire_ber.specs.NameText.{dotted};
+ghost use Rattle.dms_wire.specs.View.{object_value};
+ghost use Rattle.dms_sign.specs.Values.{value_of};
+ghost use Rattle.dms_device.specs.Object.{can_be_sent, fits};
+ghost use Rattle.dms_device.specs.declared.fault.ObjectFault.TheVariants.{OutOfMemory};
+ghost use Rattle.dms_device.specs.Publishing.{published};
+ghost use Rattle.dms_device.specs.Taken.{told};
+ghost use Rattle.dms_agent.specs.Received.{agent_received};
+ghost use Rattle.dms_text_streams.specs.Conversation.{ok_line};
+ghost use Rattle.dms_text_values.specs.ValueText.{value_text};
+ghost use Rattle.dms_agent_lines.specs.CallView.{call_model};
+ghost use Rattle.dms_agent_lines.specs.AgentAnswer.{answer_text, after_line, call_text, after_call, received_text};
+ghost use Rattle.dms_agent_lines.specs.AgentAnswer.{publish_text, after_publish, withdraw_text, after_withdraw};
+ghost use Rattle.dms_agent_lines.specs.AgentAnswer.{refused, set_line, set_lines};
+
+use crate::agent_call::{AgentCall, ObjectWords};
+use crate::reading::call;
+use dms_agent::{Agent, PublishFault};
+use dms_device::{Access, Device, Object, ObjectFault};
+use dms_mib_replies::Objects;
+use dms_sign_lines::{LONGEST_RECEIPT, put_receipt};
+use dms_text_streams::ok_line;
+use dms_text_values::{NameRead, put_value};
+use dms_wire::{Oid, Out, Value};
+use std::alloc::{AllocError, Global};
+use std::io;
+use std::io::Write;
+
+/// The answer to a line, which is given without its newline; each line of the answer ends in one.
+///
+/// ```text
+/// datagram OCTETS            the sign and the objects receive it: `reply OCTETS`, `accepted CODE OCTETS` or `dropped`
+/// object NAME VALUE ACCESS   an object is published: `ok`, or `refused` and why
+/// no-object NAME             the object of a name is withdrawn: `ok`, or `refused there is no object of this name`
+/// objects                    firmware is told which objects a manager set: a line `set NAME VALUE` for each, and `ok`
+/// ```
+///
+/// Any other line is the sign's (`dms_sign_lines::answer`), and so is one of these words in no such form. Out of memory
+/// nothing changes.
+pub fn answer(alloc: Global, agent: &mut Agent, line: &[u8]) -> Result<Vec<u8>, AllocError>
+    ensures text { IfOk result (λ text. text.items ≡ answer_text agent.old line.now) }
+    ensures after { OnOk result (agent.new ≡ after_line agent.old line.now) }
+    ensures memory { OnErr result (agent.new ≡ agent.old) }
+{
+    match call(alloc, line)? {
+        Some(call) => carry_out(alloc, agent, &call),
+        None => dms_sign_lines::answer(alloc, agent.sign_mut(), line),
+    }
+}
+
+/// Carries out a call, and gives its answer.
+fn carry_out(alloc: Global, agent: &mut Agent, call: &AgentCall<'_>) -> Result<Vec<u8>, AllocError>
+    ensures text { IfOk result (λ text. text.items ≡ call_text agent.old (call_model call.now)) }
+    ensures after { OnOk result (agent.new ≡ after_call agent.old (call_model call.now)) }
+    ensures memory { OnErr result (agent.new ≡ agent.old) }
+{
+    match call {
+        AgentCall::Receive(octets) => receive(alloc, agent, octets.as_slice()),
+        AgentCall::Publish(object) => publish(alloc, agent, object),
+        AgentCall::Withdraw(name) => withdraw(alloc, agent, name),
+        AgentCall::Tell => tell(alloc, agent),
+    }
+}
+
+/// The agent receives a datagram. The memory of the longest answer is reserved before that.
+fn receive(alloc: Global, agent: &mut Agent, datagram: &[u8]) -> Result<Vec<u8>, AllocError>
+    ensures text { IfOk result (λ text. text.items
+        ≡ received_text agent.old.sign.table.order (agent_received agent.old datagram.now)) }
+    ensures after { OnOk result (agent.new ≡ (agent_received agent.old datagram.now).after) }
+    ensures memory { OnErr result (agent.new ≡ agent.old) }
+{
+    let order = agent.sign().order();
+    let mut text = Vec::with_capacity(alloc, LONGEST_RECEIPT)?;
+    let mut reply = Out::new();
+    let receipt = agent.receive(datagram, &mut reply);
+    put_receipt(&mut text, order, receipt, reply.as_slice());
+    Ok(text)
+}
+
+/// Publishes an object, or says why not. Nothing is refused then but memory.
+fn publish(
+    alloc: Global,
+    agent: &mut Agent,
+    object: &ObjectWords<'_>,
+) -> Result<Vec<u8>, AllocError>
+    ensures text { IfOk result (λ text. text.items ≡ publish_text agent.old object.now) }
+    ensures after { OnOk result (agent.new ≡ after_publish agent.old object.now) }
+    ensures memory { OnErr result (agent.new ≡ agent.old) }
+{
+    let octets = object.value.octets(alloc)?;
+    let value = object.value.over(octets.as_slice());
+    if object.access.is_written() && !object.access.admits(&value) {
+        return refused(alloc, "the value is not one that its access takes");
+    }
+    let name = object.name.oid();
+    if agent.sign().value(&name).is_some() {
+        return refused(alloc, "the sign has an object of this name");
+    }
+    let done = ok_line(alloc)?;
+    match made(alloc, &name, &value, object.access) {
+        Ok(object) => published(agent, object, done),
+        Err(_) => Err(AllocError),
+    }
+}
+
+/// The object with a name and a value that were judged: nothing is wrong with it, so that memory alone can be wanting.
+fn made(
+    alloc: Global,
+    name: &Oid<'_>,
+    value: &Value<'_>,
+    access: Access,
+) -> Result<Object, ObjectFault>
+    requires sent { can_be_sent (object_value value.now) ≡ true }
+    requires fit { fits access (object_value value.now) ≡ true }
+    ensures made { IfOk result (λ object. object
+        ≡ record { name = name.now; value = object_value value.now; access = access; is_set = false }) }
+    ensures memory { IfErr result (λ fault. fault ≡ OutOfMemory) }
+{
+    // the limits of a name are known where its numbers are looked at
+    let _ = name.numbers();
+    Object::new(alloc, name.content(), value, access)
+}
+
+/// Publishes an object whose name the sign has not, and gives the answer.
+fn published(agent: &mut Agent, object: Object, done: Vec<u8>) -> Result<Vec<u8>, AllocError>
+    requires { value_of agent.old.sign object.name ≡ None }
+    ensures text { IfOk result (λ text. text ≡ done) }
+    ensures after { OnOk result
+        (agent.new ≡ record agent.old { device = published agent.old.device object }) }
+    ensures memory { OnErr result (agent.new ≡ agent.old) }
+{
+    match agent.publish(object) {
+        Ok(()) => Ok(done),
+        Err(PublishFault::OutOfMemory) => Err(AllocError),
+        Err(PublishFault::OfTheSign) => unreachable!(),
+    }
+}
+
+/// Withdraws the object of a name, or says that there is none.
+fn withdraw(alloc: Global, agent: &mut Agent, name: &NameRead) -> Result<Vec<u8>, AllocError>
+    ensures text { IfOk result (λ text. text.items ≡ withdraw_text agent.old name.now) }
+    ensures after { OnOk result (agent.new ≡ after_withdraw agent.old name.now) }
+    ensures memory { OnErr result (agent.new ≡ agent.old) }
+{
+    let done = ok_line(alloc)?;
+    let name = name.oid();
+    if agent.device().value(&name).is_none() {
+        return refused(alloc, "there is no object of this name");
+    }
+    agent.withdraw(&name);
+    Ok(done)
+}
+
+/// Tells firmware which objects a manager set.
+fn tell(alloc: Global, agent: &mut Agent) -> Result<Vec<u8>, AllocError>
+    ensures text { IfOk result (λ text. text.items ≡ set_lines agent.old.device ++ ok_line) }
+    ensures after { OnOk result (agent.new ≡ record agent.old { device = map told agent.old.device }) }
+    ensures memory { OnErr result (agent.new ≡ agent.old) }
+{
+    let text = set_text(alloc, agent.device())?;
+    agent.tell_all();
+    Ok(text)
+}
+
+/// A line for each object that a manager set, and `ok`.
+fn set_text(alloc: Global, device: &Device) -> Result<Vec<u8>, AllocError>
+    ensures { IfOk result (λ text. text.items ≡ set_lines device.now ++ ok_line) }
+{
+    let mut text = Vec::new(alloc);
+    match put_set_lines(alloc, device.objects(), &mut text) {
+        Ok(()) => {
+            text.extend_from_slice(b"ok\n")?;
+            Ok(text)
+        }
+        Err(_) => Err(AllocError),
+    }
+}
+
+/// Appends a line for each object that a manager set.
+#[tactic(auto, using(crate::proofs::SetLines::lines))]
+fn put_set_lines(alloc: Global, objects: &[Object], text: &mut Vec<u8>) -> io::Result<()>
+    ensures { OnOk result (text.new.items ≡ text.old.items ++ set_lines objects.now) }
+{
+    let mut rest = objects;
+    while let [object, others @ ..] = rest {
+        put_set_line(alloc, object, text)?;
+        rest = others;
+    }
+    Ok(())
+}
+
+/// Appends a line for an object that a manager set, and nothing for another.
+fn put_set_line(alloc: Global, object: &Object, text: &mut Vec<u8>) -> io::Result<()>
+    ensures { OnOk result (text.new.items ≡ text.old.items ++ set_line object.now) }
+{
+    if !object.is_set() {
+        return Ok(());
+    }
+    put_set(alloc, object, text)
+}
+
+#[tactic(auto, using(crate::proofs::SetLines::parts))]
+fn put_set(alloc: Global, object: &Object, text: &mut Vec<u8>) -> io::Result<()>
+    ensures { OnOk result (text.new.items ≡ text.old.items ++ ((codes "set " ++ dotted object.now.name ++ codes " ")
+        ++ value_text object.now.value ++ codes "\n")) }
+{
+    write!(text, "set {} ", object.name())?;
+    put_value(alloc, &object.value(), text)?;
+    writeln!(text)
+}
+
+/// The line that says why a line is refused.
+fn refused(alloc: Global, why: &str) -> Result<Vec<u8>, AllocError>
+    ensures { IfOk result (λ text. text.items ≡ refused why.now) }
+{
+    let mut text = Vec::new(alloc);
+    match writeln!(text, "refused {why}") {
+        Ok(()) => Ok(text),
+        Err(_) => Err(AllocError),
+    }
+}

@@ -1,0 +1,35 @@
+//! The words with which the lines of an agent begin.
+
+use dms_text::are_same;
+
+/// The word with which a line begins.
+#[derive(Clone, Copy)]
+pub(crate) enum AgentKeyword {
+    Datagram,
+    Object,
+    NoObject,
+    Objects,
+}
+
+impl AgentKeyword {
+    ghost use Rattle.std.specs.Prelude.{◌≡◌};
+    ghost use Rattle.dms_agent_lines.specs.AgentReading.{keyword_of};
+
+    /// The keyword that a word is, if any.
+    #[tactic(auto, unfolding(crate::specs::AgentReading::keyword_of))]
+    pub(crate) fn of(word: &[u8]) -> Option<AgentKeyword>
+        ensures { result ≡ keyword_of word.now }
+    {
+        if are_same(word, b"datagram") {
+            Some(AgentKeyword::Datagram)
+        } else if are_same(word, b"object") {
+            Some(AgentKeyword::Object)
+        } else if are_same(word, b"no-object") {
+            Some(AgentKeyword::NoObject)
+        } else if are_same(word, b"objects") {
+            Some(AgentKeyword::Objects)
+        } else {
+            None
+        }
+    }
+}

@@ -1,0 +1,41 @@
+//! Laws on the lines to a sign and the objects beside it, each the contract of a function that does nothing.
+
+ghost use Rattle.std.specs.Prelude.{◌≡◌, ℕ, List};
+ghost use Rattle.dms_sign.specs.State.{SignState};
+ghost use Rattle.dms_agent.specs.declared.agent.Agent.{Agent};
+ghost use Rattle.dms_agent.specs.Promises.{alone};
+ghost use Rattle.dms_sign_lines.specs.Answer as sign;
+ghost use Rattle.dms_agent_lines.specs.AgentCall.{AgentCall};
+ghost use Rattle.dms_agent_lines.specs.AgentLine.{SpellsAgentCall, SpellsNoAgentCall};
+ghost use Rattle.dms_agent_lines.specs.AgentReading.{call_of};
+ghost use Rattle.dms_agent_lines.specs.AgentAnswer.{answer_text, after_line, call_text, after_call};
+ghost use Rattle.dms_agent_lines.specs.Alone.{IsOfSign};
+
+/// A line spells at most one call.
+#[tactic(auto, using(crate::proofs::CallLaws::one_call))]
+pub fn a_line_spells_at_most_one_call()
+    ensures { (line : List ℕ) (call other : AgentCall) → SpellsAgentCall call line → SpellsAgentCall other line
+        → call ≡ other }
+{}
+
+/// The answer to a line, and what it leaves, are those of the call that the line spells; a line that spells none is the
+/// sign's.
+pub fn answers_are_those_of_calls()
+    ensures text { (a : Agent) (line : List ℕ) (call : AgentCall) → SpellsAgentCall call line
+        → answer_text a line ≡ call_text a call }
+    ensures after { (a : Agent) (line : List ℕ) (call : AgentCall) → SpellsAgentCall call line
+        → after_line a line ≡ after_call a call }
+    ensures of_the_sign { (a : Agent) (line : List ℕ) → SpellsNoAgentCall line
+        → answer_text a line ≡ sign.answer_text a.sign line }
+    ensures beside { (a : Agent) (line : List ℕ) → SpellsNoAgentCall line
+        → after_line a line ≡ record a { sign = sign.after_line a.sign line } }
+{}
+
+/// Where nothing is published, the answer to a line that neither publishes nor withdraws nor asks what was set is the
+/// sign's, octet for octet, and what is left is the sign that its own line leaves.
+pub fn alone_it_is_the_sign()
+    ensures text { (s : SignState) (line : List ℕ) → IsOfSign (call_of line)
+        → answer_text (alone s) line ≡ sign.answer_text s line }
+    ensures after { (s : SignState) (line : List ℕ) → IsOfSign (call_of line)
+        → after_line (alone s) line ≡ alone (sign.after_line s line) }
+{}

@@ -1,0 +1,7 @@
+//! Tests of an agent, octets in and octets out.
+#![tactic(auto)]
+
+#[cfg(test)]
+mod agents;
+#[cfg(test)]
+mod lines;

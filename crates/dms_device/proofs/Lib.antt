@@ -1,0 +1,6 @@
+pub mod Order
+pub mod Found
+pub mod Writes
+pub mod Faultless
+pub mod Judging
+pub mod Telling

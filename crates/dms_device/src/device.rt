@@ -1,0 +1,155 @@
+//! A device: the objects that firmware publishes.
+
+ghost use Rattle.std.specs.Prelude.{◌≡◌, ◌≤◌, true, [], drop, map, length, slice_get, option_map, OnOk, OnErr};
+ghost use Rattle.std.specs.List.{list_any};
+ghost use Rattle.dms_wire.specs.Limits.{most_bindings};
+ghost use Rattle.dms_wire.specs.View.{var_bind};
+ghost use Rattle.dms_device.specs.Objects.{has_name, rises};
+ghost use Rattle.dms_device.specs.Publishing.{published, withdrawn};
+ghost use Rattle.dms_device.specs.Setting.{refusal_of, written_unless};
+ghost use Rattle.dms_device.specs.Taken.{set_bindings, told, told_first};
+ghost use Rattle.dms_device.specs.View.{refusal_in};
+
+use crate::fault::Refusal;
+use crate::object::Object;
+use crate::places::{
+    place_after, place_of, place_set, put_object, take_object, tell_object, tell_objects,
+};
+use crate::setting::{judged, set_objects};
+use dms_mib_replies::{Next, NextName, Objects};
+use dms_wire::{Bind, Binds, Oid, Value};
+use std::alloc::{AllocError, Global};
+use std::marker::Model;
+
+/// The objects that firmware publishes, each with a name of its own. A contract sees them as a list, in the order of
+/// their names.
+#[derive(Drop)]
+pub struct Device {
+    objects: Vec<Object>,
+}
+
+impl Model for Device {
+    ghost use Rattle.std.specs.Prelude.{◌≡◌, List, true};
+    ghost use Rattle.dms_device.specs.Object.{DeviceObject};
+    ghost use Rattle.dms_device.specs.Objects.{rises};
+
+    ghost Value = { List DeviceObject };
+
+    ghost view = { λ a. a.objects.items };
+
+    ghost invariant = { λ a. rises a.objects.items ≡ true };
+}
+
+impl Objects for Device {
+    ghost use Rattle.dms_device.specs.Objects.{device_value, device_after};
+
+    ghost reads = { device_value };
+
+    ghost follows = { device_after };
+
+    fn value(&self, name: &Oid<'_>) -> Option<Value<'_>> {
+        match place_of(self.objects.as_slice(), name) {
+            Ok(place) => {
+                let object = &self.objects[place];
+                Some(object.value())
+            }
+            Err(_) => None,
+        }
+    }
+
+    fn next(&self, name: &Oid<'_>) -> Option<Next<'_>> {
+        let place = place_after(self.objects.as_slice(), name);
+        if place == self.objects.len() {
+            return None;
+        }
+        let object = &self.objects[place];
+        Some(Next {
+            name: NextName::Lent(object.name()),
+            value: object.value(),
+        })
+    }
+}
+
+impl Device {
+    /// No objects: no memory is taken.
+    pub fn new(alloc: Global) -> Device
+        ensures { result ≡ [] }
+    {
+        Device {
+            objects: Vec::new(alloc),
+        }
+    }
+
+    /// Publishes an object, in place of the one that has its name: then also what a manager set is gone. Where there is
+    /// no memory for it, nothing changes.
+    pub fn publish(&mut self, object: Object) -> Result<(), AllocError>
+        ensures done { OnOk result (self.new ≡ published self.old object) }
+        ensures kept { OnErr result (self.new ≡ self.old) }
+    {
+        put_object(&mut self.objects, object)
+    }
+
+    /// Withdraws the object of a name, and answers whether there was one.
+    pub fn withdraw(&mut self, name: &Oid<'_>) -> bool
+        ensures done { self.new ≡ withdrawn self.old name.now }
+        ensures found { result ≡ list_any (has_name name.now) self.old }
+    {
+        take_object(&mut self.objects, name)
+    }
+
+    /// Does a manager's Set, or says why it is refused: then nothing changes. It takes no memory.
+    pub fn set(&mut self, may_write: bool, binds: &Binds<'_>) -> Result<(), Refusal>
+        requires { length binds.now ≤ most_bindings }
+        ensures refusal { refusal_in result ≡ refusal_of self.old may_write binds.now }
+        ensures written { self.new ≡ written_unless self.old binds.now (refusal_of self.old may_write binds.now) }
+    {
+        judged(self.objects.as_slice(), may_write, binds)?;
+        set_objects(&mut self.objects, binds);
+        Ok(())
+    }
+
+    /// The first object, by its name, that a manager set and of which firmware was not told yet, with what was set.
+    pub fn first_set(&self) -> Option<Bind<'_>>
+        ensures { option_map var_bind result ≡ slice_get (set_bindings self.now) 0 }
+    {
+        let place = place_set(self.objects.as_slice());
+        if place == self.objects.len() {
+            return None;
+        }
+        let object = &self.objects[place];
+        Some(Bind {
+            name: object.name(),
+            value: object.value(),
+        })
+    }
+
+    /// Notes that firmware was told of that object: the others that were set are left, in order.
+    pub fn tell_first(&mut self)
+        ensures told { self.new ≡ told_first self.old }
+        ensures left { set_bindings self.new ≡ drop 1 (set_bindings self.old) }
+    {
+        tell_object(&mut self.objects);
+    }
+
+    /// Notes that firmware was told of all objects that a manager set.
+    pub fn tell_all(&mut self)
+        ensures { self.new ≡ map told self.old }
+    {
+        tell_objects(&mut self.objects);
+    }
+
+    /// The objects, in the order of their names.
+    pub fn objects(&self) -> &[Object]
+        ensures { result.now ≡ self.now }
+    {
+        self.objects.as_slice()
+    }
+
+    /// What holds of every device: its objects stand in the order of their names. Nothing runs.
+    pub fn in_order(&self)
+        ensures { rises self.now ≡ true }
+    {
+        // the invariant is known where a field is looked at
+        let _ = &self.objects;
+    }
+}

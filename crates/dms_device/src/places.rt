@@ -1,0 +1,151 @@
+//! The places of objects in the order of their names, found by halving; and what is written at a place.
+
+ghost use Rattle.std.specs.Prelude.{◌≡◌, ◌<◌, ◌≤◌, true, false, length, map, OnOk, OnErr, IfOk, IfErr};
+ghost use Rattle.std.specs.List.{position_or_len, list_any, HoldsAt};
+ghost use Rattle.dms_wire.specs.View.{var_bind};
+ghost use Rattle.dms_device.specs.Objects.{has_name, comes_after, rises};
+ghost use Rattle.dms_device.specs.Publishing.{published, withdrawn};
+ghost use Rattle.dms_device.specs.Setting.{set_by_binding};
+ghost use Rattle.dms_device.specs.Taken.{was_set, told, told_first};
+
+use crate::object::Object;
+use dms_wire::{Bind, Oid};
+use std::alloc::AllocError;
+
+/// The place of the first object that comes after a name, or how many there are.
+pub(crate) fn place_after(objects: &[Object], name: &Oid<'_>) -> usize
+    requires { rises objects.now ≡ true }
+    ensures place { result ≡ position_or_len (comes_after name.now) objects.now }
+    ensures few { result ≤ length objects.now }
+{
+    let mut low = 0;
+    let mut high = objects.len();
+    while low < high {
+        let middle = low + (high - low) / 2;
+        let object = &objects[middle];
+        if object.comes_after(name) {
+            high = middle;
+        } else {
+            low = middle + 1;
+        }
+    }
+    low
+}
+
+/// The place of the object that has a name, or else the place where it would stand.
+pub(crate) fn place_of(objects: &[Object], name: &Oid<'_>) -> Result<usize, usize>
+    requires { rises objects.now ≡ true }
+    ensures within { IfOk result (λ place. place < length objects.now) }
+    ensures found { IfOk result (HoldsAt (λ object. has_name name.now object ≡ true) objects.now) }
+    ensures none { OnErr result (list_any (has_name name.now) objects.now ≡ false) }
+    ensures place { IfErr result (λ place. place ≡ position_or_len (comes_after name.now) objects.now) }
+    ensures few { IfErr result (λ place. place ≤ length objects.now) }
+{
+    let after = place_after(objects, name);
+    if after == 0 {
+        return Err(after);
+    }
+    let object = &objects[after - 1];
+    if object.has_name(name) {
+        Ok(after - 1)
+    } else {
+        Err(after)
+    }
+}
+
+/// Puts an object into its place, in place of the one that has its name.
+pub(crate) fn put_object(objects: &mut Vec<Object>, object: Object) -> Result<(), AllocError>
+    requires { rises objects.old.items ≡ true }
+    ensures done { OnOk result (objects.new.items ≡ published objects.old.items object) }
+    ensures kept { OnErr result (objects.new.items ≡ objects.old.items) }
+    ensures rises { rises objects.new.items ≡ true }
+{
+    match place_of(objects.as_slice(), &object.name()) {
+        Ok(place) => {
+            objects[place] = object;
+            Ok(())
+        }
+        Err(place) => {
+            objects.insert(place, object)?;
+            Ok(())
+        }
+    }
+}
+
+/// Takes the object of a name away, where there is one.
+pub(crate) fn take_object(objects: &mut Vec<Object>, name: &Oid<'_>) -> bool
+    requires { rises objects.old.items ≡ true }
+    ensures done { objects.new.items ≡ withdrawn objects.old.items name.now }
+    ensures found { result ≡ list_any (has_name name.now) objects.old.items }
+    ensures rises { rises objects.new.items ≡ true }
+{
+    match place_of(objects.as_slice(), name) {
+        Ok(place) => {
+            let _ = objects.remove(place);
+            true
+        }
+        Err(_) => false,
+    }
+}
+
+/// Sets the object of a binding's name to its value, where it takes it.
+pub(crate) fn set_object(objects: &mut Vec<Object>, binding: &Bind<'_>)
+    requires { rises objects.old.items ≡ true }
+    ensures done { objects.new.items ≡ map (set_by_binding (var_bind binding.now)) objects.old.items }
+    ensures rises { rises objects.new.items ≡ true }
+{
+    if let Ok(place) = place_of(objects.as_slice(), &binding.name) {
+        let object = &mut objects[place];
+        object.set(&binding.value);
+    }
+}
+
+/// The place of the first object that was set, or how many there are.
+pub(crate) fn place_set(objects: &[Object]) -> usize
+    ensures place { result ≡ position_or_len was_set objects.now }
+    ensures few { result ≤ length objects.now }
+{
+    for (place, object) in objects.iter().enumerate() {
+        if object.is_set() {
+            return place;
+        }
+    }
+    objects.len()
+}
+
+/// Notes that firmware was told of the first object that was set, where there is one.
+pub(crate) fn tell_object(objects: &mut Vec<Object>)
+    requires { rises objects.old.items ≡ true }
+    ensures done { objects.new.items ≡ told_first objects.old.items }
+    ensures rises { rises objects.new.items ≡ true }
+{
+    let place = place_set(objects.as_slice());
+    if place < objects.len() {
+        let object = &mut objects[place];
+        object.tell();
+    }
+}
+
+/// Notes that firmware was told of all objects.
+#[tactic(auto, using(crate::proofs::Telling::all_told))]
+pub(crate) fn tell_objects(objects: &mut Vec<Object>)
+    requires { rises objects.old.items ≡ true }
+    ensures done { objects.new.items ≡ map told objects.old.items }
+    ensures rises { rises objects.new.items ≡ true }
+{
+    tell_all_of(objects);
+}
+
+fn tell_all_of(objects: &mut Vec<Object>)
+    ensures { objects.new.items ≡ map told objects.old.items }
+{
+    tell_each(objects.as_mut_slice());
+}
+
+fn tell_each(objects: &mut [Object])
+    ensures { objects.new ≡ map told objects.old }
+{
+    for object in objects.iter_mut() {
+        object.tell();
+    }
+}

@@ -1,0 +1,3 @@
+pub mod Appended
+pub mod SubIdentifiers
+pub mod NameLaws
