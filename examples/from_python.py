@@ -49,6 +49,14 @@ class Code(ctypes.Structure):
     ]
 
 
+class Value(ctypes.Structure):
+    _fields_ = [("number", c_int64), ("type", c_uint8)]
+
+
+class Access(ctypes.Structure):
+    _fields_ = [("least", c_int64), ("most", c_int64), ("writes", c_uint8)]
+
+
 class Entry(ctypes.Structure):
     _fields_ = [("status", c_int64), ("number", c_uint32), ("outcome", c_uint8), ("code", Code)]
 
@@ -75,6 +83,10 @@ ARGUMENTS = {
     "sign_check": [SIGN, c_char_p, c_size_t, SIZE, POINTER(TextFault)],
     "sign_pages": [SIGN, c_uint32, BUFFER, c_size_t, SIZE],
     "sign_text_pages": [SIGN, c_char_p, c_size_t, c_uint32, BUFFER, c_size_t, SIZE, POINTER(TextFault)],
+    "sign_publish": [SIGN, BUFFER, c_size_t, POINTER(Value), BUFFER, c_size_t, POINTER(Access)],
+    "sign_withdraw": [SIGN, BUFFER, c_size_t],
+    "sign_object": [SIGN, BUFFER, c_size_t, POINTER(Value), BUFFER, c_size_t, SIZE],
+    "sign_taken": [SIGN, BUFFER, c_size_t, SIZE, POINTER(Value), BUFFER, c_size_t, SIZE],
     "row_bits": [BUFFER, c_size_t, BUFFER, c_size_t, SIZE],
     "crc": [c_char_p, c_size_t, c_uint8, c_uint8, POINTER(c_uint16)],
     "message_code": [c_uint32, POINTER(Code), BUFFER, c_size_t, SIZE],
@@ -197,9 +209,11 @@ class Both:
 def main() -> int:
     parser = argparse.ArgumentParser(description=__doc__, formatter_class=argparse.RawDescriptionHelpFormatter)
     here = pathlib.Path(__file__).resolve().parent
-    parser.add_argument("--library", type=pathlib.Path, default=here / "out/shared/libwisangub.so")
-    parser.add_argument("description", type=pathlib.Path, metavar="DESCRIPTION")
-    parser.add_argument("text", metavar="TEXT")
+    parser.add_argument(
+        "--library", type=pathlib.Path, default=here / "out/shared/libwisangub.so", help="the shared library"
+    )
+    parser.add_argument("description", type=pathlib.Path, metavar="DESCRIPTION", help="a file that describes the sign")
+    parser.add_argument("text", metavar="TEXT", help="what is published")
     asked = parser.parse_args()
     try:
         with Both(opened(asked.library), asked.description.read_bytes()) as both:

@@ -9,8 +9,12 @@
 
 #include "wisangub.h"
 
-/* A call that is refused for a null, and one that does what it should. */
+/* A call that is refused for a null, one for a value, one for what is not there, and what else there is to answer. */
 #define REFUSED(call) assert((call) == WISANGUB_NULL)
+#define OUT_OF_RANGE(call) assert((call) == WISANGUB_RANGE)
+#define FAULT(call) assert((call) == WISANGUB_FAULT)
+#define TOO_SMALL(call) assert((call) == WISANGUB_TOO_SMALL)
+#define NOTHING(call) assert((call) == WISANGUB_NOTHING)
 #define DONE(call) assert((call) == WISANGUB_DONE)
 
 static const enum wisangub_layer LOOK = WISANGUB_LOOK;
@@ -21,6 +25,12 @@ static struct wisangub_sign sign = {NULL};
 static struct wisangub_centre centre = {NULL};
 static uint8_t buffer[WISANGUB_DATAGRAM], room[1 << 17];
 static size_t size = 9;
+
+/* Names: two beside the sign's, sysDescr.0 and dmsIllumManLevel.0, and one of the sign's own, vmsSignWidthPixels.0. */
+static const uint8_t descr[] = {43, 6, 1, 2, 1, 1, 1, 0};
+static const uint8_t level[] = {43, 6, 1, 4, 1, 137, 54, 4, 2, 3, 7, 6, 0};
+static const uint8_t columns[] = {43, 6, 1, 4, 1, 137, 54, 4, 2, 3, 2, 4, 0};
+static const struct wisangub_access read_only = {0, 0, WISANGUB_READ_ONLY};
 
 /* Whether so many octets from there are as `spread` left them. */
 static void spread(void) { memset(room, 5, sizeof room); }
@@ -40,6 +50,7 @@ static void without_a_sign(void)
 {
     struct wisangub_shown shown;
     struct wisangub_text_fault fault = {0, 0};
+    struct wisangub_value value = {7, WISANGUB_INTEGER};
     uint16_t width, height;
     for (int turn = 0; turn < 2; turn++) {
         struct wisangub_sign *none = turn ? &sign : NULL;
@@ -57,6 +68,10 @@ static void without_a_sign(void)
         REFUSED(wisangub_sign_check(none, "", 0, &size, &fault));
         REFUSED(wisangub_sign_pages(none, LOOK, room, sizeof room, &size));
         REFUSED(wisangub_sign_text_pages(none, "", 0, LOOK, room, sizeof room, &size, &fault));
+        REFUSED(wisangub_sign_publish(none, descr, sizeof descr, &value, NULL, 0, &read_only));
+        REFUSED(wisangub_sign_withdraw(none, descr, sizeof descr));
+        REFUSED(wisangub_sign_object(none, descr, sizeof descr, &value, buffer, sizeof buffer, &size));
+        REFUSED(wisangub_sign_taken(none, buffer, sizeof buffer, &size, &value, room, sizeof room, &size));
         wisangub_sign_free(none);
     }
     assert(size == 9);
@@ -232,6 +247,152 @@ static void codes(void)
     assert(memcmp(room, activation + 3, 5) == 0 && untouched(5, 16));
 }
 
+/* Values beside those that there are, each beside right ones and for itself; nothing is left in any place. */
+static void values_out_of_range(void)
+{
+    static const unsigned numbers[] = {3, 4, 255, 256, 257, 65536};
+    static const uint8_t memories[] = {0, 1, 6, 8, 255};
+    struct wisangub_text_fault fault = {7, 7};
+    struct wisangub_code parts = {65535, 1, 0x9a66, 255, 3, {192, 0, 2, 1}};
+    uint16_t crc = 7;
+    spread();
+    size = 9;
+    for (size_t at = 0; at < sizeof numbers / sizeof *numbers; at++) {
+        enum wisangub_layer layer = (enum wisangub_layer)numbers[at];
+        enum wisangub_order order = (enum wisangub_order)(numbers[at] - 1);
+        OUT_OF_RANGE(wisangub_sign_pages(&sign, layer, room, sizeof room, &size));
+        OUT_OF_RANGE(wisangub_sign_text_pages(&sign, "A]", 2, layer, room, sizeof room, &size, &fault));
+        OUT_OF_RANGE(wisangub_message_code(order, &parts, room, 5, &size));
+        OUT_OF_RANGE(wisangub_activation_code(order, &parts, room, 12, &size));
+        OUT_OF_RANGE(wisangub_centre_new(&centre, "a", 1, order, 1));
+    }
+    for (size_t at = 0; at < sizeof memories; at++) {
+        parts.memory = memories[at];
+        OUT_OF_RANGE(wisangub_message_code(SWAPPED, &parts, room, 5, &size));
+        OUT_OF_RANGE(wisangub_activation_code(WISANGUB_HIGH, &parts, room, 12, &size));
+    }
+    OUT_OF_RANGE(wisangub_crc("A", 1, 2, 0, &crc));
+    OUT_OF_RANGE(wisangub_crc("A", 1, 0, 255, &crc));
+    assert(untouched(0, sizeof room) && size == 9 && crc == 7);
+    assert(fault.code == 7 && fault.place == 7 && centre.at == NULL);
+}
+
+/* What is refused of an object leaves nothing published. */
+static void wrong_objects(void)
+{
+    static const struct wisangub_access access[] = {{0, 15, 3}, {0, 15, 255}, {0, 6, 1}, {8, 15, 1}, {0, 15, 2},
+                                                    {-1, 15, 2}, {0, 65536, 2}};
+    static const struct wisangub_value value[] = {{7, 0}, {7, 3}, {7, 69}, {7, 255}, {4294967296, 2}, {-2147483649, 2},
+                                                  {-1, 65}, {4294967296, 66}, {-1, 67}, {7, 6}, {7, 64}};
+    const struct wisangub_value given = {7, WISANGUB_INTEGER};
+    const struct wisangub_access takes = {0, 15, WISANGUB_NUMBERS};
+    struct wisangub_value found = {0, 0};
+    REFUSED(wisangub_sign_publish(&sign, NULL, 0, &given, NULL, 0, &takes));
+    REFUSED(wisangub_sign_publish(&sign, level, sizeof level, NULL, NULL, 0, &takes));
+    REFUSED(wisangub_sign_publish(&sign, level, sizeof level, &given, NULL, 1, &takes));
+    REFUSED(wisangub_sign_publish(&sign, level, sizeof level, &given, NULL, 0, NULL));
+    FAULT(wisangub_sign_publish(&sign, level, 0, &given, NULL, 0, &takes));
+    FAULT(wisangub_sign_publish(&sign, level, 6, &given, NULL, 0, &takes));
+    FAULT(wisangub_sign_publish(&sign, columns, sizeof columns, &given, NULL, 0, &takes));
+    FAULT(wisangub_sign_publish(&sign, columns, sizeof columns, &given, NULL, 0, &access[0]));
+    for (size_t at = 0; at < sizeof access / sizeof *access; at++) {
+        OUT_OF_RANGE(wisangub_sign_publish(&sign, level, sizeof level, &given, NULL, 0, &access[at]));
+    }
+    for (size_t at = 0; at < sizeof value / sizeof *value; at++) {
+        OUT_OF_RANGE(wisangub_sign_publish(&sign, level, sizeof level, &value[at], "\x80", 1, &read_only));
+    }
+    FAULT(wisangub_sign_object(&sign, level, sizeof level, &found, room, sizeof room, &size));
+    FAULT(wisangub_sign_withdraw(&sign, level, sizeof level));
+}
+
+/* An object of each type is read as it was published, and one in its place is read then. */
+static void objects_read(void)
+{
+    static const uint8_t address[4] = {192, 0, 2, 1};
+    static const struct wisangub_value values[] = {{-2147483647 - 1, 2}, {4294967295, 2}, {0, 4}, {0, 5}, {0, 6},
+                                                   {0, 64}, {4294967295, 65}, {3, 66}, {100, 67}, {0, 68}};
+    struct wisangub_value found = {0, 0};
+    for (size_t at = 0; at < sizeof values / sizeof *values; at++) {
+        int has_octets = values[at].type == 4 || values[at].type == 68;
+        const uint8_t *octets = values[at].type == 64 ? address : descr;
+        size_t count = values[at].type == 64 ? 4 : has_octets || values[at].type == 6 ? sizeof descr : 0;
+        DONE(wisangub_sign_publish(&sign, descr, sizeof descr, &values[at], octets, count, &read_only));
+        spread();
+        if (count > 0) {
+            found.type = 9;
+            TOO_SMALL(wisangub_sign_object(&sign, descr, sizeof descr, &found, room, count - 1, &size));
+            assert(size == count && untouched(0, 16) && found.type == 9);
+        }
+        DONE(wisangub_sign_object(&sign, descr, sizeof descr, &found, room, count, &size));
+        assert(found.type == values[at].type && found.number == values[at].number);
+        assert(size == count && memcmp(room, octets, count) == 0 && untouched(count, 16));
+    }
+    REFUSED(wisangub_sign_object(&sign, NULL, 0, &found, room, sizeof room, &size));
+    REFUSED(wisangub_sign_object(&sign, descr, sizeof descr, NULL, room, sizeof room, &size));
+    REFUSED(wisangub_sign_object(&sign, descr, sizeof descr, &found, NULL, 1, &size));
+    REFUSED(wisangub_sign_object(&sign, descr, sizeof descr, &found, room, sizeof room, NULL));
+    FAULT(wisangub_sign_object(&sign, descr, 0, &found, room, sizeof room, &size));
+    DONE(wisangub_sign_object(&sign, columns, sizeof columns, &found, NULL, 0, &size));
+    assert(found.type == WISANGUB_INTEGER && found.number > 0 && found.number <= 256 && size == 0);
+    REFUSED(wisangub_sign_withdraw(&sign, NULL, 0));
+    FAULT(wisangub_sign_withdraw(&sign, descr, 0));
+    FAULT(wisangub_sign_withdraw(&sign, columns, sizeof columns));
+    DONE(wisangub_sign_withdraw(&sign, descr, sizeof descr));
+    FAULT(wisangub_sign_withdraw(&sign, descr, sizeof descr));
+    FAULT(wisangub_sign_object(&sign, descr, sizeof descr, &found, room, sizeof room, &size));
+}
+
+/* The error-status with which the sign answers a manager that sets a level. */
+static int set_level(uint8_t number)
+{
+    static const uint8_t request[] = {2, 1, 1, 2, 1, 0, 2, 1, 0, 0x30, 20, 0x30, 18, 6, 13};
+    uint8_t *end = room;
+    size_t community = 0;
+    DONE(wisangub_sign_writer(&sign, buffer, sizeof buffer, &community));
+    *end++ = 0x30;
+    *end++ = (uint8_t)(5 + community + 33);
+    end = (uint8_t *)memcpy(end, "\2\1\0\4", 4) + 4;
+    *end++ = (uint8_t)community;
+    end = (uint8_t *)memcpy(end, buffer, community) + community;
+    *end++ = 0xa3;
+    *end++ = 31;
+    end = (uint8_t *)memcpy(end, request, sizeof request) + sizeof request;
+    end = (uint8_t *)memcpy(end, level, sizeof level) + sizeof level;
+    end = (uint8_t *)memcpy(end, "\2\1", 2) + 2;
+    *end++ = number;
+    DONE(wisangub_sign_receive(&sign, room, (size_t)(end - room), room + 2000, WISANGUB_DATAGRAM, &size));
+    return room[2000 + 7 + community + 7];
+}
+
+/* What a manager set is handed out once, and what was published since is not. */
+static void objects_set(void)
+{
+    const struct wisangub_access takes = {0, 15, WISANGUB_NUMBERS};
+    struct wisangub_value value = {7, WISANGUB_INTEGER};
+    uint8_t name[WISANGUB_NAME];
+    size_t name_size = 9;
+    assert(set_level(8) == 2);
+    DONE(wisangub_sign_publish(&sign, level, sizeof level, &value, NULL, 0, &takes));
+    NOTHING(wisangub_sign_taken(&sign, name, sizeof name, &name_size, &value, room, 16, &size));
+    assert(name_size == 0 && size == 0 && value.number == 7);
+    assert(set_level(16) == 3 && set_level(8) == 0 && set_level(9) == 0);
+    REFUSED(wisangub_sign_taken(&sign, NULL, 1, &name_size, &value, room, 16, &size));
+    REFUSED(wisangub_sign_taken(&sign, name, sizeof name, NULL, &value, room, 16, &size));
+    REFUSED(wisangub_sign_taken(&sign, name, sizeof name, &name_size, NULL, room, 16, &size));
+    REFUSED(wisangub_sign_taken(&sign, name, sizeof name, &name_size, &value, NULL, 1, &size));
+    REFUSED(wisangub_sign_taken(&sign, name, sizeof name, &name_size, &value, room, 16, NULL));
+    TOO_SMALL(wisangub_sign_taken(&sign, NULL, 0, &name_size, &value, NULL, 0, &size));
+    TOO_SMALL(wisangub_sign_taken(&sign, name, sizeof level - 1, &name_size, &value, room, 16, &size));
+    assert(name_size == sizeof level && size == 0 && value.number == 7);
+    DONE(wisangub_sign_taken(&sign, name, sizeof level, &name_size, &value, NULL, 0, &size));
+    assert(memcmp(name, level, sizeof level) == 0 && value.number == 9 && value.type == WISANGUB_INTEGER && size == 0);
+    NOTHING(wisangub_sign_taken(&sign, name, sizeof name, &name_size, &value, room, 16, &size));
+    assert(set_level(10) == 0);
+    DONE(wisangub_sign_publish(&sign, level, sizeof level, &value, NULL, 0, &takes));
+    NOTHING(wisangub_sign_taken(&sign, name, sizeof name, &name_size, &value, room, 16, &size));
+    DONE(wisangub_sign_withdraw(&sign, level, sizeof level));
+}
+
 static void without_a_centre(void)
 {
     struct wisangub_status status;
@@ -400,6 +561,10 @@ int main(int count, char **words)
     text_pages();
     bits();
     codes();
+    values_out_of_range();
+    wrong_objects();
+    objects_read();
+    objects_set();
     without_a_centre();
     commands();
     waiting();

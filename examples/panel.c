@@ -4,7 +4,8 @@
  * 127.0.0.1:1161. The lamps show the sign before the network is opened. Ten times a second it looks what has to be lit,
  * and at FILE, a power-fail input whose first octet is `0` without power (as /sys/class/gpio/gpio17/value). Where the
  * lamps took their frame, a watchdog is fed each second (/dev/watchdog, and systemd's: panel.service). SIGINT or
- * SIGTERM darkens the lamps and ends it. It keeps nothing over a restart: signd.c does (docs/C.md).
+ * SIGTERM darkens the lamps and ends it. It keeps nothing over a restart: signd.c does (docs/C.md). `panel --version`
+ * prints the version of the library.
  */
 #define _GNU_SOURCE
 #include <errno.h>
@@ -157,6 +158,12 @@ static void serve(int input, int watchdog, int socket)
 
 /* ---- the command line */
 
+static void say_version(void)
+{
+    printf("panel %s\n", wisangub_version());
+    exit(0);
+}
+
 static void misused(void)
 {
     fputs("usage: panel [--port N] [--host ADDRESS] [--power FILE] [--watchdog FILE] DESCRIPTION PANEL\n", stderr);
@@ -169,6 +176,7 @@ static struct asked asked_for(int count, char **words)
                                             {"port", required_argument, NULL, 'p'},
                                             {"power", required_argument, NULL, 'f'},
                                             {"watchdog", required_argument, NULL, 'w'},
+                                            {"version", no_argument, NULL, 'v'},
                                             {NULL, 0, NULL, 0}};
     struct asked asked = {.host = "127.0.0.1", .port = "1161"};
     int found;
@@ -178,6 +186,7 @@ static struct asked asked_for(int count, char **words)
         case 'p': asked.port = optarg; break;
         case 'f': asked.power = optarg; break;
         case 'w': asked.watchdog = optarg; break;
+        case 'v': say_version(); break;
         default: misused();
         }
     }

@@ -1,10 +1,10 @@
 /*
- * A sign on a UDP port of Linux: signd [--port N] [--host ADDRESS] [--journal FILE [--down power|process]
- * [--accept-damage] [--need-journal] [--most-recorded N]] [--no-ticks] [--quiet] DESCRIPTION. Without options it is at
- * 127.0.0.1:1161. Each datagram goes to the sign and its reply back; each second is a tick. SIGUSR1 takes the power
- * away, SIGUSR2 gives it back, and SIGINT or SIGTERM ends it. With a journal the sign goes on where it was, also where
- * wisangub-sign kept it; what the time without a process was, a loss of power or seconds, is told by the kernel's
- * boot id, or by --down.
+ * A sign on a UDP port of Linux: signd [OPTION ..] DESCRIPTION, and `signd --help` says the options. Without any it is
+ * at 127.0.0.1:1161. Each datagram goes to the sign and its reply back; each second is a tick. SIGUSR1 takes the power
+ * away, SIGUSR2 gives it back, and SIGINT or SIGTERM ends it. With --objects it publishes those of a file beside the
+ * sign's, reads it again at a SIGHUP, and prints what managers set. With --write-from a SET of another address is
+ * dropped before the sign hears it. With a journal the sign goes on where it was, also where wisangub-sign kept it;
+ * what the time without a process was, a loss of power or seconds, is told by the kernel's boot id, or by --down.
  */
 #define _GNU_SOURCE
 #include <errno.h>
@@ -19,7 +19,9 @@
 #include <sys/timerfd.h>
 #include <unistd.h>
 
+#include "allowed.h"
 #include "described.h"
+#include "firmware.h"
 #include "journal.h"
 #include "sign_lines.h"
 #include "silences.h"
@@ -33,7 +35,9 @@ enum { SOCKET, TIMER, SIGNALS, WAITED };
 struct front_end {
     struct wisangub_sign sign;
     struct communities communities;
-    struct journal *journal; /* null where nothing is kept */
+    struct allowed allowed;
+    struct journal *journal;   /* null where nothing is kept */
+    struct firmware *firmware; /* null where nothing is published */
     struct writes writes;
     struct power power;
     double up;               /* the moment up to which the sign was told its seconds */
@@ -42,7 +46,8 @@ struct front_end {
 
 struct asked {
     struct journal_asked journal; /* its path is null where nothing is kept */
-    const char *host, *description;
+    struct allowed allowed;
+    const char *host, *objects, *description; /* no objects are null */
     long port, most;
     int is_quiet, has_ticks;
 };
@@ -70,7 +75,7 @@ static int seconds_after(double up)
     return made;
 }
 
-static int signals(void)
+static int signals(int has_objects)
 {
     sigset_t taken;
     sigemptyset(&taken);
@@ -78,6 +83,9 @@ static int signals(void)
     sigaddset(&taken, SIGTERM);
     sigaddset(&taken, SIGUSR1);
     sigaddset(&taken, SIGUSR2);
+    if (has_objects) {
+        sigaddset(&taken, SIGHUP);
+    }
     had(sigprocmask(SIG_BLOCK, &taken, NULL), "sigprocmask");
     return had(signalfd(-1, &taken, SFD_CLOEXEC | SFD_NONBLOCK), "signalfd");
 }
@@ -108,6 +116,9 @@ static void answer(struct front_end *front_end, struct heard *heard, size_t coun
     static struct replies replies;
     int by_kept = 0;
     replies.count = 0;
+    if (front_end->firmware != NULL) {
+        firmware_keep_time(front_end->firmware, running());
+    }
     if (front_end->journal != NULL) {
         keep(front_end->journal, heard, count);
     }
@@ -123,10 +134,24 @@ static void answer(struct front_end *front_end, struct heard *heard, size_t coun
         by_kept |= one->kind == DATAGRAM_SETS;
     }
     send_all(front_end->socket, &replies);
+    if (by_kept && front_end->firmware != NULL) {
+        firmware_tell(front_end->firmware);
+    }
     if (front_end->journal != NULL && replies.count > 0) {
         int is_asked = !by_kept && front_end->journal->refused != 0;
         journal_heard(front_end->journal, by_kept,
                       is_asked ? silence_limit(&front_end->sign, &front_end->communities) : 0);
+    }
+}
+
+/* What a datagram is to the sign. One that would change it, and comes from where that may not be, is lost. */
+static void sort(const struct front_end *front_end, struct heard *one)
+{
+    one->kind = one->size == LOST ? DATAGRAM_UNHEARD
+                                  : datagram_kind(one->octets, one->size, &front_end->communities);
+    if (one->kind == DATAGRAM_SETS && !allowed_has(&front_end->allowed, &one->peer)) {
+        one->kind = DATAGRAM_UNHEARD;
+        one->size = LOST;
     }
 }
 
@@ -136,8 +161,7 @@ static void hear(struct front_end *front_end)
     static struct heard heard[AT_ONCE];
     size_t count = received(front_end->socket, heard);
     for (struct heard *one = heard; one < heard + count; one++) {
-        one->kind = one->size == LOST ? DATAGRAM_UNHEARD
-                                      : datagram_kind(one->octets, one->size, &front_end->communities);
+        sort(front_end, one);
         if (front_end->journal != NULL && one->kind == DATAGRAM_SETS
             && (front_end->writes.count > 0 || !writes_take(&front_end->writes, running()))) {
             writes_wait(&front_end->writes, one);
@@ -217,6 +241,10 @@ static int heed(struct front_end *front_end, int from)
         switch_power(front_end, told.ssi_signo == SIGUSR1);
         return 1;
     }
+    if (told.ssi_signo == SIGHUP) {
+        firmware_again(front_end->firmware, running());
+        return 1;
+    }
     return 0;
 }
 
@@ -244,12 +272,39 @@ static void serve(struct front_end *front_end, int signals)
 
 /* ---- the command line */
 
+static void say_version(void)
+{
+    printf("signd %s\n", wisangub_version());
+    exit(0);
+}
+
+static const char usage[] =
+    "usage: signd [--port N] [--host ADDRESS] [--write-from ADDRESS ..] [--objects FILE] [--journal FILE\n"
+    "    [--down power|process] [--accept-damage] [--need-journal] [--most-recorded N]] [--no-ticks] [--quiet]"
+    " DESCRIPTION\n";
+
+static void help(void)
+{
+    fputs(usage, stdout);
+    puts("\n"
+         "  --port N              its UDP port, else 1161; 0 is one that is free, which is printed\n"
+         "  --host ADDRESS        an IPv4 or IPv6 address, or a name; else 127.0.0.1\n"
+         "  --write-from ADDRESS  a SET of the writing community is heard from there alone; may stand again\n"
+         "  --objects FILE        objects beside the sign's; read at a SIGHUP too\n"
+         "  --journal FILE        what changes the sign is kept here, over the end of the process\n"
+         "  --down power|process  what the time without a process was\n"
+         "  --accept-damage       goes on from what is whole of the journal, and puts the rest aside\n"
+         "  --need-journal        ends where the disk takes nothing at a start\n"
+         "  --most-recorded N     of the writing community, in a second; else 50\n"
+         "  --no-ticks            no second passes for the sign\n"
+         "  --quiet               neither where it is nor what managers set is printed\n"
+         "  --version             the version of the library");
+    exit(0);
+}
+
 static void misused(const char *why)
 {
-    fprintf(stderr,
-            "signd: %s\nusage: signd [--port N] [--host ADDRESS] [--journal FILE [--down power|process]"
-            " [--accept-damage]\n    [--need-journal] [--most-recorded N]] [--no-ticks] [--quiet] DESCRIPTION\n",
-            why);
+    fprintf(stderr, "signd: %s\n%s", why, usage);
     exit(2);
 }
 
@@ -266,6 +321,12 @@ static void take(struct asked *asked, int option, const char *word)
     switch (option) {
     case 'h': asked->host = word; break;
     case 'p': asked->port = number(word); break;
+    case 'w':
+        if (!allowed_add(&asked->allowed, word)) {
+            misused("--write-from is an IPv4 or IPv6 address, at most 64 times");
+        }
+        break;
+    case 'o': asked->objects = word; break;
     case 'j': asked->journal.path = word; break;
     case 'd':
         asked->journal.down = strcmp(word, "power") == 0 ? DOWN_POWER : DOWN_PROCESS;
@@ -278,6 +339,8 @@ static void take(struct asked *asked, int option, const char *word)
     case 'm': asked->most = number(word); break;
     case 'n': asked->has_ticks = 0; break;
     case 'q': asked->is_quiet = 1; break;
+    case 'v': say_version(); break;
+    case 'u': help(); break;
     default: misused("an option");
     }
 }
@@ -286,6 +349,8 @@ static struct asked asked_for(int count, char **words)
 {
     static const struct option options[] = {{"host", required_argument, NULL, 'h'},
                                             {"port", required_argument, NULL, 'p'},
+                                            {"write-from", required_argument, NULL, 'w'},
+                                            {"objects", required_argument, NULL, 'o'},
                                             {"journal", required_argument, NULL, 'j'},
                                             {"down", required_argument, NULL, 'd'},
                                             {"accept-damage", no_argument, NULL, 'a'},
@@ -293,6 +358,8 @@ static struct asked asked_for(int count, char **words)
                                             {"most-recorded", required_argument, NULL, 'm'},
                                             {"no-ticks", no_argument, NULL, 'n'},
                                             {"quiet", no_argument, NULL, 'q'},
+                                            {"version", no_argument, NULL, 'v'},
+                                            {"help", no_argument, NULL, 'u'},
                                             {NULL, 0, NULL, 0}};
     struct asked asked = {.host = "127.0.0.1", .port = 1161, .most = WRITES_USUAL, .has_ticks = 1};
     int found;
@@ -307,6 +374,15 @@ static struct asked asked_for(int count, char **words)
     }
     asked.description = words[optind];
     return asked;
+}
+
+/* Publishes the objects of a file. */
+static void open_objects(struct front_end *front_end, struct firmware *firmware, const struct asked *asked)
+{
+    if (asked->objects != NULL) {
+        firmware_begin(firmware, &front_end->sign, asked->objects, front_end->up, asked->is_quiet);
+        front_end->firmware = firmware;
+    }
 }
 
 /* The sign where its journal left it. */
@@ -331,25 +407,32 @@ static int close_journal(struct front_end *front_end, double up)
 int main(int count, char **words)
 {
     static struct journal journal;
+    static struct firmware firmware;
     struct asked asked = asked_for(count, words);
     char digest[65];
     keep_standard_files();
     struct front_end front_end = {.socket = bound(asked.host, asked.port), .timer = -1};
     make_sign(&front_end.sign, asked.description, digest);
     front_end.communities = communities_of(&front_end.sign);
+    front_end.allowed = asked.allowed;
     writes_begin(&front_end.writes, (size_t)asked.most);
     front_end.up = running();
+    open_objects(&front_end, &firmware, &asked);
     asked.journal.digest = digest;
     open_journal(&front_end, &journal, asked.journal);
     if (asked.has_ticks) {
         front_end.timer = seconds_after(front_end.up);
     }
-    int waited = signals();
+    int waited = signals(asked.objects != NULL);
     if (!asked.is_quiet) {
         announce(front_end.socket);
     }
+    if (front_end.firmware != NULL) {
+        firmware_tell(front_end.firmware); /* what managers set in the journal's records */
+    }
     serve(&front_end, waited);
     int is_kept = close_journal(&front_end, asked.has_ticks ? front_end.up : running());
+    firmware_end(&firmware);
     wisangub_sign_free(&front_end.sign);
     return is_kept ? 0 : 1;
 }

@@ -11,6 +11,7 @@
 #include <stdlib.h>
 #include <string.h>
 
+#include "talk_objects.h"
 #include "wisangub.h"
 
 enum { TEXT_MOST = 1 << 20, LINE_MOST = 140000, PAGES_MOST = 6 * (WISANGUB_PAGE_HEAD + 256 * 64) };
@@ -287,6 +288,18 @@ static void print_ended(const struct wisangub_status *status)
     putchar('\n');
 }
 
+/* The octets of a code that may name a type of memory of which there is none, as an `activate` may. */
+static void put_code(const struct wisangub_code *parts, uint8_t code[12])
+{
+    int swapped = order == WISANGUB_SWAPPED;
+    uint8_t high = (uint8_t)(parts->checksum >> 8), low = (uint8_t)parts->checksum;
+    const uint8_t octets[8] = {
+        (uint8_t)(parts->minutes >> 8), (uint8_t)parts->minutes, parts->priority, parts->memory,
+        (uint8_t)(parts->number >> 8),  (uint8_t)parts->number,  swapped ? low : high, swapped ? high : low};
+    memcpy(code, octets, sizeof octets);
+    memcpy(code + sizeof octets, parts->address, sizeof parts->address);
+}
+
 static void print_entry(size_t index)
 {
     static const char *const outcomes[] = {"waiting\n", "accepted\n", "refused %" PRId64 "\n", "noreply\n",
@@ -295,7 +308,10 @@ static void print_entry(size_t index)
     uint8_t code[12];
     size_t size = 0;
     wisangub_centre_entry(&centre, index, &entry);
-    wisangub_activation_code(order, &entry.code, code, sizeof code, &size);
+    if (wisangub_activation_code(order, &entry.code, code, sizeof code, &size) == WISANGUB_RANGE) {
+        put_code(&entry.code, code);
+        size = sizeof code;
+    }
     printf("ledger %" PRIu32 " ", entry.number);
     print_octets("", code, size, " ");
     printf(outcomes[entry.outcome], entry.status);
@@ -426,7 +442,7 @@ int main(void)
             puts("ok");
         } else if (strncmp(line, "centre ", 7) == 0) {
             answer_centre(line + 7);
-        } else {
+        } else if (!answer_objects(&sign, line)) {
             answer();
         }
         fflush(stdout);

@@ -20,10 +20,11 @@
  *   - The heap keeps what is said of rattle_alloc below.
  *
  * There is no global state, no thread, no exit and no abort. wisangub_sign_new and wisangub_centre_new take memory (by
- * rattle_alloc), and wisangub_sign_free and wisangub_centre_free give it back; the two calls that draw pages, and the
- * command of a central system, take memory and give it back before they answer; a central system takes some for its
- * ledger, where its command or tick answers MEMORY if there is none; no other call takes any. Sizes are octets and
- * times are seconds. The functions answer one of enum wisangub_answer. What is `const` is only read.
+ * rattle_alloc), and wisangub_sign_free and wisangub_centre_free give it back; wisangub_sign_publish takes memory for
+ * an object, which is given back as the object is withdrawn or another stands in its place; the two calls that draw
+ * pages, and the command of a central system, take memory and give it back before they answer; a central system takes
+ * some for its ledger, where its command or tick answers MEMORY if there is none; no other call takes any. Sizes are
+ * octets and times are seconds. The functions answer one of enum wisangub_answer. What is `const` is only read.
  *
  * A call that fills a buffer gives the size that it needs in *size. Where the room is smaller it answers TOO_SMALL and
  * does nothing else, and may be called again; null with a room of 0 asks for the size alone.
@@ -84,7 +85,7 @@ enum wisangub_answer {
     WISANGUB_NULL = 5,      /* a pointer is null; nothing is done */
     WISANGUB_BUSY = 6,      /* a job is not done yet; the command is not taken */
     WISANGUB_USED_UP = 7,   /* no request number is left; the command is not taken */
-    WISANGUB_RANGE = 8      /* a value of the command is out of its range; it is not taken */
+    WISANGUB_RANGE = 8      /* a value is out of its range, of a command too, which is not taken; nothing is done */
 };
 
 /* A sign. Set `at` to null before the first use: `struct wisangub_sign sign = {NULL};` */
@@ -140,6 +141,44 @@ enum wisangub_layer {
  * tenths of a second, and its background. */
 #define WISANGUB_PAGE_HEAD 3
 
+/*
+ * Objects that firmware publishes beside the sign's, as sysDescr.0 or a photocell (docs/OBJECTS.md). Names go as the
+ * octets of an object identifier (X.690, 8.19): those of 1.3.6.1.2.1.1.1.0 are 43, 6, 1, 2, 1, 1, 1 and 0;
+ * examples/names.c makes them of numbers with dots, and numbers of them. A name has at most so many.
+ */
+#define WISANGUB_NAME 635
+
+/* The type of an object's value: the tag that it has in a message (RFC 1155). */
+enum wisangub_type {
+    WISANGUB_INTEGER = 2,           /* its number, -2147483648 to 4294967295 */
+    WISANGUB_OCTET_STRING = 4,      /* its octets */
+    WISANGUB_NO_VALUE = 5,          /* NULL: neither a number nor octets */
+    WISANGUB_OBJECT_IDENTIFIER = 6, /* its octets, as those of a name */
+    WISANGUB_IP_ADDRESS = 64,       /* its four octets */
+    WISANGUB_COUNTER = 65,          /* its number, 0 to 4294967295 */
+    WISANGUB_GAUGE = 66,            /* its number, 0 to 4294967295 */
+    WISANGUB_TIME_TICKS = 67,       /* its number, 0 to 4294967295, in hundredths of a second */
+    WISANGUB_OPAQUE = 68            /* its octets */
+};
+
+/* The value of an object, but for the octets of a type that has them. */
+struct wisangub_value {
+    int64_t number; /* of a type that has one; of another it is not read, and given as 0 */
+    uint8_t type;   /* enum wisangub_type */
+};
+
+/* What a manager may write to an object. */
+enum wisangub_writes {
+    WISANGUB_READ_ONLY = 0, /* nothing; `least` and `most` are not read */
+    WISANGUB_NUMBERS = 1,   /* an INTEGER from `least` to `most` */
+    WISANGUB_OCTETS = 2     /* an OCTET STRING of `least` to `most` octets, each 0 to 65535 */
+};
+struct wisangub_access {
+    int64_t least;
+    int64_t most;
+    uint8_t writes; /* enum wisangub_writes */
+};
+
 /* A central system of one sign. Set `at` to null before the first use. What is said of a sign above goes for it too. */
 struct wisangub_centre {
     void *at;
@@ -154,7 +193,10 @@ enum wisangub_outcome {
     WISANGUB_UNKNOWN = 4 /* the central system was restarted while it waited */
 };
 
-/* An entry of the ledger. */
+/*
+ * An entry of the ledger. The code of an `activate` is what its line says: of one whose type of memory is none
+ * wisangub_activation_code gives no octets.
+ */
 struct wisangub_entry {
     int64_t status;             /* the error-status of a refusal, else 0 */
     uint32_t number;            /* of the request */
@@ -218,6 +260,13 @@ WISANGUB_AT(code, checksum, 4);
 WISANGUB_AT(code, priority, 6);
 WISANGUB_AT(code, memory, 7);
 WISANGUB_AT(code, address, 8);
+WISANGUB_SIZE(value, 16);
+WISANGUB_AT(value, number, 0);
+WISANGUB_AT(value, type, 8);
+WISANGUB_SIZE(access, 24);
+WISANGUB_AT(access, least, 0);
+WISANGUB_AT(access, most, 8);
+WISANGUB_AT(access, writes, 16);
 WISANGUB_SIZE(entry, 32);
 WISANGUB_AT(entry, status, 0);
 WISANGUB_AT(entry, number, 8);
@@ -256,8 +305,16 @@ uint32_t wisangub_sign_pages_at(const struct wisangub_sign *sign, uint8_t layer,
 uint32_t wisangub_sign_text_pages_at(const struct wisangub_sign *sign, const uint8_t *text, size_t text_size,
                                      uint8_t layer, uint8_t *pages, size_t room, size_t *size,
                                      struct wisangub_text_fault *fault);
+uint32_t wisangub_sign_publish_at(struct wisangub_sign *sign, const uint8_t *name, size_t name_size,
+                                  const struct wisangub_value *value, const uint8_t *octets, size_t octets_size,
+                                  const struct wisangub_access *access);
+uint32_t wisangub_sign_withdraw_at(struct wisangub_sign *sign, const uint8_t *name, size_t name_size);
+uint32_t wisangub_sign_object_at(const struct wisangub_sign *sign, const uint8_t *name, size_t name_size,
+                                 struct wisangub_value *value, uint8_t *octets, size_t room, size_t *size);
+uint32_t wisangub_sign_taken_at(struct wisangub_sign *sign, uint8_t *name, size_t name_room, size_t *name_size,
+                                struct wisangub_value *value, uint8_t *octets, size_t room, size_t *size);
 uint32_t wisangub_row_bits_at(const uint8_t *looks, size_t count, uint8_t *bits, size_t room, size_t *size);
-uint16_t wisangub_crc_at(const uint8_t *text, size_t text_size, uint8_t beacon, uint8_t pixel);
+uint32_t wisangub_crc_at(const uint8_t *text, size_t text_size, uint8_t beacon, uint8_t pixel, uint16_t *checksum);
 uint32_t wisangub_message_code_at(uint8_t order, const struct wisangub_code *parts, uint8_t *code, size_t room,
                                   size_t *size);
 uint32_t wisangub_activation_code_at(uint8_t order, const struct wisangub_code *parts, uint8_t *code, size_t room,
@@ -281,6 +338,12 @@ void wisangub_centre_free_at(struct wisangub_centre *centre);
 #define WISANGUB_INLINE static inline
 #endif
 
+/* A number in an octet; what is too great is 255, which is out of the range of every order and layer. */
+static inline uint8_t wisangub_octet(unsigned number)
+{
+    return number > 255 ? 255 : (uint8_t)number;
+}
+
 /* A buffer, or a place for none where its room is 0. */
 static inline uint8_t *wisangub_buffer(void *buffer, size_t room, uint8_t *none)
 {
@@ -303,9 +366,10 @@ WISANGUB_INLINE enum wisangub_answer wisangub_sign_new(struct wisangub_sign *sig
 }
 
 /*
- * Hands the sign a datagram. Answers DONE, with the reply in `reply` and its size in *reply_size; NOTHING, where the
- * sign drops the datagram (*reply_size is 0); TOO_SMALL, where reply_room is below WISANGUB_DATAGRAM: the sign has not
- * heard the datagram, the buffer is as it was, and *reply_size is WISANGUB_DATAGRAM; or NULL. No memory is taken.
+ * Hands a datagram to the sign and to the objects that are published beside it. Answers DONE, with the reply in `reply`
+ * and its size in *reply_size; NOTHING, where the sign drops the datagram (*reply_size is 0); TOO_SMALL, where
+ * reply_room is below WISANGUB_DATAGRAM: the sign has not heard the datagram, the buffer is as it was, and *reply_size
+ * is WISANGUB_DATAGRAM; or NULL. No memory is taken.
  */
 WISANGUB_INLINE enum wisangub_answer wisangub_sign_receive(struct wisangub_sign *sign, const void *datagram,
                                                            size_t datagram_size, void *reply, size_t reply_room,
@@ -450,7 +514,7 @@ WISANGUB_INLINE enum wisangub_answer wisangub_sign_check(const struct wisangub_s
 /*
  * The pages of what the sign shows, one after the other: of each its head of WISANGUB_PAGE_HEAD octets, and then an
  * octet for each cell, row by row from the top, each row from the left; `layer` says what of a cell. So a page has
- * 3 + width * height octets. Answers DONE, TOO_SMALL, MEMORY or NULL.
+ * 3 + width * height octets. Answers DONE; RANGE, where the layer is none; TOO_SMALL; MEMORY; or NULL.
  */
 WISANGUB_INLINE enum wisangub_answer wisangub_sign_pages(const struct wisangub_sign *sign, enum wisangub_layer layer,
                                                          void *pages, size_t room, size_t *size)
@@ -459,12 +523,13 @@ WISANGUB_INLINE enum wisangub_answer wisangub_sign_pages(const struct wisangub_s
     if (sign == NULL || sign->at == NULL || buffer == NULL || size == NULL) {
         return WISANGUB_NULL;
     }
-    return (enum wisangub_answer)wisangub_sign_pages_at(sign, (uint8_t)layer, buffer, room, size);
+    return (enum wisangub_answer)wisangub_sign_pages_at(sign, wisangub_octet((unsigned)layer), buffer, room, size);
 }
 
 /*
  * The pages of a MULTI text on the sign under the defaults of its description, as wisangub_sign_pages gives them.
- * Answers DONE, TOO_SMALL, MEMORY or NULL; or FAULT, with what is wrong with the text in *fault.
+ * Answers DONE; RANGE, where the layer is none; FAULT, with what is wrong with the text in *fault; TOO_SMALL; MEMORY; or
+ * NULL.
  */
 WISANGUB_INLINE enum wisangub_answer wisangub_sign_text_pages(const struct wisangub_sign *sign, const void *text,
                                                               size_t text_size, enum wisangub_layer layer, void *pages,
@@ -475,8 +540,81 @@ WISANGUB_INLINE enum wisangub_answer wisangub_sign_text_pages(const struct wisan
     if (sign == NULL || sign->at == NULL || text == NULL || buffer == NULL || size == NULL || fault == NULL) {
         return WISANGUB_NULL;
     }
-    return (enum wisangub_answer)wisangub_sign_text_pages_at(sign, (const uint8_t *)text, text_size, (uint8_t)layer,
-                                                             buffer, room, size, fault);
+    return (enum wisangub_answer)wisangub_sign_text_pages_at(sign, (const uint8_t *)text, text_size,
+                                                             wisangub_octet((unsigned)layer), buffer, room, size,
+                                                             fault);
+}
+
+/*
+ * Publishes an object beside the sign's: from now on the sign's managers Get it, walk over it, and Set it where
+ * `access` says so. It stands in place of the one that has its name: what a manager set there is gone then. `octets`
+ * are those of a value that has them, and of another they are not read. All that is given is copied, and for as many
+ * octets as a manager may write there is room from then on. Answers DONE; FAULT, where the name's octets are none's or
+ * the sign has an object of this name; else RANGE, where the type or the access is none of those that there are, or
+ * the value is none of its type, or not one that the access takes; else MEMORY, where there is none; or NULL.
+ */
+WISANGUB_INLINE enum wisangub_answer wisangub_sign_publish(struct wisangub_sign *sign, const void *name,
+                                                           size_t name_size, const struct wisangub_value *value,
+                                                           const void *octets, size_t octets_size,
+                                                           const struct wisangub_access *access)
+{
+    const uint8_t none = 0, *given = octets == NULL && octets_size == 0 ? &none : (const uint8_t *)octets;
+    if (sign == NULL || sign->at == NULL || name == NULL || value == NULL || given == NULL || access == NULL) {
+        return WISANGUB_NULL;
+    }
+    return (enum wisangub_answer)wisangub_sign_publish_at(sign, (const uint8_t *)name, name_size, value, given,
+                                                          octets_size, access);
+}
+
+/*
+ * Withdraws an object that is published, and gives its memory back. Answers DONE; FAULT, where none of this name is
+ * published; or NULL.
+ */
+WISANGUB_INLINE enum wisangub_answer wisangub_sign_withdraw(struct wisangub_sign *sign, const void *name,
+                                                            size_t name_size)
+{
+    if (sign == NULL || sign->at == NULL || name == NULL) {
+        return WISANGUB_NULL;
+    }
+    return (enum wisangub_answer)wisangub_sign_withdraw_at(sign, (const uint8_t *)name, name_size);
+}
+
+/*
+ * What a Get of a name reads, of the sign's objects and of those that are published: the value in *value, and its
+ * octets in `octets`, of which there are *size, 0 of a type that has none. Answers DONE; FAULT, where nothing of this
+ * name is there; TOO_SMALL, and *value is as it was; or NULL. No memory is taken, and no silence ends.
+ */
+WISANGUB_INLINE enum wisangub_answer wisangub_sign_object(const struct wisangub_sign *sign, const void *name,
+                                                          size_t name_size, struct wisangub_value *value, void *octets,
+                                                          size_t room, size_t *size)
+{
+    uint8_t none = 0, *buffer = wisangub_buffer(octets, room, &none);
+    if (sign == NULL || sign->at == NULL || name == NULL || value == NULL || buffer == NULL || size == NULL) {
+        return WISANGUB_NULL;
+    }
+    return (enum wisangub_answer)wisangub_sign_object_at(sign, (const uint8_t *)name, name_size, value, buffer, room,
+                                                         size);
+}
+
+/*
+ * What managers set: call it after each datagram until it answers NOTHING. Each object that was set is handed out once
+ * for all that was set there meanwhile, in the order of names: its name, its value as it is now, and the value's
+ * octets. What was published or withdrawn since it was set is not handed out. Answers DONE; NOTHING, where nothing is
+ * left, with both sizes 0; TOO_SMALL, where the name or the octets have no room, with both sizes that are needed:
+ * nothing is handed out; or NULL. A name takes at most WISANGUB_NAME octets, and a value that was set less than
+ * WISANGUB_DATAGRAM. No memory is taken.
+ */
+WISANGUB_INLINE enum wisangub_answer wisangub_sign_taken(struct wisangub_sign *sign, void *name, size_t name_room,
+                                                         size_t *name_size, struct wisangub_value *value, void *octets,
+                                                         size_t room, size_t *size)
+{
+    uint8_t none[2] = {0, 0}, *names = wisangub_buffer(name, name_room, none);
+    uint8_t *buffer = wisangub_buffer(octets, room, none + 1);
+    if (sign == NULL || sign->at == NULL || names == NULL || name_size == NULL || value == NULL || buffer == NULL
+        || size == NULL) {
+        return WISANGUB_NULL;
+    }
+    return (enum wisangub_answer)wisangub_sign_taken_at(sign, names, name_room, name_size, value, buffer, room, size);
 }
 
 /*
@@ -494,8 +632,8 @@ WISANGUB_INLINE enum wisangub_answer wisangub_row_bits(const uint8_t *looks, siz
 }
 
 /*
- * Gives the checksum of a message (dmsMessageCRC) in *crc: of its text and its two bits, each 0 or 1. Answers DONE or
- * NULL.
+ * Gives the checksum of a message (dmsMessageCRC) in *crc: of its text and its two bits, each 0 or 1. Answers DONE;
+ * RANGE, where one of them is another number; or NULL.
  */
 WISANGUB_INLINE enum wisangub_answer wisangub_crc(const void *text, size_t text_size, uint8_t beacon, uint8_t pixel,
                                                   uint16_t *crc)
@@ -503,11 +641,13 @@ WISANGUB_INLINE enum wisangub_answer wisangub_crc(const void *text, size_t text_
     if (text == NULL || crc == NULL || !WISANGUB_OF_THIS_VERSION) {
         return WISANGUB_NULL;
     }
-    *crc = wisangub_crc_at((const uint8_t *)text, text_size, beacon, pixel);
-    return WISANGUB_DONE;
+    return (enum wisangub_answer)wisangub_crc_at((const uint8_t *)text, text_size, beacon, pixel, crc);
 }
 
-/* The five octets of a message's name (MessageIDCode). Answers DONE, TOO_SMALL or NULL. */
+/*
+ * The five octets of a message's name (MessageIDCode). Answers DONE; RANGE, where the memory or the order is none of
+ * those that there are; TOO_SMALL; or NULL.
+ */
 WISANGUB_INLINE enum wisangub_answer wisangub_message_code(enum wisangub_order order, const struct wisangub_code *parts,
                                                            void *code, size_t room, size_t *size)
 {
@@ -515,10 +655,10 @@ WISANGUB_INLINE enum wisangub_answer wisangub_message_code(enum wisangub_order o
     if (parts == NULL || buffer == NULL || size == NULL || !WISANGUB_OF_THIS_VERSION) {
         return WISANGUB_NULL;
     }
-    return (enum wisangub_answer)wisangub_message_code_at((uint8_t)order, parts, buffer, room, size);
+    return (enum wisangub_answer)wisangub_message_code_at(wisangub_octet((unsigned)order), parts, buffer, room, size);
 }
 
-/* The twelve octets that activate a message (MessageActivationCode). Answers DONE, TOO_SMALL or NULL. */
+/* The twelve octets that activate a message (MessageActivationCode). Answers as wisangub_message_code does. */
 WISANGUB_INLINE enum wisangub_answer wisangub_activation_code(enum wisangub_order order,
                                                               const struct wisangub_code *parts, void *code,
                                                               size_t room, size_t *size)
@@ -527,7 +667,7 @@ WISANGUB_INLINE enum wisangub_answer wisangub_activation_code(enum wisangub_orde
     if (parts == NULL || buffer == NULL || size == NULL || !WISANGUB_OF_THIS_VERSION) {
         return WISANGUB_NULL;
     }
-    return (enum wisangub_answer)wisangub_activation_code_at((uint8_t)order, parts, buffer, room, size);
+    return (enum wisangub_answer)wisangub_activation_code_at(wisangub_octet((unsigned)order), parts, buffer, room, size);
 }
 
 /* Gives the sign's memory back and sets `at` to null. A sign that is not made stays as it is. */
@@ -541,8 +681,8 @@ WISANGUB_INLINE void wisangub_sign_free(struct wisangub_sign *sign)
 /*
  * Makes a central system, which sends requests with this community of 1 to 32 octets; `first` is the number of the
  * first one. One that is made again must begin above all numbers that it ever used: the caller keeps them
- * (docs/JOURNAL.md). Answers DONE; FAULT, where the community has another size; MEMORY; or NULL, also where it is made
- * already.
+ * (docs/JOURNAL.md). Answers DONE; RANGE, where the order is none; FAULT, where the community has another size; MEMORY;
+ * or NULL, also where it is made already.
  */
 WISANGUB_INLINE enum wisangub_answer wisangub_centre_new(struct wisangub_centre *centre, const void *community,
                                                          size_t community_size, enum wisangub_order order,
@@ -551,8 +691,8 @@ WISANGUB_INLINE enum wisangub_answer wisangub_centre_new(struct wisangub_centre 
     if (centre == NULL || centre->at != NULL || community == NULL || !WISANGUB_OF_THIS_VERSION) {
         return WISANGUB_NULL;
     }
-    return (enum wisangub_answer)wisangub_centre_new_at((const uint8_t *)community, community_size, (uint8_t)order,
-                                                        first, centre);
+    return (enum wisangub_answer)wisangub_centre_new_at((const uint8_t *)community, community_size,
+                                                        wisangub_octet((unsigned)order), first, centre);
 }
 
 /*

@@ -3,8 +3,8 @@ use Rattle.std.specs.Prelude.{ℕ, ◌==◌, if◌then◌else◌, List, ◌++◌
 use Rattle.dms_wire_ber.specs.Limits.{longest_datagram}
 use Rattle.dms_sign_text.specs.declared.fault.DescriptionFault.{DescriptionFault}
 use Rattle.dms_sign_text.specs.declared.fault.DescriptionFault.TheVariants as faults
-use Rattle.dms_sign.specs.State.{SignState}
-use Rattle.dms_sign.specs.Reply.{received}
+use Rattle.dms_agent.specs.declared.agent.Agent.{Agent}
+use Rattle.dms_agent.specs.Received.{agent_received}
 
 -- it is done
 abbrev pub done : ℕ
@@ -34,7 +34,7 @@ busy = 6
 abbrev pub numbers_used_up : ℕ
 numbers_used_up = 7
 
--- a command is not taken: a value of it is out of its range
+-- a value is out of its range, and nothing is done
 abbrev pub out_of_range : ℕ
 out_of_range = 8
 
@@ -50,6 +50,20 @@ given_answer octets room = if nat_lt room (length octets) then too_small else do
 
 abbrev pub given_buffer : List ℕ → List ℕ → List ℕ
 given_buffer octets buffer = if nat_lt (length buffer) (length octets) then buffer else put_first octets buffer
+
+-- ---- octets that there are where each value is in its range, and else nothing is done
+
+abbrev pub ranged_answer : Option (List ℕ) → ℕ → ℕ
+ranged_answer None room = out_of_range
+ranged_answer (Some octets) room = given_answer octets room
+
+abbrev pub ranged_size : Option (List ℕ) → ℕ → ℕ
+ranged_size None old = old
+ranged_size (Some octets) old = length octets
+
+abbrev pub ranged_buffer : Option (List ℕ) → List ℕ → List ℕ
+ranged_buffer None buffer = buffer
+ranged_buffer (Some octets) buffer = given_buffer octets buffer
 
 -- out of memory what is old stays
 abbrev pub unless_memory : {A : Type 0} → ℕ → A → A → A
@@ -80,19 +94,20 @@ abbrev pub buffer_with : Option (List ℕ) → List ℕ → List ℕ
 buffer_with None buffer = buffer
 buffer_with (Some octets) buffer = put_first octets buffer
 
--- ---- a datagram to a sign: one that comes with a buffer which could not take every reply is not heard
+-- ---- a datagram to a sign and the objects beside it: one that comes with a buffer which could not take every reply is
+-- not heard
 
-abbrev pub after_datagram : SignState → List ℕ → ℕ → SignState
-after_datagram s datagram room = if nat_lt room longest_datagram then s else (received s datagram).after
+abbrev pub after_datagram : Agent → List ℕ → ℕ → Agent
+after_datagram a datagram room = if nat_lt room longest_datagram then a else (agent_received a datagram).after
 
-abbrev pub datagram_answer : SignState → List ℕ → ℕ → ℕ
-datagram_answer s datagram room =
-    if nat_lt room longest_datagram then too_small else answer_of (received s datagram).reply
+abbrev pub datagram_answer : Agent → List ℕ → ℕ → ℕ
+datagram_answer a datagram room =
+    if nat_lt room longest_datagram then too_small else answer_of (agent_received a datagram).reply
 
-abbrev pub datagram_size : SignState → List ℕ → ℕ → ℕ
-datagram_size s datagram room =
-    if nat_lt room longest_datagram then longest_datagram else size_of (received s datagram).reply
+abbrev pub datagram_size : Agent → List ℕ → ℕ → ℕ
+datagram_size a datagram room =
+    if nat_lt room longest_datagram then longest_datagram else size_of (agent_received a datagram).reply
 
-abbrev pub datagram_buffer : SignState → List ℕ → List ℕ → List ℕ
-datagram_buffer s datagram buffer =
-    if nat_lt (length buffer) longest_datagram then buffer else buffer_with (received s datagram).reply buffer
+abbrev pub datagram_buffer : Agent → List ℕ → List ℕ → List ℕ
+datagram_buffer a datagram buffer =
+    if nat_lt (length buffer) longest_datagram then buffer else buffer_with (agent_received a datagram).reply buffer

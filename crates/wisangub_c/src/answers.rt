@@ -24,7 +24,7 @@ pub(crate) const BUSY: u32 = 6;
 /// A command is not taken: no request number is left.
 pub(crate) const NUMBERS_USED_UP: u32 = 7;
 
-/// A command is not taken: a value of it is out of its range.
+/// A value is out of its range, and nothing is done.
 pub(crate) const OUT_OF_RANGE: u32 = 8;
 
 /// Puts the octets first in a buffer that has room for them.

@@ -1,7 +1,7 @@
 //! A central system's calls from C.
 
 ghost use Rattle.std.specs.Prelude.{◌≡◌, ◌⊎◌, ◌≤◌, ◌<◌, ◌==◌, true, false, length, IsTrue, slice_get};
-ghost use Rattle.std.specs.Prelude.{None, IfOk, IfErr};
+ghost use Rattle.std.specs.Prelude.{None, IfOk, IfErr, IfSome, is_none};
 ghost use denote.RawPtr.{null_ptr};
 ghost use Rattle.dms_wire_ber.specs.Limits.{longest_datagram};
 ghost use Rattle.dms_codes.specs.Limits.{has_community_size};
@@ -12,7 +12,7 @@ ghost use Rattle.dms_centre.specs.Commands.{commanded, refusal_of};
 ghost use Rattle.dms_centre_jobs.specs.CodeView.{command_model};
 ghost use Rattle.dms_centre.specs.CodeView.{settings_model, entry_model, sent_in};
 ghost use Rattle.wisangub_c.specs.Answers.{done, no_memory, too_small, at_fault, unless_memory, answer_of, size_of};
-ghost use Rattle.wisangub_c.specs.Answers.{buffer_with};
+ghost use Rattle.wisangub_c.specs.Answers.{buffer_with, out_of_range};
 ghost use Rattle.wisangub_c.specs.Codes.{order_of};
 ghost use Rattle.dms_centre.specs.Room.{enters_by};
 ghost use Rattle.dms_centre_text.specs.CommandReading.{command_of, has_octets, IsOfOctets};
@@ -98,6 +98,7 @@ fn made(alloc: Global, settings: Settings<'_>, first: u32) -> Result<Box<Centre>
 }
 
 /// Makes a central system, in the place `centre`: its requests have this community and begin with the number `first`.
+/// An order that is none is found first.
 #[unsafe(no_mangle)]
 pub extern "C" fn wisangub_centre_new_at(
     alloc: Global,
@@ -106,18 +107,19 @@ pub extern "C" fn wisangub_centre_new_at(
     first: u32,
     centre: &mut CentrePlace,
 ) -> u32
-    ensures answer { (result ≡ done) ⊎ ((result ≡ at_fault) ⊎ (result ≡ no_memory)) }
-    ensures made { result ≡ done
-        → IsPlaced (start (record { community = community.now; order = order_of order }) first) centre.new.value }
+    ensures answer { (result ≡ done) ⊎ ((result ≡ at_fault) ⊎ ((result ≡ no_memory) ⊎ (result ≡ out_of_range))) }
+    ensures range { (result == out_of_range) ≡ is_none (order_of order) }
+    ensures made { result ≡ done → IfSome (order_of order)
+        (λ which. IsPlaced (start (record { community = community.now; order = which }) first) centre.new.value) }
     ensures community { result ≡ done → IsTrue (has_community_size community.now) }
     ensures fault { result ≡ at_fault → has_community_size community.now ≡ false }
     ensures memory { result ≡ no_memory → IsTrue (has_community_size community.now) }
     ensures unchanged { (result == done) ≡ false → centre.new ≡ centre.old }
 {
-    let settings = Settings {
-        community,
-        order: order_of(order),
+    let Some(order) = order_of(order) else {
+        return OUT_OF_RANGE;
     };
+    let settings = Settings { community, order };
     match made(alloc, settings, first) {
         Ok(made) => {
             centre.put(CentrePlace::of(Loose::of(made)));

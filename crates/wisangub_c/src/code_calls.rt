@@ -1,13 +1,12 @@
 //! Checksums and codes, from C.
 
 ghost use Rattle.std.specs.Prelude.{◌≡◌, length};
-ghost use Rattle.dms_codes.specs.Checksum.{message_checksum};
-ghost use Rattle.dms_codes.specs.Codes.{octets_of_id, octets_of_activation};
-ghost use Rattle.wisangub_c.specs.Answers.{given_answer, given_buffer};
-ghost use Rattle.wisangub_c.specs.Codes.{order_of, message_of, activation_of};
+ghost use Rattle.wisangub_c.specs.Answers.{ranged_answer, ranged_size, ranged_buffer};
+ghost use Rattle.wisangub_c.specs.Codes.{order_of, order_in, message_of, activation_of, message_code, activation_code};
+ghost use Rattle.wisangub_c.specs.Codes.{checksum_answer, checksum_after};
 
-use crate::answers::give;
-use dms_codes::{Activation, MessageId, Order, crc};
+use crate::answers::{DONE, OUT_OF_RANGE, give};
+use dms_codes::{Activation, Memory, MessageId, Order, crc};
 
 /// What a code says. A message's name is its memory, its number and its checksum alone.
 #[repr(C)]
@@ -27,14 +26,24 @@ pub struct CodeParts {
     pub address: [u8; 4],
 }
 
-/// Which octet of a checksum is first: at 0 the high one, else the low one.
-pub(crate) fn order_of(number: u8) -> Order
+/// Which octet of a checksum is first: at 0 the high one, at 1 the low one.
+pub(crate) fn order_of(number: u8) -> Option<Order>
     ensures { result ≡ order_of number }
 {
-    if number == 0 {
-        Order::High
-    } else {
-        Order::Swapped
+    match number {
+        0 => Some(Order::High),
+        1 => Some(Order::Swapped),
+        _ => None,
+    }
+}
+
+/// The order of a code that names a type of memory.
+fn order_in(order: u8, parts: &CodeParts) -> Option<Order>
+    ensures { result ≡ order_in order parts.now }
+{
+    match Memory::of(parts.memory) {
+        Some(_) => order_of(order),
+        None => None,
     }
 }
 
@@ -59,15 +68,21 @@ fn activation_of(parts: &CodeParts) -> Activation
     }
 }
 
-/// The checksum of a message.
+/// The checksum of a message whose beacon and pixel service are 0, off, or 1, on.
 #[unsafe(no_mangle)]
-pub extern "C" fn wisangub_crc_at(text: &[u8], beacon: u8, pixel: u8) -> u16
-    ensures { result ≡ message_checksum text.now beacon pixel }
+pub extern "C" fn wisangub_crc_at(text: &[u8], beacon: u8, pixel: u8, checksum: &mut u16) -> u32
+    ensures answer { result ≡ checksum_answer beacon pixel }
+    ensures checksum { checksum.new ≡ checksum_after text.now beacon pixel checksum.old }
 {
-    crc(text, beacon, pixel)
+    if beacon < 2 && pixel < 2 {
+        *checksum = crc(text, beacon, pixel);
+        DONE
+    } else {
+        OUT_OF_RANGE
+    }
 }
 
-/// The five octets that name a message.
+/// The five octets that name a message, of an order and a type of memory that there are.
 #[unsafe(no_mangle)]
 pub extern "C" fn wisangub_message_code_at(
     order: u8,
@@ -75,14 +90,17 @@ pub extern "C" fn wisangub_message_code_at(
     code: &mut [u8],
     size: &mut usize,
 ) -> u32
-    ensures answer { result ≡ given_answer (octets_of_id (order_of order) (message_of parts.now)) (length code.old) }
-    ensures size { size.new ≡ length (octets_of_id (order_of order) (message_of parts.now)) }
-    ensures code { code.new ≡ given_buffer (octets_of_id (order_of order) (message_of parts.now)) code.old }
+    ensures answer { result ≡ ranged_answer (message_code order parts.now) (length code.old) }
+    ensures size { size.new ≡ ranged_size (message_code order parts.now) size.old }
+    ensures code { code.new ≡ ranged_buffer (message_code order parts.now) code.old }
 {
-    give(&message_of(parts).to_bytes(order_of(order)), code, size)
+    match order_in(order, parts) {
+        Some(order) => give(&message_of(parts).to_bytes(order), code, size),
+        None => OUT_OF_RANGE,
+    }
 }
 
-/// The twelve octets that activate a message.
+/// The twelve octets that activate a message, of an order and a type of memory that there are.
 #[unsafe(no_mangle)]
 pub extern "C" fn wisangub_activation_code_at(
     order: u8,
@@ -90,10 +108,12 @@ pub extern "C" fn wisangub_activation_code_at(
     code: &mut [u8],
     size: &mut usize,
 ) -> u32
-    ensures answer { result ≡ given_answer (octets_of_activation (order_of order) (activation_of parts.now))
-        (length code.old) }
-    ensures size { size.new ≡ length (octets_of_activation (order_of order) (activation_of parts.now)) }
-    ensures code { code.new ≡ given_buffer (octets_of_activation (order_of order) (activation_of parts.now)) code.old }
+    ensures answer { result ≡ ranged_answer (activation_code order parts.now) (length code.old) }
+    ensures size { size.new ≡ ranged_size (activation_code order parts.now) size.old }
+    ensures code { code.new ≡ ranged_buffer (activation_code order parts.now) code.old }
 {
-    give(&activation_of(parts).to_bytes(order_of(order)), code, size)
+    match order_in(order, parts) {
+        Some(order) => give(&activation_of(parts).to_bytes(order), code, size),
+        None => OUT_OF_RANGE,
+    }
 }

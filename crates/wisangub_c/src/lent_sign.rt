@@ -1,20 +1,20 @@
-//! The sign of a handle: lent.
+//! The sign of a handle and the objects beside it: lent.
 
 ghost use Rattle.std.specs.Prelude.{◌≡◌};
 ghost use Rattle.std.specs.Borrow.{sem, follows};
-ghost use Rattle.dms_sign.specs.contracts.sign.Sign.{the_row as sign_row};
+ghost use Rattle.dms_agent.specs.contracts.agent.Agent.{the_row as agent_row};
 ghost use Rattle.wisangub_c.specs.contracts.sign_handle.SignHandle.{the_row as handle_row};
 
 use crate::sign_handle::SignHandle;
-use dms_sign::Sign;
+use dms_agent::Agent;
 
 impl SignHandle {
-    /// The sign. What is done to it is done to the handle's.
-    pub(crate) fn as_mut(&mut self) -> &mut Sign
-        ensures* writes_back { sem 𝓛 (follows handle_row sign_row self.entry.ghost_name result.ghost_name
+    /// The sign and the objects beside it. What is done to them is done to the handle's.
+    pub(crate) fn as_mut(&mut self) -> &mut Agent
+        ensures* writes_back { sem 𝓛 (follows handle_row agent_row self.entry.ghost_name result.ghost_name
             (λ w. record self.entry.now { value = w })) }
         ensures value { result.now ≡ self.old.value }
     {
-        unsafe { &mut *(self.at as *mut Sign) }
+        unsafe { &mut *(self.at as *mut Agent) }
     }
 }

@@ -16,6 +16,8 @@ pub mod code_calls;
 mod lent_centre;
 mod lent_sign;
 mod loose;
+pub mod object_calls;
+mod object_values;
 pub mod page_calls;
 mod placed_centre;
 mod placed_sign;

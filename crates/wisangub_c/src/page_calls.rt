@@ -1,19 +1,30 @@
 //! Pages of what a sign shows and of any text, from C.
 
-ghost use Rattle.std.specs.Prelude.{◌≡◌, ◌<◌, length, is_ok, IsTrue};
-ghost use Rattle.dms_face_pages.specs.PageOctets.{layer_of, pages_octets, row_bits};
+ghost use Rattle.std.specs.Prelude.{◌≡◌, ◌<◌, ◌&&◌, length, is_ok, is_some, IsTrue};
+ghost use Rattle.dms_face_pages.specs.PageOctets.{pages_octets, row_bits};
 ghost use Rattle.dms_face_pages.specs.Drawn.{drawn_text};
 ghost use Rattle.dms_sign_lines.specs.Answer.{has_pages};
 ghost use Rattle.wisangub_c.specs.Answers.{no_memory, given_answer, given_buffer, unless_memory};
-ghost use Rattle.wisangub_c.specs.Shown.{fault_after};
-ghost use Rattle.wisangub_c.specs.Pages.{shown_octets, drawn_answer, drawn_size, drawn_buffer};
+ghost use Rattle.wisangub_c.specs.Answers.{ranged_answer, ranged_size, ranged_buffer};
+ghost use Rattle.wisangub_c.specs.Pages.{layer_at, shown_octets, drawn_answer, drawn_size, drawn_buffer, drawn_fault};
 
-use crate::answers::{AT_FAULT, DONE, NO_MEMORY, TOO_SMALL, give};
+use crate::answers::{AT_FAULT, DONE, NO_MEMORY, OUT_OF_RANGE, TOO_SMALL, give};
 use crate::shown_calls::{TextFault, text_fault};
 use crate::sign_handle::SignHandle;
 use dms_face_pages::{Layer, Page, PagesFault, bits_needed, pages, pages_octets, put_bits};
 use dms_sign_lines::shown_pages;
 use std::alloc::Global;
+
+/// What an octet says of its cell: 0, 1 or 2, and no other number.
+fn layer_at(number: u8) -> Option<Layer>
+    ensures { result ≡ layer_at number }
+{
+    if number < 3 {
+        Some(Layer::of(number))
+    } else {
+        None
+    }
+}
 
 /// Gives the octets of pages.
 fn give_pages(
@@ -47,14 +58,18 @@ pub extern "C" fn wisangub_sign_pages_at(
 ) -> u32
     ensures same { sign.new.value ≡ sign.old.value }
     ensures answer { result ≡ unless_memory result no_memory
-        (given_answer (shown_octets (layer_of layer) sign.old.value) (length octets.old)) }
-    ensures size { size.new ≡ unless_memory result size.old (length (shown_octets (layer_of layer) sign.old.value)) }
+        (ranged_answer (shown_octets layer sign.old.value.sign) (length octets.old)) }
+    ensures size { size.new ≡ unless_memory result size.old
+        (ranged_size (shown_octets layer sign.old.value.sign) size.old) }
     ensures octets { octets.new ≡ unless_memory result octets.old
-        (given_buffer (shown_octets (layer_of layer) sign.old.value) octets.old) }
-    ensures memory { result ≡ no_memory → IsTrue (has_pages sign.old.value) }
+        (ranged_buffer (shown_octets layer sign.old.value.sign) octets.old) }
+    ensures memory { result ≡ no_memory → IsTrue (is_some (layer_at layer) && has_pages sign.old.value.sign) }
 {
-    match shown_pages(alloc, sign.as_mut()) {
-        Ok(pages) => give_pages(alloc, Layer::of(layer), pages.as_slice(), octets, size),
+    let Some(layer) = layer_at(layer) else {
+        return OUT_OF_RANGE;
+    };
+    match shown_pages(alloc, sign.as_mut().sign()) {
+        Ok(pages) => give_pages(alloc, layer, pages.as_slice(), octets, size),
         Err(_) => NO_MEMORY,
     }
 }
@@ -72,17 +87,21 @@ pub extern "C" fn wisangub_sign_text_pages_at(
 ) -> u32
     ensures same { sign.new.value ≡ sign.old.value }
     ensures answer { result ≡ unless_memory result no_memory
-        (drawn_answer (layer_of layer) (drawn_text sign.old.value.config.face text.now) (length octets.old)) }
+        (drawn_answer (layer_at layer) (drawn_text sign.old.value.sign.config.face text.now) (length octets.old)) }
     ensures size { size.new ≡ unless_memory result size.old
-        (drawn_size (layer_of layer) (drawn_text sign.old.value.config.face text.now) size.old) }
+        (drawn_size (layer_at layer) (drawn_text sign.old.value.sign.config.face text.now) size.old) }
     ensures octets { octets.new ≡ unless_memory result octets.old
-        (drawn_buffer (layer_of layer) (drawn_text sign.old.value.config.face text.now) octets.old) }
+        (drawn_buffer (layer_at layer) (drawn_text sign.old.value.sign.config.face text.now) octets.old) }
     ensures fault { fault.new ≡ unless_memory result fault.old
-        (fault_after (drawn_text sign.old.value.config.face text.now) fault.old) }
-    ensures memory { result ≡ no_memory → IsTrue (is_ok (drawn_text sign.old.value.config.face text.now)) }
+        (drawn_fault (layer_at layer) (drawn_text sign.old.value.sign.config.face text.now) fault.old) }
+    ensures memory { result ≡ no_memory
+        → IsTrue (is_some (layer_at layer) && is_ok (drawn_text sign.old.value.sign.config.face text.now)) }
 {
-    match pages(alloc, sign.as_mut().face(), text) {
-        Ok(pages) => give_pages(alloc, Layer::of(layer), pages.as_slice(), octets, size),
+    let Some(layer) = layer_at(layer) else {
+        return OUT_OF_RANGE;
+    };
+    match pages(alloc, sign.as_mut().sign().face(), text) {
+        Ok(pages) => give_pages(alloc, layer, pages.as_slice(), octets, size),
         Err(PagesFault::Multi(found)) => {
             *fault = text_fault(found);
             AT_FAULT

@@ -71,19 +71,19 @@ pub(crate) fn text_fault(fault: MultiFault) -> TextFault
 #[unsafe(no_mangle)]
 pub extern "C" fn wisangub_sign_shown_at(sign: &mut SignHandle, shown: &mut ShownNow)
     ensures same { sign.new.value ≡ sign.old.value }
-    ensures shown { shown.new ≡ shown_now sign.old.value.shown }
+    ensures shown { shown.new ≡ shown_now sign.old.value.sign.shown }
 {
-    *shown = shown_now(sign.as_mut());
+    *shown = shown_now(sign.as_mut().sign());
 }
 
 /// The columns and the rows of the sign's matrix.
 #[unsafe(no_mangle)]
 pub extern "C" fn wisangub_sign_matrix_at(sign: &mut SignHandle, width: &mut u16, height: &mut u16)
     ensures same { sign.new.value ≡ sign.old.value }
-    ensures width { width.new ≡ sign.old.value.config.face.width }
-    ensures height { height.new ≡ sign.old.value.config.face.height }
+    ensures width { width.new ≡ sign.old.value.sign.config.face.width }
+    ensures height { height.new ≡ sign.old.value.sign.config.face.height }
 {
-    let face = sign.as_mut().face();
+    let face = sign.as_mut().sign().face();
     *width = face.width();
     *height = face.height();
 }
@@ -96,11 +96,11 @@ pub extern "C" fn wisangub_sign_text_at(
     size: &mut usize,
 ) -> u32
     ensures same { sign.new.value ≡ sign.old.value }
-    ensures answer { result ≡ given_answer sign.old.value.shown.text (length text.old) }
-    ensures size { size.new ≡ length sign.old.value.shown.text }
-    ensures text { text.new ≡ given_buffer sign.old.value.shown.text text.old }
+    ensures answer { result ≡ given_answer sign.old.value.sign.shown.text (length text.old) }
+    ensures size { size.new ≡ length sign.old.value.sign.shown.text }
+    ensures text { text.new ≡ given_buffer sign.old.value.sign.shown.text text.old }
 {
-    give(sign.as_mut().shown().text.as_slice(), text, size)
+    give(sign.as_mut().sign().shown().text.as_slice(), text, size)
 }
 
 /// The community that may only read.
@@ -111,11 +111,11 @@ pub extern "C" fn wisangub_sign_reader_at(
     size: &mut usize,
 ) -> u32
     ensures same { sign.new.value ≡ sign.old.value }
-    ensures answer { result ≡ given_answer sign.old.value.config.reader (length community.old) }
-    ensures size { size.new ≡ length sign.old.value.config.reader }
-    ensures community { community.new ≡ given_buffer sign.old.value.config.reader community.old }
+    ensures answer { result ≡ given_answer sign.old.value.sign.config.reader (length community.old) }
+    ensures size { size.new ≡ length sign.old.value.sign.config.reader }
+    ensures community { community.new ≡ given_buffer sign.old.value.sign.config.reader community.old }
 {
-    give(sign.as_mut().reader(), community, size)
+    give(sign.as_mut().sign().reader(), community, size)
 }
 
 /// The community that may write.
@@ -126,11 +126,11 @@ pub extern "C" fn wisangub_sign_writer_at(
     size: &mut usize,
 ) -> u32
     ensures same { sign.new.value ≡ sign.old.value }
-    ensures answer { result ≡ given_answer sign.old.value.config.writer (length community.old) }
-    ensures size { size.new ≡ length sign.old.value.config.writer }
-    ensures community { community.new ≡ given_buffer sign.old.value.config.writer community.old }
+    ensures answer { result ≡ given_answer sign.old.value.sign.config.writer (length community.old) }
+    ensures size { size.new ≡ length sign.old.value.sign.config.writer }
+    ensures community { community.new ≡ given_buffer sign.old.value.sign.config.writer community.old }
 {
-    give(sign.as_mut().writer(), community, size)
+    give(sign.as_mut().sign().writer(), community, size)
 }
 
 /// Whether a text can be shown on the sign's face under the face's own defaults: the number of its pages, or its fault.
@@ -142,11 +142,11 @@ pub extern "C" fn wisangub_sign_check_at(
     fault: &mut TextFault,
 ) -> u32
     ensures same { sign.new.value ≡ sign.old.value }
-    ensures answer { result ≡ check_answer (checked_text sign.old.value.config.face text.now) }
-    ensures count { count.new ≡ count_after (checked_text sign.old.value.config.face text.now) count.old }
-    ensures fault { fault.new ≡ fault_after (checked_text sign.old.value.config.face text.now) fault.old }
+    ensures answer { result ≡ check_answer (checked_text sign.old.value.sign.config.face text.now) }
+    ensures count { count.new ≡ count_after (checked_text sign.old.value.sign.config.face text.now) count.old }
+    ensures fault { fault.new ≡ fault_after (checked_text sign.old.value.sign.config.face text.now) fault.old }
 {
-    match check(sign.as_mut().face(), text) {
+    match check(sign.as_mut().sign().face(), text) {
         Ok(found) => {
             *count = found;
             DONE

@@ -8,8 +8,10 @@ ghost use Rattle.dms_text.specs.Lines.{kept_lines};
 ghost use Rattle.dms_sign_text.specs.Description.{Description, SpellsSign};
 ghost use Rattle.dms_sign_text.specs.RefusedLine.{all_numbered, IsRefusedLine, NamesLine};
 ghost use Rattle.dms_sign.specs.State.{start};
-ghost use Rattle.dms_sign.specs.Reply.{received, after_get};
+ghost use Rattle.dms_sign.specs.Reply.{after_get};
 ghost use Rattle.dms_sign.specs.Events.{after_tick, after_power_loss, after_power_return};
+ghost use Rattle.dms_agent.specs.Promises.{alone};
+ghost use Rattle.dms_agent.specs.Received.{agent_received};
 ghost use Rattle.wisangub_c.specs.Answers.{done, no_memory, at_fault, answer_of, size_of, buffer_with, after_datagram};
 ghost use Rattle.wisangub_c.specs.Answers.{fault_answer, line_after};
 ghost use Rattle.wisangub_c.specs.Answers.{datagram_answer, datagram_size, datagram_buffer};
@@ -18,35 +20,37 @@ use crate::answers::{AT_FAULT, DONE, NO_MEMORY, NOTHING_SENT, TOO_SMALL, put_fir
 use crate::loose::Loose;
 use crate::sign_handle::SignHandle;
 use crate::sign_place::SignPlace;
-use dms_sign::{Receipt, Sign};
+use dms_agent::Agent;
+use dms_sign::Receipt;
 use dms_sign_text::{DescriptionFault, Setup, description};
 use dms_wire::{MAX_DATAGRAM, Out};
 use std::alloc::Global;
 
-/// A sign on the heap, and the number of the first request of its centre.
+/// A sign on the heap, beside which nothing is published, and the number of the first request of its centre.
 #[derive(Drop)]
 struct NewSign {
-    sign: Box<Sign>,
+    sign: Box<Agent>,
     first: u32,
 }
 
 /// The sign of a description, on the heap.
 fn made(alloc: Global, text: &[u8]) -> Result<NewSign, DescriptionFault>
     ensures made { IfOk result (λ made. (it : Description) × SpellsSign (kept_lines text.now) it
-        × (made.sign.value ≡ start it.config it.table) × (made.first ≡ it.first)) }
+        × (made.sign.value ≡ alone (start it.config it.table)) × (made.first ≡ it.first)) }
     ensures fault { IfErr result (λ fault. (fault ≡ DescriptionFault.Memory)
         ⊎ ((it : Description) → SpellsSign (kept_lines text.now) it → ⊥)) }
     ensures number { IfErr result (NamesLine (IsRefusedLine (all_numbered (lines text.now)))) }
 {
     let Setup { sign, first } = description(alloc, text)?;
-    match Box::new(alloc, sign) {
+    match Box::new(alloc, Agent::new(alloc, sign)) {
         Ok(sign) => Ok(NewSign { sign, first }),
         Err(_) => Err(DescriptionFault::Memory),
     }
 }
 
-/// Makes the sign of a description, in the place `sign`: `first` is the number of the first request of its centre.
-/// Where the description is at fault, `line` is the number of the line for which it is refused, from 1.
+/// Makes the sign of a description, beside which nothing is published, in the place `sign`: `first` is the number of
+/// the first request of its centre. Where the description is at fault, `line` is the number of the line for which it is
+/// refused, from 1.
 #[unsafe(no_mangle)]
 pub extern "C" fn wisangub_sign_new_at(
     alloc: Global,
@@ -57,7 +61,7 @@ pub extern "C" fn wisangub_sign_new_at(
 ) -> u32
     ensures answer { (result ≡ done) ⊎ ((result ≡ at_fault) ⊎ (result ≡ no_memory)) }
     ensures made { result ≡ done → (it : Description) × SpellsSign (kept_lines text.now) it
-        × (sign.new.value ≡ Some (start it.config it.table)) × (first.new ≡ it.first) }
+        × (sign.new.value ≡ Some (alone (start it.config it.table))) × (first.new ≡ it.first) }
     ensures fault { result ≡ at_fault → (it : Description) → SpellsSign (kept_lines text.now) it → ⊥ }
     ensures number { result ≡ at_fault → IsRefusedLine (all_numbered (lines text.now)) line.new }
     ensures unchanged { (result == done) ≡ false → (sign.new ≡ sign.old) × (first.new ≡ first.old) }
@@ -87,13 +91,13 @@ fn fault_answer(fault: DescriptionFault, line: &mut usize) -> u32
     }
 }
 
-/// Hands the sign a datagram, where there is room for every reply.
-fn hear(sign: &mut Sign, datagram: &[u8], reply: &mut [u8], size: &mut usize) -> u32
+/// Hands a datagram to the sign and the objects beside it, where there is room for every reply.
+fn hear(sign: &mut Agent, datagram: &[u8], reply: &mut [u8], size: &mut usize) -> u32
     requires { longest_datagram ≤ length reply.old }
-    ensures after { sign.new ≡ (received sign.old datagram.now).after }
-    ensures answer { result ≡ answer_of (received sign.old datagram.now).reply }
-    ensures size { size.new ≡ size_of (received sign.old datagram.now).reply }
-    ensures reply { reply.new ≡ buffer_with (received sign.old datagram.now).reply reply.old }
+    ensures after { sign.new ≡ (agent_received sign.old datagram.now).after }
+    ensures answer { result ≡ answer_of (agent_received sign.old datagram.now).reply }
+    ensures size { size.new ≡ size_of (agent_received sign.old datagram.now).reply }
+    ensures reply { reply.new ≡ buffer_with (agent_received sign.old datagram.now).reply reply.old }
 {
     let mut out = Out::new();
     match sign.receive(datagram, &mut out) {
@@ -109,8 +113,8 @@ fn hear(sign: &mut Sign, datagram: &[u8], reply: &mut [u8], size: &mut usize) ->
     }
 }
 
-/// Hands the sign a datagram. The reply stands first in `reply`, `size` octets; with fewer than 1472 octets of room the
-/// sign hears nothing.
+/// Hands a datagram to the sign and the objects beside it. The reply stands first in `reply`, `size` octets; with fewer
+/// than 1472 octets of room they hear nothing.
 #[unsafe(no_mangle)]
 pub extern "C" fn wisangub_sign_receive_at(
     sign: &mut SignHandle,
@@ -133,7 +137,7 @@ pub extern "C" fn wisangub_sign_receive_at(
 /// A second passes.
 #[unsafe(no_mangle)]
 pub extern "C" fn wisangub_sign_tick_at(sign: &mut SignHandle)
-    ensures { sign.new.value ≡ after_tick sign.old.value }
+    ensures { sign.new.value ≡ record sign.old.value { sign = after_tick sign.old.value.sign } }
 {
     sign.as_mut().tick();
 }
@@ -141,15 +145,15 @@ pub extern "C" fn wisangub_sign_tick_at(sign: &mut SignHandle)
 /// The silence is over, as after a Get that was answered: of a Get that was recorded so (docs/JOURNAL.md).
 #[unsafe(no_mangle)]
 pub extern "C" fn wisangub_sign_heard_at(sign: &mut SignHandle)
-    ensures { sign.new.value ≡ after_get sign.old.value }
+    ensures { sign.new.value ≡ record sign.old.value { sign = after_get sign.old.value.sign } }
 {
-    sign.as_mut().heard();
+    sign.as_mut().sign_mut().heard();
 }
 
 /// The power is lost.
 #[unsafe(no_mangle)]
 pub extern "C" fn wisangub_sign_power_lost_at(sign: &mut SignHandle)
-    ensures { sign.new.value ≡ after_power_loss sign.old.value }
+    ensures { sign.new.value ≡ record sign.old.value { sign = after_power_loss sign.old.value.sign } }
 {
     sign.as_mut().power_lost();
 }
@@ -157,7 +161,8 @@ pub extern "C" fn wisangub_sign_power_lost_at(sign: &mut SignHandle)
 /// The power is back after so many seconds.
 #[unsafe(no_mangle)]
 pub extern "C" fn wisangub_sign_power_back_at(sign: &mut SignHandle, seconds: u32)
-    ensures { sign.new.value ≡ after_power_return sign.old.value seconds }
+    ensures { sign.new.value
+        ≡ record sign.old.value { sign = after_power_return sign.old.value.sign seconds } }
 {
     sign.as_mut().power_back(seconds);
 }

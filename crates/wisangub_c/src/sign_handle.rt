@@ -1,20 +1,20 @@
-//! A sign behind a pointer, as C holds it.
+//! A sign and the objects beside it behind a pointer, as C holds them.
 
-ghost use Rattle.dms_sign.specs.State.{SignState};
+ghost use Rattle.dms_agent.specs.declared.agent.Agent.{Agent};
 
 use std::alloc::{Allocator, Global};
 use std::marker::Model;
 
-/// A sign behind a pointer. A contract sees the state of the sign.
+/// A sign behind a pointer. A contract sees the state of the sign, and the objects beside it.
 #[repr(C)]
 pub struct SignHandle {
     pub(crate) at: *mut u8,
     pub(crate) alloc: Global,
-    pub ghost value: { SignState },
+    pub ghost value: { Agent },
 }
 
 impl Model for SignHandle {
-    ghost use Rattle.dms_sign.specs.contracts.sign.Sign.{the_row};
+    ghost use Rattle.dms_agent.specs.contracts.agent.Agent.{the_row};
     ghost use Rattle.std.specs.Prelude.{Some};
     ghost use Rattle.wisangub_c.specs.Place.{held};
 

@@ -1,4 +1,4 @@
--- `as_mut` lends the sign behind a handle, and the handle follows it.
+-- `as_mut` lends the sign behind a handle, with the objects beside it, and the handle follows it.
 use mathlib.Core.Path.{◌≡◌, refl, sym, ap, ◌∙◌}
 use Prim.Native.Nat.{ℕ}
 use mathlib.Core.List.{List, [], ◌∷◌}
@@ -37,7 +37,7 @@ use Rattle.std.proofs.raw_atomic.Walks.{proved}
 use Rattle.std_alloc.specs.Box.Ownership.{box_owns}
 use Rattle.std_alloc.proofs.VecSteps.Shapes.{after}
 use Rattle.std.specs.contracts.impls.GlobalAllocator.TheImpl.{ghosts}
-use Rattle.dms_sign.specs.contracts.sign.Sign.{the_row as R}
+use Rattle.dms_agent.specs.contracts.agent.Agent.{the_row as R}
 use Rattle.wisangub_c.specs.contracts.sign_handle.SignHandle.{the_row as H, the_type}
 use Rattle.wisangub_c.proofs.sign_handle.SignHandle.TheLaws.{lowers}
 use Rattle.wisangub_c.specs.contracts.sign_handle.SignHandle.as_mut as f
@@ -70,7 +70,7 @@ module _ {M : Type 1} {𝓤 : Ura M} (𝓛 : Logic 𝓤) (at_mem : Memory → SP
   Post = (walk_of 𝓛 f.ended stayed c).post bound
 
   module _ (b o : ℕ) (us : List Val) where
-    -- all of the handle but the sign
+    -- all of the handle but the sign and the objects
     abbrev Rest : Fml
     Rest = fsep (fsep (token h (bare (lone R.mir)) (block_ptr b o)) (fields_own h us)) (cell_at full_share H.mir us rb ro)
 
@@ -98,7 +98,7 @@ module _ {M : Type 1} {𝓤 : Ura M} (𝓛 : Logic 𝓤) (at_mem : Memory → SP
         move ! (1 ∷ []) $ fsplit ! $ fsplit3 ! $ drop ! $ move ! (3 ∷ []) $ split ! $ move ! (2 ∷ 3 ∷ 0 ∷ []) $
         opens ! tt H {h = h} rb ro (λ us. move ! (1 ∷ []) $ peeks ! H _ (shows 𝓛 H) h us (λ is. fsplit ! $ move ! (1 ∷ []) $
         in_a_block ! h.at (λ p. box_owns (token h) R p h.value) (fst∗ 𝓤 (never 𝓤) (sem 𝓛 (token h (bare (lone R.mir)) null_ptr))) (λ b o at_b. fsplit ! $
-        -- [the sign; the token; what the fields own; the handle's cell; the open borrow; obs; auth]
+        -- [the sign and the objects; the token; what the fields own; the handle's cell; the open borrow; obs; auth]
         let word = lowers.val_is h us is ∙ ap (λ (p : Ptr). lowers.lowered (record h { at = p }) ∷ []) at_b in
         let Cell = λ (ws : List Val). ‵ (cell_at full_share H.mir ws rb ro) in
         rewrite ! 3 Cell word refl $

@@ -1,0 +1,152 @@
+#define _POSIX_C_SOURCE 200809L
+#include "firmware.h"
+
+#include <stdio.h>
+#include <stdlib.h>
+#include <time.h>
+
+#include "names.h"
+
+/* ---- publishing */
+
+/* An object's value: of a time what it is now. */
+static struct wisangub_value value_of(const struct firmware *firmware, const struct object *object, double up)
+{
+    struct wisangub_value value = object->value;
+    if (object->kind == OBJECT_UPTIME) {
+        value.number = (int64_t)(100 * (up - firmware->begun)) & UINT32_MAX;
+    } else if (object->kind == OBJECT_CLOCK) {
+        value.number = (int64_t)time(NULL) & UINT32_MAX;
+    }
+    return value;
+}
+
+/* Whether there was memory for it; else what was there stays. */
+static int publish(struct firmware *firmware, const struct object *object, double up)
+{
+    struct wisangub_value value = value_of(firmware, object, up);
+    return wisangub_sign_publish(firmware->sign, object->name, object->name_size, &value, object->octets,
+                                 object->octets_size, &object->access)
+           == WISANGUB_DONE;
+}
+
+/* Whether no object has the name of one of the sign's. Nothing is published meanwhile but the objects of `before`. */
+static int is_beside(struct firmware *firmware, const struct objects *objects, const struct objects *before,
+                     char why[OBJECTS_WHY])
+{
+    static char text[NAME_TEXT];
+    struct wisangub_value value;
+    const struct object *first = NULL;
+    size_t size = 0;
+    for (const struct object *one = objects->items; one < objects->items + objects->count; one++) {
+        int is_there = wisangub_sign_object(firmware->sign, one->name, one->name_size, &value, NULL, 0, &size)
+                       != WISANGUB_FAULT;
+        if (is_there && objects_find(before, one) == NULL && (first == NULL || one->line < first->line)) {
+            first = one;
+        }
+    }
+    if (first != NULL) {
+        name_text(first->name, first->name_size, text);
+        snprintf(why, OBJECTS_WHY, "%s: line %zu: the sign has an object of this name: %s", firmware->path, first->line,
+                 text);
+    }
+    return first == NULL;
+}
+
+/* Publishes what is new or another, and all times: how many these are. */
+static size_t publish_all(struct firmware *firmware, const struct objects *objects, const struct objects *before,
+                          double up)
+{
+    size_t count = 0, lacks = 0;
+    for (const struct object *one = objects->items; one < objects->items + objects->count; one++) {
+        const struct object *old = objects_find(before, one);
+        if (one->kind == OBJECT_FIXED && old != NULL && objects_are_same(old, one)) {
+            continue;
+        }
+        count++;
+        lacks += !publish(firmware, one, up);
+    }
+    if (lacks > 0) {
+        fprintf(stderr, "%s: no memory for %zu objects, which are not published\n", firmware->path, lacks);
+    }
+    return count;
+}
+
+void firmware_begin(struct firmware *firmware, struct wisangub_sign *sign, const char *path, double up, int is_quiet)
+{
+    static char why[OBJECTS_WHY];
+    static const struct objects none = {.count = 0};
+    *firmware = (struct firmware){.sign = sign, .path = path, .begun = up, .told = up, .is_quiet = is_quiet};
+    if (!objects_read(path, &firmware->objects, why) || !is_beside(firmware, &firmware->objects, &none, why)) {
+        fprintf(stderr, "%s\n", why);
+        exit(2);
+    }
+    publish_all(firmware, &firmware->objects, &none, up);
+}
+
+/* ---- a file that changes */
+
+void firmware_again(struct firmware *firmware, double up)
+{
+    static char why[OBJECTS_WHY];
+    struct objects now, before = firmware->objects;
+    size_t gone = 0;
+    if (!objects_read(firmware->path, &now, why)) {
+        fprintf(stderr, "%s: the objects stay as they were\n", why);
+        return;
+    }
+    if (!is_beside(firmware, &now, &before, why)) {
+        fprintf(stderr, "%s: the objects stay as they were\n", why);
+        objects_free(&now);
+        return;
+    }
+    for (const struct object *one = before.items; one < before.items + before.count; one++) {
+        if (objects_find(&now, one) == NULL) {
+            wisangub_sign_withdraw(firmware->sign, one->name, one->name_size);
+            gone++;
+        }
+    }
+    size_t count = publish_all(firmware, &now, &before, up);
+    firmware->objects = now;
+    objects_free(&before);
+    fprintf(stderr, "%s: %zu objects are published, %zu are withdrawn\n", firmware->path, count, gone);
+}
+
+/* ---- between datagrams */
+
+void firmware_keep_time(struct firmware *firmware, double up)
+{
+    const struct objects *objects = &firmware->objects;
+    if (up < firmware->told + 1) {
+        return;
+    }
+    firmware->told = up;
+    for (const struct object *one = objects->items; one < objects->items + objects->count; one++) {
+        if (one->kind != OBJECT_FIXED) {
+            publish(firmware, one, up);
+        }
+    }
+}
+
+void firmware_tell(struct firmware *firmware)
+{
+    static uint8_t octets[WISANGUB_DATAGRAM];
+    static char text[NAME_TEXT];
+    struct name name;
+    struct wisangub_value value;
+    size_t size = 0;
+    while (wisangub_sign_taken(firmware->sign, name.octets, sizeof name.octets, &name.size, &value, octets,
+                               sizeof octets, &size)
+           == WISANGUB_DONE) {
+        if (firmware->is_quiet) {
+            continue;
+        }
+        name_text(name.octets, name.size, text);
+        printf("set %s ", text);
+        value_print(&value, octets, size);
+        putchar('\n');
+    }
+    fflush(stdout);
+}
+
+void firmware_end(struct firmware *firmware) { objects_free(&firmware->objects); }
