@@ -68,3 +68,25 @@ fn names_are_in_the_order_of_their_numbers(rt: HostRuntime) {
     check_order(&rt, b"\x27\x05", b"\x28", Ordering::Less);
     check_order(&rt, b"\x2b\xff\x7f", b"\x2b\x81\x80\x00", Ordering::Less);
 }
+
+#[test]
+fn names_below_dms_are_in_the_order_of_what_follows_it(rt: HostRuntime) {
+    let dms = b"\x2b\x06\x01\x04\x01\x89\x36\x04\x02\x03";
+    let five = b"\x2b\x06\x01\x04\x01\x89\x36\x04\x02\x03\x05";
+    let many = b"\x2b\x06\x01\x04\x01\x89\x36\x04\x02\x03\x81\x00";
+    check_order(&rt, five, five, Ordering::Equal);
+    check_order(&rt, dms, five, Ordering::Less);
+    check_order(&rt, five, many, Ordering::Less);
+    check_order(
+        &rt,
+        many,
+        b"\x2b\x06\x01\x04\x01\x89\x36\x04\x02\x04",
+        Ordering::Less,
+    );
+    check_order(
+        &rt,
+        b"\x2b\x06\x01\x02\x01\x01\x01\x00",
+        dms,
+        Ordering::Less,
+    );
+}

@@ -28,9 +28,10 @@ ghost use Rattle.signtool_acts.specs.CallAnswers.{OfSign, OfDigits, OfScript};
 use crate::centre::live_centre;
 use crate::inputs::{described_before, described_whole, replayed};
 use crate::refusal::Refusal;
+use dms_agent::Agent;
+use dms_agent_lines::LiveAgent;
 use dms_replay::{ReplayFault, address, bench};
 use dms_sign::{Receipt, Sign};
-use dms_sign_lines::LiveSign;
 use dms_sign_text::Setup;
 use dms_text_streams::{ConversationFault, Counted, Failed, Input, Party, Sink, Source, converse};
 use dms_wire::Out;
@@ -123,7 +124,8 @@ pub fn carry_out<R: Read, W: Sink, E: Write>(
     }
 }
 
-/// Answers the lines to a sign that the standard input has, or has after the sign's description.
+/// Answers the lines to a sign, and to what they publish beside it, that the standard input has, or has after the
+/// sign's description.
 fn be_sign<R: Read, W: Sink, E: Write>(
     alloc: Global,
     wanted: SignWanted,
@@ -135,7 +137,10 @@ fn be_sign<R: Read, W: Sink, E: Write>(
         return print_memory(writer, errors);
     };
     match live_setup(alloc, wanted, &mut input) {
-        Ok(setup) => talk(alloc, LiveSign::new(setup.sign), &mut input, writer, errors),
+        Ok(setup) => {
+            let agent = Agent::new(alloc, setup.sign);
+            talk(alloc, LiveAgent::new(agent), &mut input, writer, errors)
+        }
         Err(refusal) => refusal.refuse(alloc, writer, errors),
     }
 }
