@@ -7,11 +7,13 @@ With --sign a description comes first, up to its line `end`; else the sign is th
 """
 
 import argparse
+import functools
 import os
 import sys
+from collections.abc import Callable
 
-from . import layout, text
-from .centre import Centre
+from . import layout, published, text
+from .agent import Agent
 
 _MOST_LINE = 65_536
 
@@ -29,38 +31,54 @@ def _print_lines(*lines: str) -> None:
         os._exit(1)
 
 
-def _sign_answer(world: text.World, words: list[bytes]) -> list[str]:
-    """The lines that answer a line to a sign."""
+def _firmware_answer(agent: Agent, words: list[bytes]) -> list[str] | None:
+    """The lines that answer a line about objects beside a sign's; None where it is none."""
     keyword = words[0]
+    if keyword == b"object":
+        why = agent.publish(published.published(words[1:]))
+        return ["ok" if why is None else f"refused {why}"]
+    if keyword == b"no-object":
+        was_there = agent.device.withdraw(published.name(text.wants(words, keyword, 1)[0]))
+        return ["ok" if was_there else "refused there is no object of this name"]
+    if words == [b"fonts"]:
+        return ["ok" if agent.show_fonts() else "refused objects are published already"]
+    if words == [b"objects"]:
+        taken = agent.device.taken()
+        return [*(f"set {published.dotted(one.name)} {published.printed(one.value)}" for one in taken), "ok"]
+    return None
+
+
+def sign_answer(agent: Agent, words: list[bytes]) -> list[str]:
+    """The lines that answer a line to a sign."""
+    keyword, sign = words[0], agent.sign
+    answer = _firmware_answer(agent, words)
+    if answer is not None:
+        return answer
     if keyword == b"datagram":
-        before = len(world.accepted)
-        reply, code = world.sign.receive(text.octets(text.wants(words, keyword, 1)[0]))
-        assert len(world.accepted) == before
+        reply, code = agent.receive(text.octets(text.wants(words, keyword, 1)[0]))
         if reply is None:
             return ["dropped"]
-        return [
-            f"accepted {code.octets(world.sign.state.swapped).hex()} {reply.hex()}" if code else f"reply {reply.hex()}"
-        ]
+        return [f"accepted {code.octets(sign.state.swapped).hex()} {reply.hex()}" if code else f"reply {reply.hex()}"]
     if keyword == b"power-back":
-        world.sign.showing.power_back(text.number(text.wants(words, keyword, 1)[0], 0, 2**32 - 1, 10))
+        sign.showing.power_back(text.number(text.wants(words, keyword, 1)[0], 0, 2**32 - 1, 10))
         return ["ok"]
     if keyword == b"ticks":
-        world.sign.showing.ticks(text.number(text.wants(words, keyword, 1)[0], 0, 2**32 - 1, 10))
+        sign.showing.ticks(text.number(text.wants(words, keyword, 1)[0], 0, 2**32 - 1, 10))
         return ["ok"]
     text.wants(words, keyword, 0)
     if keyword == b"tick":
-        world.sign.tick()
+        sign.tick()
     elif keyword == b"heard":
-        world.sign.showing.heard()
+        sign.showing.heard()
     elif keyword == b"power-lost":
-        world.sign.showing.power_lost()
+        sign.showing.power_lost()
     elif keyword == b"state":
-        return [world.report()[2], "ok"]
+        return [text.shown_line(sign), "ok"]
     elif keyword == b"show":
-        shown = world.sign.state.shown
-        pages, _ = layout.laid_out(world.sign.state.face, shown.defaults, shown.text)
+        shown = sign.state.shown
+        pages, _ = layout.laid_out(sign.state.face, shown.defaults, shown.text)
         assert pages is not None
-        return [*layout.drawn(world.sign.state.face, pages), "ok"]
+        return [*layout.drawn(sign.state.face, pages), "ok"]
     else:
         raise ValueError
     return ["ok"]
@@ -93,6 +111,17 @@ def _centre_answer(world: text.World, words: list[bytes]) -> list[str]:
     raise ValueError
 
 
+def answered(answer: Callable[[list[bytes]], list[str]], line: bytes) -> list[str]:
+    """The lines that answer a line, of an end that answers words."""
+    try:
+        words = line.split(b" ")
+        if b"" in words or len(line) > _MOST_LINE:
+            raise ValueError
+        return answer(words)
+    except ValueError:
+        return ["bad line"]
+
+
 def main() -> int:
     parser = argparse.ArgumentParser(description=__doc__, formatter_class=argparse.RawDescriptionHelpFormatter)
     parser.add_argument("end", choices=("sign", "centre"), help="which end answers")
@@ -113,17 +142,13 @@ def main() -> int:
         except text.TooLong:
             _print_lines("too long")
             return 1
-    world = text.World(described)
-    assert isinstance(world.centre, Centre)
-    answer = {"sign": _sign_answer, "centre": _centre_answer}[asked.end]
+    answer: Callable[[list[bytes]], list[str]]
+    if asked.end == "sign":
+        answer = functools.partial(sign_answer, Agent(described))
+    else:
+        answer = functools.partial(_centre_answer, text.World(described))
     for line in map(_without_newline, sys.stdin.buffer):
-        try:
-            parts = line.split(b" ")
-            if b"" in parts or len(line) > _MOST_LINE:
-                raise ValueError
-            _print_lines(*answer(world, parts))
-        except ValueError:
-            _print_lines("bad line")
+        _print_lines(*answered(answer, line))
     return 0
 
 

@@ -1,12 +1,14 @@
 """The controller of a sign: its answers. What it holds, shows and reads, and what a SET writes, are layers below it."""
 
-from . import wire
+from . import replies, wire
 from .changes import Changes
 from .codes import Activation
 from .description import Description
 from .objects import Objects
 from .showing import Showing
 from .state import State
+
+Answer = tuple[bytes | None, Activation | None]  # the reply and the activation that was accepted, where there is one
 
 
 class Sign:
@@ -21,8 +23,8 @@ class Sign:
         """A second passes."""
         self.showing.tick()
 
-    def receive(self, datagram: bytes) -> tuple[bytes | None, Activation | None]:
-        """The reply and the activation that was accepted, each None where there is none."""
+    def heard(self, datagram: bytes) -> wire.Message | None:
+        """The message, where it is one that is answered; then a silence is over."""
         message = wire.spelled(datagram)
         if (
             not self.state.power
@@ -30,26 +32,20 @@ class Sign:
             or message.kind == wire.RESPONSE
             or message.community not in (self.state.reader, self.state.writer)
         ):
-            return None, None
+            return None
         self.state.silence = 0
-        accepted = None
-        status, index, bindings = wire.NO_ERROR, 0, message.bindings
+        return message
+
+    def set(self, message: wire.Message) -> Answer:
+        """The answer to a Set, which is done or refused."""
+        status, index, accepted = self.changes.set(message)
+        return replies.written(message, (status, index, message.bindings)), accepted
+
+    def receive(self, datagram: bytes) -> Answer:
+        """The reply and the activation that was accepted, each None where there is none."""
+        message = self.heard(datagram)
+        if message is None:
+            return None, None
         if message.kind == wire.SET:
-            status, index, accepted = self.changes.set(message)
-        else:
-            found = []
-            for at, (asked, _) in enumerate(message.bindings, 1):
-                name = asked if message.kind == wire.GET else self.objects.after(asked)
-                value = None if name is None else self.objects.value(name)
-                if name is None or value is None:
-                    status, index = wire.NO_SUCH_NAME, at
-                    break
-                found.append((name, value))
-            else:
-                bindings = found
-        reply = wire.written(wire.Message(wire.RESPONSE, message.community, message.number, status, index, bindings))
-        if len(reply) > wire.MOST_DATAGRAM:
-            reply = wire.written(
-                wire.Message(wire.RESPONSE, message.community, message.number, wire.TOO_BIG, 0, message.bindings)
-            )
-        return reply, accepted
+            return self.set(message)
+        return replies.written(message, replies.read(message, self.objects)), None

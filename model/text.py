@@ -209,6 +209,16 @@ def event(words: list[bytes], swapped: bool) -> _Event:
     raise ValueError
 
 
+def shown_line(sign: Sign) -> str:
+    """The line of what is shown."""
+    shown, source, remaining = sign.state.shown, sign.state.shown.source, sign.objects.scalars()[(6, 4)]
+    assert isinstance(remaining, int)
+    return (
+        f"shown {source.memory} {source.number} {source.crc:04x} mode {shown.mode} priority {shown.priority} "
+        f"remaining {remaining} text {shown.text.hex() or '-'}"
+    )
+
+
 class World:
     """A sign, its centre, what they sent each other, and what was accepted."""
 
@@ -250,16 +260,8 @@ class World:
 
     def report(self) -> list[str]:
         """The lines of the report."""
-        shown, swapped = self.sign.state.shown, self.sign.state.swapped
-        remaining = self.sign.objects.scalars()[(6, 4)]
-        assert isinstance(remaining, int)
-        source = shown.source
-        lines = [
-            f"events {self.events}",
-            f"sent {len(self.to_sign)} {len(self.to_centre)}",
-            f"shown {source.memory} {source.number} {source.crc:04x} mode {shown.mode} priority {shown.priority} "
-            f"remaining {remaining} text {shown.text.hex() or '-'}",
-        ]
+        swapped = self.sign.state.swapped
+        lines = [f"events {self.events}", f"sent {len(self.to_sign)} {len(self.to_centre)}", shown_line(self.sign)]
         lines += [f"accepted {at} {code.octets(swapped).hex()}" for at, code in self.accepted]
         lines += [f"ledger {at} {code.octets(swapped).hex()} {outcome}" for at, code, outcome in self.centre.ledger]
         return lines
