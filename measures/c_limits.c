@@ -175,6 +175,34 @@ static enum wisangub_answer shown(const struct call *call)
     return wisangub_sign_shown(&sign, &found);
 }
 
+/* An object that a manager may set, of a name. */
+static enum wisangub_answer publish(const struct call *call)
+{
+    const struct wisangub_value value = {7, WISANGUB_INTEGER};
+    const struct wisangub_access access = {0, 65535, WISANGUB_NUMBERS};
+    return wisangub_sign_publish(&sign, call->octets, call->size, &value, NULL, 0, &access);
+}
+
+static enum wisangub_answer withdraw(const struct call *call)
+{
+    return wisangub_sign_withdraw(&sign, call->octets, call->size);
+}
+
+static enum wisangub_answer object(const struct call *call)
+{
+    struct wisangub_value value;
+    return wisangub_sign_object(&sign, call->octets, call->size, &value, sent, sizeof sent, &sent_size);
+}
+
+static enum wisangub_answer taken(const struct call *call)
+{
+    struct wisangub_value value;
+    uint8_t name[WISANGUB_NAME];
+    size_t size = 0;
+    (void)call;
+    return wisangub_sign_taken(&sign, name, sizeof name, &size, &value, sent, sizeof sent, &sent_size);
+}
+
 static enum wisangub_answer make(const struct call *call)
 {
     uint32_t first = 0;
@@ -259,6 +287,16 @@ static void take(char *word)
     size_t size = read_octets(rest);
     if (strncmp(word, "datagram ", 9) == 0) {
         measured("sign_receive", receive, octets, size);
+    } else if (strncmp(word, "beside ", 7) == 0) {
+        measured("sign_receive_beside", receive, octets, size);
+    } else if (strncmp(word, "publish ", 8) == 0) {
+        measured("sign_publish", publish, octets, size);
+    } else if (strncmp(word, "withdraw ", 9) == 0) {
+        measured("sign_withdraw", withdraw, octets, size);
+    } else if (strncmp(word, "object ", 7) == 0) {
+        measured("sign_object", object, octets, size);
+    } else if (strcmp(word, "taken") == 0) {
+        measured("sign_taken", taken, NULL, 0);
     } else if (strncmp(word, "centre ", 7) == 0) {
         measured("centre_receive", centre_receive, octets, size);
     } else if (strncmp(word, "text ", 5) == 0) {

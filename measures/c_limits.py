@@ -29,6 +29,7 @@ from model import wire  # noqa: E402
 from model.objects import DMS  # noqa: E402
 from model.text import BENCH  # noqa: E402
 from trials import largest_inputs, memory_cases  # noqa: E402
+from wisangub.snmp.wire import name_content  # noqa: E402
 from wisangub.tester.requests.hostile_datagrams import Maker  # noqa: E402
 
 COMMUNITIES = b"communities public admin"  # those of the vectors
@@ -102,6 +103,19 @@ def commands(chance: random.Random) -> Iterator[str]:
             yield from ["tick"] * 61
 
 
+def often(name: tuple[int, ...]) -> Iterator[bytes]:
+    """Requests of a name as often as a datagram has room for it, and less often."""
+    for kind, community, value in (
+        (wire.GET, b"public", memory_cases.NULL),
+        (wire.GET_NEXT, b"public", memory_cases.NULL),
+        (wire.SET, b"admin", (wire.INTEGER, 1)),
+    ):
+        one = len(memory_cases.request(kind, community, (name, value)))
+        each = len(memory_cases.request(kind, community, (name, value), (name, value))) - one
+        for times in ((wire.MOST_DATAGRAM - one) // each, 40, 8, 2):
+            yield memory_cases.request(kind, community, *[(name, value)] * times)
+
+
 def many() -> Iterator[bytes]:
     """Requests of one name as often as a datagram has room for it."""
     names: list[tuple[int, ...]] = [
@@ -110,15 +124,20 @@ def many() -> Iterator[bytes]:
     names += [DMS + (group, number, 0) for group in (1, 2, 4, 5, 6, 9) for number in range(1, 19)]
     names += [DMS + (5, 8, 1, 9, 7, 255), DMS + (5, 8, 1, 12, 7), (1, 3, 6, 1), (2, 5)]
     for name in names:
-        for kind, community, value in (
-            (wire.GET, b"public", memory_cases.NULL),
-            (wire.GET_NEXT, b"public", memory_cases.NULL),
-            (wire.SET, b"admin", (wire.INTEGER, 1)),
-        ):
-            one = len(memory_cases.request(kind, community, (name, value)))
-            each = len(memory_cases.request(kind, community, (name, value), (name, value))) - one
-            for times in ((wire.MOST_DATAGRAM - one) // each, 40, 8, 2):
-                yield memory_cases.request(kind, community, *[(name, value)] * times)
+        yield from often(name)
+
+
+def beside() -> Iterator[str]:
+    """A thousand objects beside the sign's, and requests of one as often as a datagram has room for it."""
+    names = [DMS + (7, 200, number) for number in range(1000)]
+    contents = [name_content(name).hex() for name in names]
+    yield from (f"publish {content}" for content in contents)
+    for name in (names[0], names[500], names[999], DMS + (7, 200, 1000)):
+        yield from (f"beside {octets.hex()}" for octets in often(name))
+    changed = [memory_cases.request(wire.SET, b"admin", (name, (wire.INTEGER, 1))) for name in names[-20:]]
+    yield from (line for octets in changed for line in (f"beside {octets.hex()}", "taken", "taken"))
+    yield from (f"object {content}" for content in contents[::50])
+    yield from (f"withdraw {content}" for content in contents)
 
 
 def lines(sign: Sign, count: int, seed: int) -> Iterator[str]:
@@ -135,6 +154,7 @@ def lines(sign: Sign, count: int, seed: int) -> Iterator[str]:
             yield from ("tick", "pages")
     yield from (f"centre {maker.to_centre(1).hex()}" for _ in range(count))
     yield from (f"text {octets.hex()}" for octets in texts(count, chance))
+    yield from beside()
     if sign.name == "largest":
         yield from (f"describe {octets.hex()}" for _, octets, _ in largest_inputs.refused_descriptions())
 
@@ -178,9 +198,14 @@ def table(found: list[Sign], what: str, names: list[str]) -> str:
 
 def main() -> int:
     parser = argparse.ArgumentParser(description=__doc__, formatter_class=argparse.RawDescriptionHelpFormatter)
-    parser.add_argument("--library", type=pathlib.Path, default=TOP / "crates/wisangub_c/out/libwisangub_c.a")
+    parser.add_argument(
+        "--library",
+        type=pathlib.Path,
+        default=TOP / "crates/wisangub_c/out/libwisangub_c.a",
+        help="the library that tools/static_library.py makes",
+    )
     parser.add_argument("--count", type=int, default=1000, help="of random datagrams to each end, and of texts")
-    parser.add_argument("--seed", type=int, default=1)
+    parser.add_argument("--seed", type=int, default=1, help="of the random calls")
     asked = parser.parse_args()
     found = signs()
     with tempfile.TemporaryDirectory(prefix="c-limits-") as name:

@@ -70,8 +70,39 @@ mod codes {
         REMAINDERS[usize::from(register as u8 ^ octet)] ^ register >> 8
     }
 
+    /// For each octet what it leaves with 0 to 7 octets of zeros after it.
+    const BEFORE: [[u16; 256]; 8] = before();
+
+    const fn before() -> [[u16; 256]; 8] {
+        let mut tables = [REMAINDERS; 8];
+        let mut zeros = 1;
+        while zeros < 8 {
+            let mut index = 0;
+            while index < 256 {
+                let register = tables[zeros - 1][index];
+                tables[zeros][index] = REMAINDERS[register as usize & 0xff] ^ register >> 8;
+                index += 1;
+            }
+            zeros += 1;
+        }
+        tables
+    }
+
     pub fn crc(text: &[u8], beacon: u8, pixel: u8) -> u16 {
-        let register = text.iter().fold(u16::MAX, |register, octet| register_after(register, *octet));
+        let mut eights = text.chunks_exact(8);
+        let mut register = u16::MAX;
+        for eight in &mut eights {
+            let [a, b, c, d, e, f, g, h] = [0, 1, 2, 3, 4, 5, 6, 7].map(|at| usize::from(eight[at]));
+            register = BEFORE[7][a ^ usize::from(register & 0xff)]
+                ^ BEFORE[6][b ^ usize::from(register >> 8)]
+                ^ BEFORE[5][c]
+                ^ BEFORE[4][d]
+                ^ BEFORE[3][e]
+                ^ BEFORE[2][f]
+                ^ BEFORE[1][g]
+                ^ BEFORE[0][h];
+        }
+        register = eights.remainder().iter().fold(register, |register, octet| register_after(register, *octet));
         !register_after(register_after(register, beacon), pixel)
     }
 }

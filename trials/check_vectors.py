@@ -2,9 +2,11 @@
 prints `N passed, N failed`.
 
 Datagrams go through `decode`, texts through `items`, `check` and `pages`, codes through `code` and `activation`,
-requests through `answer`, scripts through `replay`. What `decode`, `items` and `check` print with --json is made into
-lines again, which have to be those that are wanted without. Names of objects are those of mibs/DMS-PROFILE-MIB. With
---count only so many cases of each file are taken; with --junit a report is written too, a test case for each call.
+requests through `answer`, scripts through `replay`, and lines of agents through `sign`; of a program that does not know
+the lines `object` or `fonts`, the cases that need them are skipped. What `decode`, `items` and `check` print with
+--json is made into lines again, which have to be those that are wanted without. Names of objects are those of
+mibs/DMS-PROFILE-MIB. With --count only so many cases of each file are taken; with --junit a report is written too, a
+test case for each call.
 """
 
 import argparse
@@ -175,6 +177,10 @@ def _calls(kind: str, case: _Case) -> Iterator[Call]:
     elif kind == "requests":
         reply = case["reply"]
         yield ["answer", case["request"]], "", "dropped\n" if reply is None else reply + "\n", 1 if reply is None else 0
+    elif kind == "agents":
+        lines = case["lines"]
+        answers = [answer for one in lines for answer in one["answer"]]
+        yield ["sign"], "".join(f"{one['line']}\n" for one in lines), "".join(f"{one}\n" for one in answers), 0
     elif kind == "scripts":
         wanted = f"line {case['line']}\n" if "line" in case else "\n".join(case["report"]) + "\n"
         yield ["replay"], case["script"], wanted, 1 if "line" in case else 0
@@ -183,6 +189,22 @@ def _calls(kind: str, case: _Case) -> Iterator[Call]:
         yield ["answer", case["octets"]], "", "dropped\n", 1
     else:
         yield ["decode", case["octets"]], "", "\n".join(fields(case["message"])) + "\n", 0
+
+
+def _unknown(program: str) -> list[str]:
+    """The lines about objects that the program does not know."""
+    asked = {"object": "objects", "fonts": "fonts"}
+    ended = subprocess.run(
+        [program, "sign"], input="objects\nfonts\n".encode(), capture_output=True, timeout=60, check=False
+    )
+    answers = dict(zip(asked, ended.stdout.decode().splitlines()))
+    return [line for line in asked if answers.get(line) != "ok"]
+
+
+def _needs(case: _Case, unknown: list[str]) -> bool:
+    """Whether a case has lines that the program does not know."""
+    lines = [one["line"] for one in case.get("lines", [])]
+    return bool(lines) and ("object" in unknown or "fonts" in unknown and "fonts" in lines)
 
 
 def _difference(program: str, call: list[str], stdin: str, wanted: tuple[str, int]) -> str:
@@ -202,16 +224,21 @@ def main() -> int:
     parser.add_argument("--count", type=int, help="the cases that are taken of each file")
     parser.add_argument("--junit", type=pathlib.Path, metavar="FILE", help="a report as JUnit has it is written here")
     asked = parser.parse_args()
-    tried = []
+    tried, skipped, unknown = [], 0, _unknown(asked.program)
     for path in sorted((TOP / "vectors").glob("*.jsonl")):
         for line in path.read_text(encoding="ascii").splitlines()[: asked.count]:
             case = json.loads(line)
+            if _needs(case, unknown):
+                skipped += 1
+                continue
             for call, stdin, output, status in _calls(path.stem, case):
                 for made in [call, *_with_json(call)]:
                     fault = _difference(asked.program, made, stdin, (output, status)) or ""
                     tried.append(junit.Case(path.stem, f"{case['name']}: {' '.join(made[:1])}", fault))
                     if fault:
                         print(f"{path.stem}, {case['name']}: {fault}")
+    if skipped:
+        print(f"skipped {skipped} cases of agents: the program has no line `{'`, no line `'.join(unknown)}`")
     failed = sum(bool(case.fault) for case in tried)
     if asked.junit:
         junit.write(asked.junit, "vectors", tried)

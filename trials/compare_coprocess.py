@@ -4,8 +4,9 @@
 
 Two pairs of a sign and a centre are spoken to, one of each kind. What a centre sends is handed to its sign, and what a
 sign replies to its centre, now and then changed in an octet; between them come ticks, power losses, commands, datagrams
-of vectors/ and lines that are none. Each answer has to be the same. It prints what differs, and last `N passed, N
-failed`.
+of vectors/ and lines that are none. Then as many lines go to signs that have up to 1,000 objects beside their own, and
+their fonts: objects are published and withdrawn, read, walked and set, by hostile requests too. Each answer has to be
+the same. It prints what differs, and last `N passed, N failed`.
 """
 
 import argparse
@@ -16,6 +17,8 @@ import sys
 from wisangub.process import description
 from wisangub.process.coprocess import CoProcess
 from wisangub.process.places import SIGNTOOL, TOP, program
+
+from . import agents
 
 _WORDS = [
     "tick",
@@ -105,11 +108,86 @@ class Lines:
         return self.other()
 
 
+class AgentLines(Lines):
+    """Lines to a sign that has objects beside its own, half of them about these."""
+
+    def __init__(self, chance: random.Random, octets: list[str], firmware: agents.Firmware) -> None:
+        super().__init__(chance, octets)
+        self.firmware, self.requests = firmware, agents.Requests(chance.randrange(2**32), firmware)
+
+    def line(self, end: str) -> str:
+        kind = self.chance.random()
+        if kind < 0.2:
+            return self.firmware.line()
+        return f"datagram {self.requests.datagram().hex() or '-'}" if kind < 0.6 else super().line(end)
+
+
+class Pair:
+    """The same end of the program and of the model."""
+
+    def __init__(self, end: str, processes: list[CoProcess]) -> None:
+        self.end, self.processes = end, processes
+        self.passed = self.failed = 0
+
+    def answers_to(self, line: str) -> list[str]:
+        """The program's answer to a line, which has to be the model's."""
+        answers = [process.send(line) for process in self.processes]
+        if answers[0] == answers[1]:
+            self.passed += 1
+        else:
+            self.failed += 1
+            print(f"{self.end}: {line[:200]}: signtool {answers[0]}, the model {answers[1]}")
+        return answers[0]
+
+    def over(self) -> None:
+        """No more lines come."""
+        for process in self.processes:
+            process.end()
+
+
 def _begun(program: str, end: str, sign: str | None) -> CoProcess:
     """A co-process that took the description."""
     process = CoProcess(program, [end], description.read(sign))
     process.begin(b"state" if end == "sign" else b"status", sign or program)
     return process
+
+
+def _begun_pair(program: str, end: str, sign: str | None) -> Pair:
+    return Pair(end, [_begun(one, end, sign) for one in (program, str(TOP / "model/signtool"))])
+
+
+def _to_both_ends(asked: argparse.Namespace) -> list[Pair]:
+    """Lines to a sign and a centre that speak to one another."""
+    ends = {end: _begun_pair(asked.signtool, end, asked.sign) for end in ("sign", "centre")}
+    lines = Lines(random.Random(asked.seed), datagrams())
+    for _ in range(asked.count):
+        end, other = lines.chance.choice([("sign", "centre"), ("centre", "sign")])
+        last = ends[end].answers_to(lines.line(end))[-1].split(" ")
+        if last[0] in ("reply", "accepted", "send"):
+            lines.sent[other] = last[-1]
+    return list(ends.values())
+
+
+def _to_agents(asked: argparse.Namespace) -> list[Pair]:
+    """Lines to signs that have objects beside their own."""
+    pairs = []
+    for size in agents.SIZES:
+        pair = _begun_pair(asked.signtool, "sign", asked.sign)
+        pairs.append(pair)
+        if not agents.knows(pair.processes[0], "objects"):
+            print("skipped objects beside a sign's: the program has no line `object`")
+            break
+        has_fonts = agents.has_fonts(pair.processes[0], size)
+        if has_fonts:
+            pair.processes[1].send("fonts")
+        chance = random.Random(asked.seed + size)
+        firmware = agents.Firmware(chance, has_fonts)
+        for line in firmware.published(size):
+            pair.answers_to(line)
+        lines = AgentLines(chance, datagrams(), firmware)
+        for _ in range(asked.count // len(agents.SIZES)):
+            pair.answers_to(lines.line("sign"))
+    return pairs
 
 
 def main() -> int:
@@ -121,26 +199,10 @@ def main() -> int:
     parser.add_argument("--seed", type=int, default=1, help="of all that is random: the same again gives the same")
     parser.add_argument("--sign", help="a description, as in signs/; else the bench sign")
     asked = parser.parse_args()
-    model = str(TOP / "model/signtool")
-    ends = {
-        end: [_begun(program, end, asked.sign) for program in (asked.signtool, model)] for end in ("sign", "centre")
-    }
-    lines, passed, failed = Lines(random.Random(asked.seed), datagrams()), 0, 0
-    for _ in range(asked.count):
-        end, other = lines.chance.choice([("sign", "centre"), ("centre", "sign")])
-        line = lines.line(end)
-        answers = [process.send(line) for process in ends[end]]
-        if answers[0] == answers[1]:
-            passed += 1
-        else:
-            failed += 1
-            print(f"{end}: {line[:200]}: signtool {answers[0]}, the model {answers[1]}")
-        last = answers[0][-1].split(" ")
-        if last[0] in ("reply", "accepted", "send"):
-            lines.sent[other] = last[-1]
-    for processes in ends.values():
-        for process in processes:
-            process.end()
+    pairs = [*_to_both_ends(asked), *_to_agents(asked)]
+    for pair in pairs:
+        pair.over()
+    passed, failed = sum(pair.passed for pair in pairs), sum(pair.failed for pair in pairs)
     print(f"{passed} passed, {failed} failed")
     return 0 if failed == 0 else 1
 

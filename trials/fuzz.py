@@ -43,9 +43,14 @@ def keep(folder: pathlib.Path, to: pathlib.Path | None) -> None:
 
 def main() -> int:
     parser = argparse.ArgumentParser(description=__doc__, formatter_class=argparse.RawDescriptionHelpFormatter)
-    parser.add_argument("--seconds", type=int, default=600)
-    parser.add_argument("--seed", type=int, default=1)
-    parser.add_argument("--library", type=pathlib.Path, default=TOP / "crates/wisangub_c/out/libwisangub_c.a")
+    parser.add_argument("--seconds", type=int, default=600, help="how long")
+    parser.add_argument("--seed", type=int, default=1, help="of the fuzzer")
+    parser.add_argument(
+        "--library",
+        type=pathlib.Path,
+        default=TOP / "crates/wisangub_c/out/libwisangub_c.a",
+        help="the library that tools/static_library.py makes",
+    )
     parser.add_argument("--keep", type=pathlib.Path, metavar="FOLDER", help="where inputs that fail are put")
     parser.add_argument("kinds", nargs="*", metavar="KIND", help=", ".join(fuzzed.KINDS))
     asked = parser.parse_args()

@@ -10,7 +10,9 @@ communities). Before them each change of one octet, each proper prefix, each dat
 each pair of neighbours deleted, doubled and exchanged, of the first request and of its reply. Left out is what neither
 end could tell from its partner: a SET that is in order and has the writing community, and the reply that the centre
 waits for. A script holds at most 1,048,576 octets, so as many scripts are run as the count needs. Of each report every
-line is foretold, the number of the sign's replies too, by the reader of model.
+line is foretold, the number of the sign's replies too, by the reader of model. Last, hostile requests go to live signs
+that have up to 1,000 objects beside their own, mostly for these: each answer has to be the model's, and so have the
+objects that were set and the whole walk.
 
 It prints what each script took, and last `N passed, M failed`. With --print it prints the first script alone. With
 --udp the datagrams to the sign, and those that are left out too, go to a sign's front end over UDP, wisangub-sign or
@@ -29,10 +31,11 @@ import time
 from collections.abc import Iterable, Iterator
 from typing import Protocol
 
+from trials import agents
 from trials.front_ends.bench import Trial
 from wisangub.tester.requests.hostile_datagrams import Datagram, Maker, all_to_sign, is_answered, near, random_ones
 
-from .front_ends import hostile_udp
+from .front_ends import hostile_agents, hostile_udp
 
 _MOST_INPUT = 1_048_576
 
@@ -167,6 +170,19 @@ def run(program: str, text: str) -> tuple[subprocess.CompletedProcess[bytes], fl
     return ended, time.monotonic() - before
 
 
+def _to_agents(asked: argparse.Namespace) -> tuple[int, int]:
+    """How many signs with objects beside their own did as the model of them, and how many did not."""
+    tried = []
+    for size in agents.SIZES:
+        exchange = hostile_agents.Exchange(asked.program, asked.seed, size)
+        if not exchange.is_known:
+            print("skipped objects beside a sign's: the program has no line `object`")
+            exchange.end()
+            break
+        tried.append(exchange.run(asked.count // len(agents.SIZES)))
+    return tried.count(True), tried.count(False)
+
+
 def main() -> int:
     parser = argparse.ArgumentParser(description=__doc__, formatter_class=argparse.RawDescriptionHelpFormatter)
     top = pathlib.Path(__file__).resolve().parent.parent
@@ -203,6 +219,8 @@ def main() -> int:
             print(f"the script is kept in {kept}")
         peak = resource.getrusage(resource.RUSAGE_CHILDREN).ru_maxrss
         print(f"{done} hostile datagrams, {len(text)} octets: {1000 * seconds:.0f} ms, at most {peak} KiB")
+    with_objects, others = _to_agents(asked)
+    passed, failed = passed + with_objects, failed + others
     print(f"{passed} passed, {failed} failed")
     return 1 if failed else 0
 

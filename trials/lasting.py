@@ -29,6 +29,7 @@ from wisangub.process.places import SIGNTOOL
 from .front_ends import (
     bits,
     centres,
+    dimmed,
     disks,
     downs,
     faults,
@@ -75,6 +76,7 @@ _KINDS = {
     "strangers": _Kind(strangers.run, 6.0, True),
     "disks": _Kind(disks.run, 4.0),
     "downs": _Kind(downs.run),
+    "dimmed": _Kind(dimmed.run, 8.0),
     "stops": _Kind(stops.run, 8.0),
     "streams": _Kind(streams.run, 4.0),
     "words": _Kind(words.run, 8.0, True),

@@ -5,8 +5,9 @@ passed, N failed`.
 
 Each picture of `signtool pages --svg` is drawn by headless Chromium at some moments. The middle of each lamp must have
 the colour that the text's cell has then: a page is up for its time, a flash begins with its first time where the page
-comes up (model lays the text out). With --keep the pictures stay as PNG files; docs/ has three of them. With --read the
-document's own paths and animations are read, at each tenth of its first twenty seconds.
+comes up (model lays the text out). With --keep the pictures stay as PNG files; docs/ has two of them. With --read the
+document's own paths and animations are read, at each tenth of its first twenty seconds. A document that docs/pictures
+has, too, must be what the program prints.
 """
 
 import argparse
@@ -31,6 +32,13 @@ _READ_TENTHS = 200
 
 # what the file is called, the sign, the text, the page alone or none, and the moments in tenths of a second
 _PICTURES = [
+    (
+        "accident",
+        "roadside",
+        "[pt25o0][fo2][flt6o4]ACCIDENT[/fl][nl]AFTER 1 KM[np]LEFT LANE[nl]CLOSED",
+        None,
+        [2, 7, 27],
+    ),
     ("lanes", "gantry", "[fo3][cf9]RIGHT LANE[nl][fo2]CLOSED 800 m[nl3][fo1][cf7]MERGE LEFT", None, [0]),
     ("fog", "roadside", "[pt20o5][fo2][flt5o5]FOG[/fl] AHEAD[np][fo1]SLOW DOWN[nl]MAX 60", None, [2, 7, 27]),
     ("alone", "roadside", "[pt20o5][fo2][flt5o5]FOG[/fl] AHEAD[np][fo1]SLOW DOWN[nl]MAX 60", 1, [0, 7]),
@@ -209,6 +217,10 @@ def main() -> int:
             parts = xml.etree.ElementTree.fromstring(svg)
             if len(svg) >= 400_000:
                 print(f"{name}: the document has {len(svg)} octets")
+                failed += 1
+            kept = TOP / f"docs/pictures/{name}.svg"
+            if kept.is_file() and kept.read_text(encoding="ascii") != svg:
+                print(f"{name}: the program prints another document than {kept} is")
                 failed += 1
             for tenth in range(_READ_TENTHS) if asked.read else moments:
                 shades = wanted(face, pages, alone, tenth)

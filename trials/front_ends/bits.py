@@ -102,10 +102,12 @@ class _Bits:
             follower.compare(self.trial, name, manager)
             manager.close()
         self.trial.holds(f"{name}: and ends", front_end.stop() == 0, front_end.errors.decode("latin-1"))
-        self.trial.holds(f"{name}: what was whole stays", self.path.read_bytes().startswith(octets[:size]))
+        kept_size = _finished(octets, size)
+        self.trial.holds(f"{name}: what was whole stays", self.path.read_bytes().startswith(octets[:kept_size]))
         asides = [path for path in self.path.parent.iterdir() if path != self.path]
         kept = [path.read_bytes() for path in asides]
-        self.trial.holds(f"{name}: the rest is put aside", len(octets) == size or kept == [octets[size:]], asides)
+        is_aside = len(octets) == kept_size or kept == [octets[kept_size:]]
+        self.trial.holds(f"{name}: the rest is put aside", is_aside, asides)
         modes = {path.stat().st_mode & 0o777 for path in asides}
         self.trial.holds(f"{name}: for its owner alone", modes <= {0o600}, modes)
         for path in asides:
@@ -114,6 +116,7 @@ class _Bits:
     def front_ends(self) -> None:
         """What the front end itself makes of some."""
         chance, bits = self.trial.chance, [8 * len(self.text) - 7, 8 * self.begin + 3, 8 * (self.begin - 1)]
+        bits.append(8 * (self.text.find(b"\nclock ") + len(b"\nclock ")))
         bits += [chance.randrange(8 * len(self.text)) for _ in range(1 if self.trial.is_short else 100)]
         for bit in bits:
             if not self.trial.is_late():
@@ -145,6 +148,13 @@ class _Bits:
             if not self.trial.is_late() and octets != self.text:
                 self.goes_on(f"sectors {some} of the last write, {size} octets", octets, whole(octets).size)
         print(f"last writes with some of their sectors: {len(every)}", flush=True)
+
+
+def _finished(octets: bytes, size: int) -> int:
+    """How much of so many octets of whole records a front end goes on from: a start that no clock follows was not
+    finished, and is put aside too."""
+    start = octets.rfind(b"\nstart ", 0, size) + 1
+    return start if start and octets.find(b"\nclock ", start, size) == -1 else size
 
 
 def _older(trial: Trial, path: pathlib.Path, text: bytes) -> None:

@@ -12,6 +12,7 @@ from typing import IO, Iterable, Iterator
 
 from model import text, wire
 from model.sign import Sign
+from trials.agents import Firmware, Requests
 
 from .against_vectors import cases
 from .trial import MOST_TALK, SIGNS, Late, Trial, described
@@ -49,6 +50,22 @@ def _centre_lines(trial: Trial, count: int = _LINES) -> list[str]:
     octets = datagrams("reply")
     others = (*_COMMANDS, "tick", "tick", "status", "restart")
     return [trial.chance.choice(octets if trial.chance.random() < 0.5 else others) for _ in range(count)]
+
+
+def _object_lines(trial: Trial, count: int) -> list[str]:
+    """Objects that are published, withdrawn and set beside the sign's, requests of both, and what else happens."""
+    firmware = Firmware(trial.chance, False)
+    requests = Requests(trial.chance.randrange(2**32), firmware)
+    lines = firmware.published(40)
+    for _ in range(count):
+        kind = trial.chance.random()
+        if kind < 0.3:
+            lines.append(firmware.line())
+        elif kind < 0.95:
+            lines.append(f"datagram {requests.datagram().hex() or '-'}")
+        else:
+            lines.append(trial.chance.choice(_OTHERS))
+    return lines
 
 
 def walk() -> list[str]:
@@ -136,5 +153,6 @@ def run(trial: Trial) -> None:
     _compare(trial, "each reply and datagram, one after the other", "centre", _BENCH, datagrams("reply"))
     for name, description in [("bench", _BENCH), *((sign, described(sign)) for sign in SIGNS)]:
         _compare(trial, f"a talk with a sign, {name}", "sign", description, _sign_lines(trial))
+        _compare(trial, f"a talk with a sign and objects, {name}", "sign", description, _object_lines(trial, _LINES))
         _compare(trial, f"a talk with a central system, {name}", "centre", description, _centre_lines(trial))
     _walks(trial)

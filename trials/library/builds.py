@@ -135,6 +135,17 @@ def declared(trial: Trial) -> None:
     trial.check("the name of the version", f"#define WISANGUB_OF_THIS_VERSION {of_version()}\n" in header)
 
 
+def said(trial: Trial) -> None:
+    """The programs of the examples say the version and their use."""
+    status, told = trial.ran(trial.called(PLAIN, "signd", "--help"))
+    options = set(re.findall(r'\{"([a-z-]+)", (?:no|required)_argument', (TOP / "examples/signd.c").read_text("utf-8")))
+    lacks = {name for name in options - {"help"} if f"  --{name} " not in told}
+    trial.check("signd --help", status == 0 and told.startswith("usage: signd") and not lacks, (lacks, told))
+    for name in ("signd", "panel"):
+        found = trial.ran(trial.called(PLAIN, name, "--version"))
+        trial.check(f"{name} --version", found == (0, f"{name} {version()}\n"), found)
+
+
 def exported(trial: Trial) -> None:
     """The archive has the functions of the header, and the shared library has them and nothing else."""
     if not trial.has("names", "nm"):
@@ -174,6 +185,7 @@ def refused(trial: Trial) -> None:
 
 def run(trial: Trial, library: pathlib.Path) -> None:
     declared(trial)
+    said(trial)
     exported(trial)
     other_version(trial)
     refused(trial)

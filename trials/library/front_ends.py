@@ -41,6 +41,7 @@ class FrontEnd:
         self.process = subprocess.Popen(command, stdout=subprocess.PIPE, stderr=subprocess.PIPE)
         self.socket = socket.socket(socket.AF_INET6 if ":" in host else socket.AF_INET, socket.SOCK_DGRAM)
         self.socket.settimeout(MOST_REPLY)
+        self.more = b""  # what it printed behind its first line while that was waited for
         self.said = self.first_line() if waits else ""
         if self.said:
             self.socket.connect((host, int(self.said.rpartition(":")[2])))
@@ -50,10 +51,11 @@ class FrontEnd:
         assert self.process.stdout is not None
         os.set_blocking(self.process.stdout.fileno(), False)
         last, found = time.monotonic() + _MOST_START, b""
-        while time.monotonic() < last and not found.endswith(b"\n") and self.process.poll() is None:
+        while time.monotonic() < last and b"\n" not in found and self.process.poll() is None:
             found += self.process.stdout.read() or b""
             time.sleep(0.01)
-        return found.decode().strip() if found.endswith(b"\n") else ""
+        line, newline, self.more = found.partition(b"\n")
+        return line.decode().strip() if newline else ""
 
     def ask(self, octets: str) -> str:
         """The reply to a datagram; nothing where none comes."""

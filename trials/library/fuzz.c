@@ -18,7 +18,23 @@
 enum { ROOM = 1 << 20, PAGE = 1 << 16, COUNTERS = 1 << 15, PAGES_MOST = 6 * (WISANGUB_PAGE_HEAD + 256 * 64) };
 
 /* Which calls an input of datagrams has. */
-enum { TO_SIGN, TO_CENTRE, SIGN_TICK, CENTRE_TICK, POWER_LOST, POWER_BACK, COMMAND, PAGES, HEARD, RESTART, CALLS };
+enum {
+    TO_SIGN,
+    TO_CENTRE,
+    SIGN_TICK,
+    CENTRE_TICK,
+    POWER_LOST,
+    POWER_BACK,
+    COMMAND,
+    PAGES,
+    HEARD,
+    RESTART,
+    PUBLISH,
+    WITHDRAW,
+    OBJECT,
+    TAKEN,
+    CALLS
+};
 
 __attribute__((section("__libfuzzer_extra_counters"))) static uint8_t counters[COUNTERS];
 
@@ -74,7 +90,7 @@ static size_t outcome_of(const uint8_t *reply, size_t size)
 static void looked_at(unsigned call, enum wisangub_answer answer, size_t size)
 {
     must(answer != WISANGUB_NULL && answer != WISANGUB_TOO_SMALL && size <= WISANGUB_DATAGRAM, "an answer");
-    seen(call, answer, answer == WISANGUB_DONE ? outcome_of(output - WISANGUB_DATAGRAM, size) : 0);
+    seen(call, answer, answer == WISANGUB_DONE && size > 0 ? outcome_of(output - WISANGUB_DATAGRAM, size) : 0);
 }
 
 /* ---- datagrams */
@@ -90,6 +106,62 @@ static void draw(struct wisangub_sign *sign)
     must(wisangub_sign_pages(sign, WISANGUB_LOOK, output - needed, needed, &size) == WISANGUB_DONE && size == needed,
          "pages");
 }
+
+/* ---- objects beside the sign's */
+
+/* Three octets say the type, what may be written and the name's size; three numbers, the name and octets follow. */
+static enum wisangub_answer publish(struct wisangub_sign *sign, const uint8_t *from, size_t size)
+{
+    struct wisangub_value value = {0, size > 0 ? from[0] : 0};
+    struct wisangub_access access = {0, 0, size > 1 ? from[1] : 0};
+    int64_t numbers[3] = {0, 0, 0};
+    if (size < 3 + sizeof numbers) {
+        return WISANGUB_NOTHING;
+    }
+    size_t name_size = from[2], left = size - 3 - sizeof numbers;
+    const uint8_t *name = from + 3 + sizeof numbers;
+    memcpy(numbers, from + 3, sizeof numbers);
+    value.number = numbers[0];
+    access.least = numbers[1];
+    access.most = numbers[2];
+    name_size = name_size < left ? name_size : left;
+    return wisangub_sign_publish(sign, name, name_size, &value, name + name_size, left - name_size, &access);
+}
+
+static enum wisangub_answer read_object(struct wisangub_sign *sign, const uint8_t *name, size_t name_size)
+{
+    struct wisangub_value value = {0, 0};
+    size_t needed = 0, size = 0;
+    enum wisangub_answer asked = wisangub_sign_object(sign, name, name_size, &value, NULL, 0, &needed), answer;
+    if (asked == WISANGUB_FAULT) {
+        return asked;
+    }
+    must(asked == (needed == 0 ? WISANGUB_DONE : WISANGUB_TOO_SMALL) && needed <= ROOM, "the room of a value");
+    answer = wisangub_sign_object(sign, name, name_size, &value, output - needed, needed, &size);
+    must(answer == WISANGUB_DONE && size == needed, "a value");
+    seen(OBJECT, value.type, (size_t)value.number);
+    return answer;
+}
+
+/* What was set is read so, and what is left is none. */
+static void take(struct wisangub_sign *sign)
+{
+    static uint8_t names[WISANGUB_NAME];
+    struct wisangub_value value = {0, 0}, again = {0, 0};
+    size_t name_size = 0, size = 0, same = 0;
+    while (wisangub_sign_taken(sign, names, sizeof names, &name_size, &value, output - WISANGUB_DATAGRAM,
+                               WISANGUB_DATAGRAM, &size)
+           == WISANGUB_DONE) {
+        seen(TAKEN, value.type, size << 32 ^ (size_t)value.number);
+        must(wisangub_sign_object(sign, names, name_size, &again, output - WISANGUB_DATAGRAM, WISANGUB_DATAGRAM, &same)
+                     == WISANGUB_DONE
+                 && again.type == value.type && again.number == value.number && same == size,
+             "what was set");
+    }
+    must(name_size == 0 && size == 0, "nothing more was set");
+}
+
+/* ---- calls */
 
 static void call(struct wisangub_sign *sign, struct wisangub_centre *centre, unsigned kind, const uint8_t *octets,
                  size_t size)
@@ -109,6 +181,10 @@ static void call(struct wisangub_sign *sign, struct wisangub_centre *centre, uns
     case COMMAND: answer = wisangub_centre_command(centre, from, size, to, most, &made); break;
     case PAGES: draw(sign); break;
     case HEARD: wisangub_sign_heard(sign); break;
+    case PUBLISH: answer = publish(sign, from, size); break;
+    case WITHDRAW: answer = wisangub_sign_withdraw(sign, from, size); break;
+    case OBJECT: answer = read_object(sign, from, size); break;
+    case TAKEN: take(sign); break;
     default: wisangub_centre_restart(centre); break;
     }
     looked_at(kind, answer, made);

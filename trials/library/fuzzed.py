@@ -5,7 +5,8 @@ from __future__ import annotations
 import pathlib
 import re
 
-from model import text
+from model import text, wire
+from wisangub.snmp.wire import name_content
 
 from .against_vectors import cases
 from .trial import PLAIN, TOP, Trial, described
@@ -14,6 +15,7 @@ KINDS = {"datagrams": 20000, "descriptions": 60000, "texts": 600}  # the most oc
 FUZZER = ["-std=c11", "-Wall", "-Wextra", "-Werror", "-O1", "-g", "-fsanitize=fuzzer,address,undefined"]
 FUZZER += ["-fno-sanitize-recover=all"]
 TO_SIGN, TO_CENTRE, SIGN_TICK, CENTRE_TICK, POWER_LOST, POWER_BACK, COMMAND, PAGES, HEARD, RESTART = range(10)
+PUBLISH, WITHDRAW, OBJECT, TAKEN = range(10, 14)
 DONE = re.compile(r"Done (\d+) runs in (\d+) second")
 MOST_START = 60  # seconds beside those that are asked for
 
@@ -48,6 +50,27 @@ def descriptions() -> list[bytes]:
     ]
 
 
+def besides() -> list[bytes]:
+    """Objects of each type that are published, read, set, told and withdrawn."""
+    found, community = [], text.bench().writer
+    for number, (tag, writes, held) in enumerate(
+        ((2, 1, b""), (4, 2, b"AB"), (5, 0, b""), (6, 0, b"\x2b\x06"), (64, 0, b"1234"), (65, 0, b""), (68, 0, b"C"))
+    ):
+        name: wire.Name = (1, 3, 6, 1, 2, 1, 1, number, 0)
+        content = name_content(name)
+        numbers = b"".join(one.to_bytes(8, "little") for one in (3, 0, 9))
+        value: wire.Tagged = (wire.OCTETS, b"D") if tag == wire.OCTETS else (wire.INTEGER, 4)
+        setting = wire.written(wire.Message(wire.SET, community, number, 0, 0, [(name, value)]))
+        found.append(
+            call(PUBLISH, bytes([tag, writes, len(content)]) + numbers + content + held)
+            + call(OBJECT, content)
+            + call(TO_SIGN, setting)
+            + call(TAKEN)
+            + call(WITHDRAW, content)
+        )
+    return found
+
+
 def inputs(kind: str) -> list[bytes]:
     """What the fuzzer begins with: all that the vectors have."""
     if kind == "texts":
@@ -58,7 +81,8 @@ def inputs(kind: str) -> list[bytes]:
     datagrams = [bytes.fromhex(case["octets"]) for case in cases("datagrams")]
     scripts = [b"".join(map(event, case["script"].split("\n"))) for case in cases("scripts") if "report" in case]
     both = [call(TO_SIGN, octets) + call(SIGN_TICK) + call(PAGES) for octets in requests]
-    return both + [call(TO_SIGN, octets) + call(TO_CENTRE, octets) for octets in datagrams] + scripts
+    both += [call(TO_SIGN, octets) + call(TO_CENTRE, octets) for octets in datagrams]
+    return both + scripts + besides()
 
 
 def corpus(trial: Trial, kind: str) -> pathlib.Path:

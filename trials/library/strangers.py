@@ -14,6 +14,14 @@ from .trial import Trial
 _ROW = (1, 3, 6, 1, 4, 1, 1206, 4, 2, 3, 5, 8, 1, 9, 3, 1)
 WAIT = 0.3  # seconds for a reply that does not come
 SIGN = text.bench()
+# where a sign is, from where it may be written, and whether it is then from the same machine
+_ADDRESSES: tuple[tuple[str, tuple[str, ...], bool], ...] = (
+    ("127.0.0.1", ("192.0.2.1",), False),
+    ("127.0.0.1", ("192.0.2.1", "127.0.0.1"), True),
+    ("127.0.0.1", ("::1",), False),
+    ("::1", ("::1",), True),
+    ("::1", ("127.0.0.1", "::2"), False),
+)
 
 
 def request(kind: int, community: bytes, number: int, status: int = 6) -> bytes:
@@ -103,7 +111,25 @@ def _elsewhere(trial: Trial) -> None:
     trial.same("no journal is told", front_end.end(), (0, "nothing is kept: no --journal\n"))
 
 
+def _refused(trial: Trial) -> None:
+    """With --write-from a SET from another address is neither answered nor recorded, and a Get is answered."""
+    journal = trial.folder / "addresses.journal"
+    for number, (host, allowed, is_heard) in enumerate(_ADDRESSES):
+        words = [word for address in allowed for word in ("--write-from", address)]
+        path = journal.with_suffix(f".{number}")
+        front_end, name = FrontEnd(trial, "signd", path, *words, host=host), f"writing from {host}, {allowed}"
+        trial.check(f"{name}: a Get", bool(front_end.ask(request(wire.GET, SIGN.writer, 1).hex())))
+        front_end.socket.settimeout(MOST_REPLY if is_heard else WAIT)
+        trial.same(f"{name}: a SET", bool(front_end.ask(request(wire.SET, SIGN.writer, 2).hex())), is_heard)
+        trial.same(f"{name}: recorded", _datagrams_of(path), int(is_heard))
+        trial.same(f"{name}: signd ends", front_end.end()[0], 0)
+    for address in ("", "127.0.0", "localhost", "127.0.0.1/8"):
+        status, said = trial.ran(trial.called(trial.way, "signd", "--write-from", address, "none.sign"))
+        trial.check(f"writing from `{address}`", status == 2 and "--write-from is" in said, said)
+
+
 def run(trial: Trial) -> None:
     _unrecorded(trial)
     _measured(trial)
     _elsewhere(trial)
+    _refused(trial)

@@ -2,10 +2,12 @@
 
 Signs on loopback, where one datagram in ten is lost, late or doubled; commands to them; workers, each a process, of
 which some are killed, or stopped for longer than their lease while others go on; a service whose pages are asked for,
-many at a time, and which is killed now and then, with programs over the database that end beside it; and a server of
+many at a time, and which is killed now and then, with programs over the database that end beside it; plans that begin
+and end by schedules and by hand; a server of webhooks that is told of alarms, and refuses some; and a server of
 PostgreSQL of its own, which crashes and is started again. At the end every command has ended, and all datagrams that
-came to a sign, what it accepted, its lines and its ledger are looked at. The seed decides the commands, the fate of
-each datagram, and after how many lines who is killed or stopped and the server crashes; not how fast the machine is.
+came to a sign, what it accepted, its lines and its ledger, each time that a plan was on and who was told of what are
+looked at. The seed decides the commands, the fate of each datagram, and after how many lines who is killed or stopped
+and the server crashes; not how fast the machine is.
 """
 
 import argparse
@@ -29,9 +31,12 @@ from wisangub.room.store.store import Store
 from wisangub.room.store.values import whole
 
 from .beside import enter
+from .chaos_archives import put_back
 from .chaos_beside import Beside
 from .chaos_checks import Outcome, look_at
 from .chaos_place import KINDS, Place, placed
+from .chaos_plans import Plans, look_at_plans
+from .chaos_targets import Target, look_at_alarms
 from .chaos_workers import Workers
 from .loopback import Fates, Loopback
 
@@ -39,6 +44,7 @@ TEXTS = ("FOG", "ROAD WORK", "LANE[nl]CLOSED", "[fo2]SLOW", "[fo9]NO FONT")
 DESCRIPTION = TOP / "signs/roadside.sign"
 PORTIONS = 20  # in which the commands are asked for
 LOOK = 0.2
+SHORT = ("--centre-lines", "40")  # so that there are lines before the present centre, for archives
 
 
 @dataclass
@@ -83,8 +89,10 @@ def opened(where: str) -> Iterator[Store]:
 class Run:
     """The commands, and the trouble meanwhile."""
 
-    def __init__(self, asked: Asked, rows: dict[int, fleet.Sign], workers: Workers, place: Place) -> None:
-        self.asked, self.workers, self.place = asked, workers, place
+    def __init__(
+        self, asked: Asked, rows: dict[int, fleet.Sign], workers: Workers, place: Place, plans: Plans, target: Target
+    ) -> None:
+        self.asked, self.workers, self.place, self.plans, self.target = asked, workers, place, plans, target
         self.chance = random.Random(asked.seed)
         self.to_ask = [(self.chance.choice(sorted(rows)), command(self.chance)) for _ in range(asked.commands)]
         self.every = max(5, asked.commands // 8)  # lines from one trouble to the next at least
@@ -110,6 +118,7 @@ class Run:
             self.store.commands.ask(row, "chaos", line)
             self.to_ask.pop()
         self.workers.wake()
+        self.target.step(self.store, self.chance)
         self.lines = count(self.store, "lines")
         troubles = self.workers.killed + self.workers.paused
         if self.lines >= self.due and self.asked.workers and troubles < (self.asked.troubles or self.lines):
@@ -118,7 +127,10 @@ class Run:
         if self.lines >= self.crash_at and not self.place.restarts:
             self.place.restart()
             self.workers.refill()
-        return bool(self.to_ask or count(self.store, "commands WHERE outcome IS NULL"))
+        if self.to_ask:
+            self.plans.step(self.store)
+            return True
+        return not self.plans.is_over(self.store) or bool(count(self.store, "commands WHERE outcome IS NULL"))
 
 
 def run(asked: Asked, folder: pathlib.Path, place: Place) -> Outcome:
@@ -137,27 +149,34 @@ def run(asked: Asked, folder: pathlib.Path, place: Place) -> Outcome:
     with opened(place.where) as store:
         rows = store.signs.enter(fleet.read(folder / "fleet.toml"))
     enter(place.where)
-    workers = Workers(asked.workers, folder, place.where, asked.signtool, asked.tick, asked.lease)
-    beside = Beside(folder / "fleet.toml", place.where, asked.signtool, names[0])
+    target, plans = Target(asked.seed), Plans(sorted(rows), random.Random(asked.seed))
+    told_by = ("--alarms", target.file(folder))
+    workers = Workers(asked.workers, folder, place.where, asked.signtool, asked.tick, asked.lease, (*SHORT, *told_by))
+    beside = Beside(folder / "fleet.toml", place.where, asked.signtool, names[0], told_by)
     found = Outcome()
     loopback.start()
     begun = time.monotonic()
     try:
-        going(Run(asked, rows, workers, place), beside)
+        with opened(place.where) as store:
+            plans.enter(store)
+        going(Run(asked, rows, workers, place, plans, target), beside)
     finally:
         seconds = time.monotonic() - begun
         beside.end()
         found.holds("every worker that was not killed ended well", {0, -signal.SIGTERM}.issuperset(workers.end()))
         loopback.end()
+        target.end()
     found.holds("the server crashed once", place.server is None or place.restarts == 1)
     found.holds(f"what stood beside the workers: {beside.faults[:3]}", not beside.faults)
     lives = {live.name: live for live in loopback.signs}
     with opened(place.where) as store:
+        taken = put_back(store, beside.archives)
         found.holds("every command ended", not count(store, "commands WHERE outcome IS NULL"))
         for row, sign in rows.items():
             look_at(found, store, row, sign, lives[sign.name])
+        print(f"{look_at_plans(found, store, plans)}; {look_at_alarms(found, store, target)}")
         told(store, loopback, workers, place, seconds)
-    print(beside.told())
+    print(f"{beside.told()}; {taken} rows were in archives")
     return found
 
 
@@ -193,16 +212,18 @@ def arguments() -> argparse.ArgumentParser:
         description=__doc__,
         formatter_class=argparse.RawDescriptionHelpFormatter,
     )
-    parser.add_argument("--signs", type=int, default=10, metavar="N")
-    parser.add_argument("--commands", type=int, default=40, metavar="N")
+    parser.add_argument("--signs", type=int, default=10, metavar="N", help="how many signs")
+    parser.add_argument("--commands", type=int, default=40, metavar="N", help="how many commands are asked for")
     parser.add_argument("--workers", type=int, default=1, metavar="N", help="that go at a time, beside the service")
     parser.add_argument("--seconds", type=float, default=300, metavar="N", help="that the commands have to end")
-    parser.add_argument("--seed", type=int, default=1, metavar="N")
+    parser.add_argument("--seed", type=int, default=1, metavar="N", help="of commands, fates of datagrams and kills")
     parser.add_argument("--tick", type=float, default=0.2, metavar="SECONDS", help="from tick to tick, of all")
     parser.add_argument("--lease", type=float, default=2.0, metavar="SECONDS", help="of a worker")
     parser.add_argument("--troubles", type=int, metavar="N", help="workers killed or stopped at most; else no end")
-    parser.add_argument("--database", choices=KINDS, default=KINDS[0])
-    parser.add_argument("--signtool", default=str(SIGNTOOL), metavar="PATH")
+    parser.add_argument("--database", choices=KINDS, default=KINDS[0], help="the kind of the database")
+    parser.add_argument(
+        "--signtool", default=str(SIGNTOOL), metavar="PATH", help="the program that the signs and their centres are"
+    )
     return parser
 
 

@@ -11,21 +11,23 @@ from . import beside
 from .beside import Browser, Service
 
 PAUSE = 0.5  # seconds from one program to the next
-LIVES = 4  # programs that end beside a service until it is killed
+LIVES = 5  # programs that end beside a service until it is killed
 LINE = "blank 1 65535 255 192.0.2.1"
+OLD = "3s"  # what goes into an archive is older
 
 
 class Beside(threading.Thread):
     """All of it in a thread, until it is ended. What does not hold is kept."""
 
-    def __init__(self, fleet: pathlib.Path, where: str, signtool: str, sign: str) -> None:
+    def __init__(self, fleet: pathlib.Path, where: str, signtool: str, sign: str, words: tuple[str, ...] = ()) -> None:
         super().__init__(name="beside", daemon=True)
         self.fleet, self.where, self.signtool, self.sign = fleet, where, signtool, sign
         self.said = fleet.with_name("service")
-        self.service = Service(fleet, where, signtool, self.said)
+        self.service = Service(fleet, where, signtool, self.said, [*words])
         self.is_done = False
         self.killed = self.programs = self.most_connections = 0
         self.faults: list[str] = []
+        self.archives: list[pathlib.Path] = []
 
     def run(self) -> None:
         """A service after the other."""
@@ -60,10 +62,16 @@ class Beside(threading.Thread):
                 0: ("wisangub.room.users", "list"),
                 2: ("wisangub.room.command", "--wait", "1", self.sign, LINE),
                 3: ("wisangub.room.store.backup", "copy", "--to", str(self.fleet.with_name(f"copy {self.programs}"))),
+                4: ("wisangub.room.archive", "write", "--older-than", OLD, "--to", str(self.archive())),
             }[at]
             done = beside.ended(self.where, *words)
             self.faults += [f"{words[0]}: {done.stderr}"] * ("Traceback" in done.stderr)
         self.programs += 1
+
+    def archive(self) -> pathlib.Path:
+        """The next archive."""
+        self.archives.append(self.fleet.with_name(f"archive {self.programs}.gz"))
+        return self.archives[-1]
 
     def look(self) -> None:
         """No file of the database is deleted under the service."""

@@ -1,12 +1,13 @@
 """What is looked at after chaos: all datagrams, what the signs accepted, the lines, the ledger and the commands."""
 
+from collections import Counter
+
 from model import text, wire
 from model.centre import Centre
 from wisangub.endpoint.records import Head
 from wisangub.process import description
 from wisangub.room import fleet
 from wisangub.room.store.store import Store
-from wisangub.room.store.values import whole
 
 from .loopback import LoopbackSign
 
@@ -46,6 +47,11 @@ def foretold(store: Store, row: int, sign: fleet.Sign) -> list[str]:
     return ledger
 
 
+def command_lines(store: Store, row: int) -> Counter[str]:
+    """How often each command was asked for of a sign."""
+    return Counter(str(line[0]) for line in store.database.run("SELECT line FROM commands WHERE sign = ?", row))
+
+
 def look_at_datagrams(found: Outcome, live: LoopbackSign) -> set[int]:
     """No request number twice with other octets, none more than three times: the numbers of the activations."""
     sent: dict[int, list[bytes]] = {}
@@ -80,11 +86,10 @@ def look_at(found: Outcome, store: Store, row: int, sign: fleet.Sign, live: Loop
         f"{live.name}: each command that ended accepted has its activation",
         accepted == sum(how == "accepted" for _, how in ledger.values()),
     )
-    asked = whole(store.database.run("SELECT count(*) FROM commands WHERE sign = ?", row)[0][0])
-    audit = [str(what[0]) for what in store.database.run("SELECT what FROM audit")]
+    noted = Counter(str(what[0]) for what in store.database.run("SELECT what FROM audit"))
     found.holds(
         f"{live.name}: each command stands in the audit",
-        asked == sum(what.startswith(f"{live.name}: ") for what in audit),
+        all(noted[f"{live.name}: {line}"] == count for line, count in command_lines(store, row).items()),
     )
     is_foretold = store.lines.ledger(row) == foretold(store, row, sign)
     found.holds(f"{live.name}: the ledger is the model's, handed the lines", is_foretold)

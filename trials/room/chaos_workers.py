@@ -14,7 +14,16 @@ from wisangub.process.places import TOP
 class Workers:
     """Processes, some of which are stopped. What they say goes to a file."""
 
-    def __init__(self, count: int, folder: pathlib.Path, where: str, signtool: str, tick: float, lease: float) -> None:
+    def __init__(
+        self,
+        count: int,
+        folder: pathlib.Path,
+        where: str,
+        signtool: str,
+        tick: float,
+        lease: float,
+        words: tuple[str, ...] = (),
+    ) -> None:
         self.count, self.lease = count, lease
         self.call = [
             sys.executable,
@@ -30,6 +39,7 @@ class Workers:
             str(tick),
             "--lease",
             str(lease),
+            *words,
         ]
         self.said = folder / "workers"
         self.going: list[subprocess.Popen[bytes]] = []

@@ -31,8 +31,8 @@ START = 60.0  # seconds that the server has to answer
 class Cluster:
     """The server, which can be stopped and started again over the same files."""
 
-    def __init__(self, folder: pathlib.Path) -> None:
-        self.folder, self.data, self.port = folder, folder / "data", free_port()
+    def __init__(self, folder: pathlib.Path, libraries: str = "") -> None:
+        self.folder, self.data, self.port, self.libraries = folder, folder / "data", free_port(), libraries
         self.process: subprocess.Popen[bytes] | None = None
         self.made = 0
         self.user = self.other_user()
@@ -93,6 +93,8 @@ class Cluster:
             f"unix_socket_directories={self.folder}",
             "-c",
             "max_connections=100",
+            "-c",
+            f"shared_preload_libraries={self.libraries}",
         ]
         with open(self.folder / "log", "ab") as log:
             self.process = subprocess.Popen(
@@ -125,10 +127,10 @@ class Cluster:
 
 
 @contextlib.contextmanager
-def cluster() -> Iterator[Cluster]:
+def cluster(libraries: str = "") -> Iterator[Cluster]:
     """A server that stands as long as the block; a Refusal says why there is none."""
     with tempfile.TemporaryDirectory(prefix="control-postgresql-") as folder:
-        made = Cluster(pathlib.Path(folder))
+        made = Cluster(pathlib.Path(folder), libraries)
         try:
             made.start()
             yield made

@@ -3,7 +3,9 @@
 Proved signs on loopback without trouble; workers, each a process, over a database of their own; and publications, all
 asked for at once or so many a second. It prints how many ended a second, how long each took from the asking to its end,
 how old what is known of a sign became, how long a co-process takes to begin, and the processor's time and the memory of
-the workers with their co-processes and of the database's server, without the signs.
+the workers with their co-processes and of the database's server, without the signs. With --idle it is watched first as
+long as is said while nobody asks for anything. Of PostgreSQL it says what the server counts, which does not hang on how
+fast the machine is.
 """
 
 import argparse
@@ -27,6 +29,7 @@ from wisangub.room.store.values import whole
 from .chaos_place import KINDS, Place, placed
 from .chaos_workers import Workers
 from .loopback import Fates, Loopback
+from .statements import LIBRARY, Counts, counted
 from .usage import Group, children, pinned
 
 DESCRIPTION = TOP / "signs/roadside.sign"
@@ -46,6 +49,7 @@ class Asked:
     poll: float
     seconds: float
     hold: float
+    idle: float
     tick: float
     is_pinned: bool
     database: str
@@ -166,10 +170,29 @@ def told(asked: Asked, store: Store, seconds: float, watch: Watch) -> None:
     )
     print(f"{count(store, 'lines')} lines; a co-process begins in {beginning(asked):.1f} ms, half of the times")
     for group in watch.groups:
-        print(group.told(span))
+        print(group.told(span, len(took)))
     memory = sum(group.most_memory for group in watch.groups)
     print(f"together {memory:.0f} MB, {1000 * memory / asked.signs:.0f} kB a sign of the fleet")
     print(f"load {os.getloadavg()[0]:.1f}, {os.cpu_count()} processors")
+
+
+def counts(store: Store, place: Place) -> Counts | None:
+    """What the server counts; None of SQLite."""
+    return None if place.server is None else counted(store.database)
+
+
+def idle(asked: Asked, store: Store, workers: Workers, place: Place) -> None:
+    """What is taken while signs are read and nobody asks for anything."""
+    watch, before, ends = Watch(store, grouped(workers, place)), counts(store, place), time.monotonic() + asked.idle
+    while time.monotonic() < ends:
+        time.sleep(LOOK_AT_MEMORY)
+    after, span = counts(store, place), watch.span()
+    print(f"nobody asks for anything, {(watch.gets() - watch.gets_before) / span:.0f} Gets a second")
+    for group in watch.groups:
+        group.look(children())
+        print(group.told(span))
+    if before is not None and after is not None:
+        print((after - before).told(0, "", span))
 
 
 def grouped(workers: Workers, place: Place) -> list[Group]:
@@ -201,9 +224,14 @@ def run(asked: Asked, folder: pathlib.Path, place: Place) -> bool:
         if asked.is_pinned:
             pinned([process for group in groups for process in group.processes])
         begun_once(store, rows)
-        watch = Watch(store, grouped(workers, place))
+        if asked.idle:
+            idle(asked, store, workers, place)
+        watch, before = Watch(store, grouped(workers, place)), counts(store, place)
         seconds = carried(asked, store, rows, watch)
+        after = counts(store, place)
         told(asked, store, seconds, watch)
+        if before is not None and after is not None:
+            print((after - before).told(asked.commands, "publication", watch.span()))
         return count(store, "commands WHERE who = 'measure' AND outcome = 'accepted'") == asked.commands
     finally:
         workers.end()
@@ -214,21 +242,24 @@ def arguments() -> argparse.ArgumentParser:
     parser = argparse.ArgumentParser(
         prog="python3 -m trials.room.measure", description=__doc__, formatter_class=argparse.RawDescriptionHelpFormatter
     )
-    parser.add_argument("--signs", type=int, default=200, metavar="N")
-    parser.add_argument("--commands", type=int, default=200, metavar="N")
-    parser.add_argument("--workers", type=int, default=1, metavar="N")
+    parser.add_argument("--signs", type=int, default=200, metavar="N", help="how many signs")
+    parser.add_argument("--commands", type=int, default=200, metavar="N", help="how many publications are asked for")
+    parser.add_argument("--workers", type=int, default=1, metavar="N", help="how many workers drive the signs")
     parser.add_argument(
         "--rate", type=float, default=0, metavar="N", help="commands asked for a second; else all at once"
     )
     parser.add_argument("--poll", type=float, default=10.0, metavar="SECONDS", help="from reading to reading of a sign")
     parser.add_argument("--seconds", type=float, default=300, metavar="N", help="that the commands have to end")
     parser.add_argument("--hold", type=float, default=0, metavar="N", help="that signs are watched for at least")
-    parser.add_argument("--tick", type=float, default=1.0, metavar="SECONDS")
+    parser.add_argument("--idle", type=float, default=0, metavar="SECONDS", help="that nobody asks for anything before")
+    parser.add_argument("--tick", type=float, default=1.0, metavar="SECONDS", help="how long a tick is")
     parser.add_argument(
         "--one-processor", action="store_true", dest="is_pinned", help="workers, co-processes and server on one"
     )
-    parser.add_argument("--database", choices=KINDS, default=KINDS[0])
-    parser.add_argument("--signtool", default=str(SIGNTOOL), metavar="PATH")
+    parser.add_argument("--database", choices=KINDS, default=KINDS[0], help="the kind of the database")
+    parser.add_argument(
+        "--signtool", default=str(SIGNTOOL), metavar="PATH", help="the program that the signs and their centres are"
+    )
     return parser
 
 
@@ -238,7 +269,7 @@ def main() -> int:
         start.needed("trials.room.measure", "psycopg")
     signal.signal(signal.SIGTERM, lambda *_: sys.exit(143))
     with tempfile.TemporaryDirectory(prefix="measure-") as folder, placed(
-        asked.database, pathlib.Path(folder)
+        asked.database, pathlib.Path(folder), LIBRARY
     ) as place:
         return 0 if run(asked, pathlib.Path(folder), place) else 1
 

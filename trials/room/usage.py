@@ -61,11 +61,12 @@ class Group:
         self.most_memory = max(self.most_memory, sum(map(own_memory, [*self.processes, *below])))
         self.most_children = max(self.most_children, len(below))
 
-    def told(self, span: float) -> str:
-        """In words."""
+    def told(self, span: float, of: int = 0) -> str:
+        """In words, and of each of so many things that were done."""
         took = self.time(children()) - self.begun
+        each = f", {1000 * took / of:.1f} ms each" if of else ""
         return (
-            f"{self.name}: {took:.1f} s of processor in {span:.1f} s ({100 * took / span:.0f} of 100), at most"
+            f"{self.name}: {took:.1f} s of processor in {span:.1f} s ({100 * took / span:.1f} of 100{each}), at most"
             f" {self.most_memory:.0f} MB and {self.most_children} children at a time"
         )
 

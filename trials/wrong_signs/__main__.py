@@ -2,7 +2,8 @@
 
 A line for each that is not found as it should be, with --loud for each at all; last `N passed, N failed`. With
 --default those that have a group are tried as a test without options tries them: each has to be found, be it by
-whichever chapter, and of each group half within 150 seconds of the sign.
+whichever chapter, and of each group half within 150 seconds of the sign. With --further others of these groups are,
+each of which has to be found.
 """
 
 import argparse
@@ -20,7 +21,7 @@ from wisangub.tester.sign.oracle import Oracle, made
 
 from . import bench
 from .load import Mutant, sign_of, unload
-from .table import MUTANTS
+from .table import FURTHER, MUTANTS
 
 MOST_DATAGRAMS = 10
 MOST_SECONDS = 150.0  # of the sign, at the median of a group, with --default
@@ -90,19 +91,21 @@ def main() -> int:
     parser = argparse.ArgumentParser(
         prog="python3 -m trials.wrong_signs", description="whether the tester finds the wrong signs"
     )
-    parser.add_argument("--only", action="append", default=[])
+    parser.add_argument("--only", action="append", default=[], help="this wrong sign alone; may be given again")
     parser.add_argument("--sign", type=pathlib.Path, help="a description; else the bench sign")
     parser.add_argument("--signtool", default="model", help="the program that is the oracle; else the model")
-    parser.add_argument("--jobs", type=int, default=1)
-    parser.add_argument("--loud", action="store_true")
+    parser.add_argument("--jobs", type=int, default=1, help="so many at a time")
+    parser.add_argument("--loud", action="store_true", help="says how each was found")
     parser.add_argument("--default", action="store_true", help="those with a group, as a test without options")
+    parser.add_argument("--further", action="store_true", help="others of these groups, as a test without options")
     asked = parser.parse_args()
     description = asked.sign.read_bytes() if asked.sign else BENCH
-    chosen = [mutant for mutant in MUTANTS if not asked.only or any(part in mutant.name for part in asked.only)]
-    chosen = [mutant for mutant in chosen if mutant.group or not asked.default]
+    known, is_default = (FURTHER if asked.further else MUTANTS), asked.default or asked.further
+    chosen = [mutant for mutant in known if not asked.only or any(part in mutant.name for part in asked.only)]
+    chosen = [mutant for mutant in chosen if mutant.group or not is_default]
     outcomes: list[Outcome] = []
     with concurrent.futures.ProcessPoolExecutor(asked.jobs) as pool:
-        waiting = [pool.submit(tried, one, description, asked.signtool, False, asked.default) for one in chosen]
+        waiting = [pool.submit(tried, one, description, asked.signtool, False, is_default) for one in chosen]
         for done in waiting:
             outcome = done.result()
             outcomes.append(outcome)

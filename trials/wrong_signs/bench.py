@@ -30,6 +30,10 @@ class ModelOracle:
     def tick(self) -> None:
         self._sign.tick()
 
+    def power(self, seconds: int) -> None:
+        self._sign.showing.power_lost()
+        self._sign.showing.power_back(seconds)
+
     def end(self) -> None:
         pass
 

@@ -21,7 +21,8 @@ IMPORTS = {  # the files in the order in which they are loaded, and which of the
     "showing": ("layout", "codes", "description", "multi", "state"),
     "objects": ("wire", "codes", "description", "state"),
     "changes": ("wire", "codes", "description", "objects", "showing", "state"),
-    "sign": ("wire", "codes", "changes", "description", "objects", "showing", "state"),
+    "replies": ("wire",),
+    "sign": ("replies", "wire", "codes", "changes", "description", "objects", "showing", "state"),
     "centre": ("wire", "codes", "objects"),
     "text": ("layout", "centre", "codes", "description", "sign"),
 }

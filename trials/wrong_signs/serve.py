@@ -37,9 +37,15 @@ def main() -> int:
     parser = argparse.ArgumentParser(
         prog="python3 -m trials.wrong_signs.serve", description="a wrong sign on a UDP port"
     )
-    parser.add_argument("names", nargs="+", metavar="NAME", choices=[mutant.name for mutant in MUTANTS])
-    parser.add_argument("--port", type=int, default=1161)
-    parser.add_argument("--sign", required=True, type=pathlib.Path)
+    parser.add_argument(
+        "names",
+        nargs="+",
+        metavar="NAME",
+        choices=[mutant.name for mutant in MUTANTS],
+        help="the rules in which the sign is wrong",
+    )
+    parser.add_argument("--port", type=int, default=1161, help="the UDP port of the sign")
+    parser.add_argument("--sign", required=True, type=pathlib.Path, help="its description, as in signs/")
     asked = parser.parse_args()
     description = asked.sign.read_bytes()
     sign = Wrong(sign_of([mutant for mutant in MUTANTS if mutant.name in asked.names], description))

@@ -7,6 +7,9 @@ from .load import Mutant
 FOLDER = pathlib.Path(__file__).resolve().parent
 _USUAL = {"has": "1 0", "order": "high", "size": "23 14"}
 FILES = ("wire.txt", "objects.txt", "rows.txt", "showing.txt", "edges.txt")
+FURTHER_FILES = tuple(
+    f"further/{name}.txt" for name in ("times_and_contents", "texts", "tags", "lines", "sizes", "times_and_rows")
+)
 
 
 def mutant(lines: list[str]) -> Mutant:
@@ -25,3 +28,4 @@ def read(name: str) -> list[Mutant]:
 
 
 MUTANTS: list[Mutant] = [found for name in FILES for found in read(name)]
+FURTHER: list[Mutant] = [found for name in FURTHER_FILES for found in read(name)]  # of groups, tried by hand alone
