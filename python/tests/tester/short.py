@@ -24,6 +24,8 @@ MODULES = tuple(
         "parts",
         "reports",
         "resume",
+        "person",
+        "several",
         "texts",
         "load",
         "files",
@@ -72,7 +74,7 @@ def main() -> int:
     parser = argparse.ArgumentParser(
         prog="env -C python python3 -m tests.tester.short", description="the short form of the tester's tests"
     )
-    parser.add_argument("--jobs", type=int, default=4)
+    parser.add_argument("--jobs", type=int, default=4, help="so many at a time")
     parser.add_argument("--seconds", type=float, default=150, help="after so many no wrong sign is begun")
     asked = parser.parse_args()
     until = time.monotonic() + asked.seconds

@@ -9,6 +9,7 @@ import sys
 import tempfile
 
 from model import text
+from model.agent import Agent
 from model.sign import Sign
 from wisangub.process.places import TOP
 from wisangub.snmp import wire
@@ -18,7 +19,7 @@ from wisangub.tester.requests.objects import Column, Row
 from wisangub.tester.requests.steps import get, put
 
 from .described_signs import OTHERS, Made, Other, WithTable, differing, fixed, font, made, misbehaving
-from .test_udp import free_port, front_end, in_real_time
+from .endpoints import free_port, front_end, in_real_time
 
 SMALL = OTHERS["column"]
 
@@ -99,6 +100,29 @@ def test_a_font_table_is_taken_within_ten_seconds() -> None:
     assert lines == spelled.decode().splitlines() and held.clock.now() < 10, held.clock.now()
     held = made(spelled, WithTable(spelled), is_by_table=False)
     assert not differing(held.describing.run(), spelled) and held.clock.now() > 20
+
+
+class OurTable:
+    """Our sign with the objects of its fonts."""
+
+    def __init__(self, spelled: bytes) -> None:
+        self.agent = Agent(text.described(spelled))
+        assert self.agent.show_fonts()
+
+    def receive(self, datagram: bytes) -> tuple[bytes | None, object]:
+        answer: tuple[bytes | None, object] = self.agent.receive(datagram)
+        return answer
+
+    def tick(self) -> None:
+        self.agent.sign.tick()
+
+
+def test_the_font_table_of_our_own_sign_is_taken() -> None:
+    for spelled in (*OTHERS.values(), text.BENCH):
+        held = made(spelled, OurTable(spelled))
+        lines = [line for line in held.describing.run().splitlines() if not line.startswith("#")]
+        assert lines == [line for line in spelled.decode().splitlines() if not line.startswith("#")]
+        assert held.clock.now() < 10, held.clock.now()
 
 
 def test_loss_doubles_and_delay_change_nothing() -> None:

@@ -24,7 +24,8 @@ from wisangub.tester.report import files, page, terminal, words
 from wisangub.tester.report.baseline import Baseline
 from wisangub.tester.report.causes import cause, causes
 from wisangub.tester.report.picture import pictures
-from wisangub.tester.requests.objects import Name, Value
+from wisangub.tester.requests.objects import Name, Value, integer, octets
+from wisangub.tester.session import chapters_of
 
 ABOUT = words.About("127.0.0.1:1", "bench.sign", "model", None, 1, 0, False, "today")
 
@@ -97,14 +98,37 @@ def test_what_was_changed_since_the_description_is_told_and_set_back() -> None:
     sign.state.ask(3, 1, 6)
     session = bench.session(text.BENCH, sign, requests=0)
     results = bench.run(session, ["communities"])
-    assert results.set_back == [
-        ("defaultPageOnTime.0", "30", "99"),
-        ("dmsMessageStatus.3.1", "1 (notUsed)", "2 (modifying)"),
-    ]
-    assert results.is_clean() and sign.state.defaults[7] == 30 and sign.state.rows[3][0].status == 1
+    assert results.set_back[0] == ("defaultPageOnTime.0", "30", "99")
+    assert results.emptied == [("dmsMessageStatus.3.1", "2 (modifying)")]
+    assert results.is_clean() and sign.state.defaults[7] == 99 and sign.state.rows[3][0].status == 1
     told = "\n".join(terminal.ending(results, ABOUT, []))
-    assert "defaultPageOnTime.0 is 30 in the description, was 99 on the sign" in told
+    assert "set: defaultPageOnTime.0 from 99 to 30, and back at the end" in told
+    assert "emptied: dmsMessageStatus.3.1 was 2 (modifying)" in told
     assert json.loads(files.as_json(results, ABOUT, []))["set_back"][0]["read"] == "99"
+
+
+def test_the_sign_s_own_defaults_codes_and_times_are_as_they_were_at_the_end() -> None:
+    for faulty in (0.0, 0.1):
+        sign = Sign(text.bench())
+        session = bench.session(text.BENCH, sign, requests=0, faulty=faulty, both_ways=True)
+        own = {
+            scalar("defaultFont"): integer(2),
+            scalar("dmsTimeCommLoss"): integer(7),
+            scalar("dmsEndDurationMessage"): octets(bytes([2, 0, 1, 0x12, 0x34])),
+        }
+        assert session.reset.put_back(own) == []
+        results = bench.run(session, ["communities"])
+        assert results.is_set_back and session.reset.read(list(own)) == own
+        said = words.set_back_words(results)
+        assert "set: dmsTimeCommLoss.0 from 7 to 0, and back at the end" in said, said
+        assert any(line.startswith("set: dmsEndDurationMessage.0 from OCTET STRING 0200011234 to") for line in said)
+
+
+def test_a_sign_that_is_another_is_not_written_to() -> None:
+    sign = Sign(text.described(text.BENCH.replace(b"size 23 14", b"size 24 14")))
+    sign.state.defaults[7] = 99
+    results = bench.session(text.BENCH, sign, requests=0).run(chapters_of(("communities",), False))
+    assert results.stopped and sign.state.defaults[7] == 99
 
 
 def test_another_matrix_is_told_first() -> None:

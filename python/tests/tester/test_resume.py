@@ -10,6 +10,7 @@ from trials.wrong_signs import bench
 from trials.wrong_signs.load import sign_of
 from trials.wrong_signs.table import MUTANTS
 from wisangub.refusal import Refusal
+from wisangub.snmp.names import scalar
 from wisangub.tester.chapters import Chapter
 from wisangub.tester.findings.results import ChapterResult, Quiet, Results, Verdict
 from wisangub.tester.report import files, terminal, words
@@ -83,6 +84,22 @@ def test_a_right_sign_conforms_in_two_parts() -> None:
         Earlier.read(path, ABOUT, COMMUNITIES).put_into(made.results, made.pair.port.way)
         results = made.run(chapters_of(CHAPTERS, False))
     assert first.verdict() is Verdict.NOT_JUDGED and results.verdict() is Verdict.CONFORMS, results.unjudged()
+
+
+def test_what_was_read_first_is_put_back_by_the_test_that_goes_on() -> None:
+    with tempfile.TemporaryDirectory() as folder:
+        path, sign = pathlib.Path(folder) / "report.json", Sign(text.bench())
+        sign.state.defaults[7] = 99
+        made = session(sign, Interrupting())
+        setattr(made.reset, "put_back", lambda _values: [scalar("defaultPageOnTime")])
+        first = made.run(chapters_of(CHAPTERS, False))
+        assert not first.is_set_back and sign.state.defaults[7] == 30
+        path.write_text(files.as_json(first, ABOUT, []), encoding="utf-8")
+        made = session(sign, Interrupting(False))
+        Earlier.read(path, ABOUT, COMMUNITIES).put_into(made.results, made.pair.port.way)
+        results = made.run(chapters_of(CHAPTERS, False))
+    assert results.is_set_back and sign.state.defaults[7] == 99
+    assert results.set_back == [("defaultPageOnTime.0", "30", "99")]
 
 
 def test_a_report_of_another_test_is_not_taken_up() -> None:

@@ -2,9 +2,12 @@
 
 from model import text
 from trials.wrong_signs import bench
-from trials.wrong_signs.__main__ import BENCH, tried
-from trials.wrong_signs.table import MUTANTS
+from trials.wrong_signs.__main__ import BENCH, description_for, tried
+from trials.wrong_signs.load import edited, sign_of, unload
+from trials.wrong_signs.table import FURTHER, MUTANTS
 from wisangub.process.places import SIGNTOOL, TOP
+from wisangub.tester.chapters import ALL
+from wisangub.tester.findings.results import Verdict
 from wisangub.tester.sign.judge import SignJudge
 from wisangub.tester.sign.oracle import made
 from wisangub.tester.soak import program as soak
@@ -19,6 +22,14 @@ FEW = (
     "a_duration_a_second_short",
     "silence_counts_dropped_datagrams",
 )
+
+
+def test_each_wrong_sign_is_made_of_the_model() -> None:
+    every = [*MUTANTS, *FURTHER]
+    assert all(edited(wrong) for wrong in every)
+    for wrong in {held.file: held for held in every}.values():
+        sign_of([wrong], description_for(wrong, BENCH))
+        unload([wrong])
 
 
 def test_the_model_beside_itself_shows_nothing() -> None:
@@ -48,11 +59,18 @@ def test_the_program_beside_the_model_shows_nothing() -> None:
 
 def test_a_soak_counts_what_it_told() -> None:
     entry = {"under_test": "model", "signtool": "model", "sign": "bench", "requests": 150, "commit": ""}
-    entry |= {"both_ways": False}
+    entry |= {"both_ways": False, "whole": False}
     for faulty in (0.0, 0.3):
         held = soak.run(entry | {"seed": 5, "faulty": faulty}, text.BENCH)
         assert held["clean"] and held["cases"] == 3 and (held["not_told"] == 0 or faulty), held
         assert held["told_requests"] >= 150 or held["not_told"], held
+
+
+def test_a_whole_test_conforms_where_one_datagram_in_twenty_is_lost_late_or_doubled_both_ways() -> None:
+    session = bench.session(text.BENCH, seed=3, faulty=0.05, requests=0, both_ways=True)
+    session.results.lossy = 30.0
+    results = bench.run(session, [chapter.name for chapter in ALL if not chapter.is_slow and chapter.name != "random"])
+    assert results.verdict() is Verdict.CONFORMS and session.pair.clock.now() < 12 * 60, results.unjudged()
 
 
 def test_wrong_signs_are_found() -> None:

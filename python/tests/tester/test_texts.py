@@ -1,12 +1,14 @@
 """Which texts a test sends: at the edges of tags and of the matrix, so many of so many, and in other chapters' rows."""
 
 import pathlib
+import sys
 from collections import Counter
 
 from model import text
 from trials.wrong_signs import bench
-from trials.wrong_signs.load import sign_of
-from trials.wrong_signs.table import MUTANTS
+from trials.wrong_signs.__main__ import BENCH, description_for
+from trials.wrong_signs.load import Mutant, package_of, sign_of, unload
+from trials.wrong_signs.table import FURTHER, MUTANTS
 from wisangub.process.places import TOP
 from wisangub.tester.chapters import ALL
 from wisangub.tester.chapters.carrying import CHAPTERS, carried
@@ -90,7 +92,8 @@ def test_other_chapters_carry_texts_in_the_rows_that_they_validate() -> None:
 
 
 def test_where_a_carried_text_differs_the_case_is_judged_without_it() -> None:
-    wrong = sign_of([mutant for mutant in MUTANTS if mutant.name == "a_line_part_twice_is_refused"], text.BENCH)
+    name = "a_new_line_begins_with_the_default_font"
+    wrong = sign_of([mutant for mutant in MUTANTS if mutant.name == name], text.BENCH)
     session = bench.session(text.BENCH, wrong, requests=0)
     session.context.texts = 0
     results = bench.run(session, ["rows"])
@@ -101,3 +104,35 @@ def test_where_a_carried_text_differs_the_case_is_judged_without_it() -> None:
 def test_there_are_six_wrong_signs_of_each_group() -> None:
     groups = Counter(mutant.group for mutant in MUTANTS if mutant.group)
     assert len(groups) == 8 and set(groups.values()) == {6}
+    further = Counter(mutant.group for mutant in FURTHER)
+    assert len(further) == 8 and min(further.values()) >= 19 and sum(further.values()) == len(FURTHER) == 319
+    assert len({mutant.name for mutant in [*MUTANTS, *FURTHER]}) == len(MUTANTS) + len(FURTHER)
+
+
+def test_further_wrong_signs_that_lay_texts_out_are_told_by_the_texts_that_are_sent() -> None:
+    """By the texts alone, of two sizes: `python3 -m trials.wrong_signs --further` has the whole test find them all.
+    Those that forget what a default was set to are told under other defaults."""
+    sent: dict[bytes, tuple[Context, dict[bytes, tuple[int, int] | None]]] = {}
+    laying = [held for held in FURTHER if held.file == "layout.py" and held.size in (b"23 14", b"23 30")]
+    for mutant in [held for held in laying if not held.name.endswith("_of_the_description")]:
+        description = description_for(mutant, BENCH)
+        if description not in sent:
+            context = context_of(description)
+            sent[description] = context, {sample.text: context.fault(sample.text) for sample in samples(context)}
+        context, faults = sent[description]
+        sign_of([mutant], description)
+        layout, read = (sys.modules[f"{package_of([mutant])}.{name}"] for name in ("layout", "text"))
+        face = read.described(description).face
+        unload([mutant])
+        told = (layout.laid_out(face, context.defaults, text)[1] != fault for text, fault in faults.items())
+        assert any(told), mutant.name
+
+
+def test_an_end_for_which_there_is_no_room_is_told_by_its_fault() -> None:
+    old = "        number = decimal(rest, 0, 9) if rest else None\n"
+    new = old.replace("0, 9", '0, 8 if kind == "nl" else 9')
+    wrong = Mutant("new_lines_up_to_8", "markup code", "multi.py", old, new)
+    session = bench.session(text.BENCH, sign_of([wrong], text.BENCH), requests=0, most_differences=1)
+    found = bench.run(session, ["validation"]).differences()
+    unload([wrong])
+    assert [held.rule.key for held in found] == ["markup code"]

@@ -1,6 +1,5 @@
 """The command line over UDP: a right sign, a wrong one and its report's command, and nobody at all."""
 
-import contextlib
 import json
 import pathlib
 import shlex
@@ -9,46 +8,12 @@ import socket
 import subprocess
 import sys
 import tempfile
-import time
-from typing import Iterator
+import threading
 
 from model import text
 from wisangub.process.places import TOP
 
-from .skipping import skip
-
-LONG = 300  # seconds that a busy machine may take
-BUSY = 25  # where a test that fails took longer, seconds of the machine are none to go by: it is skipped
-
-
-@contextlib.contextmanager
-def in_real_time() -> Iterator[None]:
-    begun = time.monotonic()
-    try:
-        yield
-    except (AssertionError, subprocess.TimeoutExpired):
-        seconds = time.monotonic() - begun
-        if seconds > BUSY:
-            skip(f"the machine is too busy for a test in real time: {seconds:.0f} s")
-        raise
-
-
-def free_port() -> int:
-    with socket.socket(socket.AF_INET, socket.SOCK_DGRAM) as free:
-        free.bind(("127.0.0.1", 0))
-        return int(free.getsockname()[1])
-
-
-@contextlib.contextmanager
-def front_end(*words: str) -> Iterator[None]:
-    """A sign on a port, which is gone afterwards."""
-    with subprocess.Popen([sys.executable, *words], cwd=TOP, stdout=subprocess.PIPE, stderr=subprocess.DEVNULL) as sign:
-        try:
-            assert sign.stdout is not None and sign.stdout.readline()
-            yield
-        finally:
-            sign.terminate()
-            sign.wait(30)
+from .endpoints import LONG, free_port, front_end, in_real_time
 
 
 def conform(port: int, described: pathlib.Path, *options: str) -> subprocess.CompletedProcess[bytes]:
@@ -133,6 +98,57 @@ def test_interrupts_put_the_sign_back_and_write_the_report() -> None:
                 assert tester.wait(60) == 3 and b"interrupted" in said, said
             held = json.loads(report.read_text(encoding="utf-8"))
             assert held["verdict"] == "not judged" and not any("brought back" in line for line in held["way"]), held
+
+
+def test_a_port_that_closes_ends_the_test() -> None:
+    with tempfile.TemporaryDirectory() as folder:
+        described, port = pathlib.Path(folder) / "bench.sign", free_port()
+        described.write_bytes(text.BENCH)
+        right = ("bin/wisangub-sign", "--signtool", str(TOP / "model/signtool"), "--port", str(port))
+        call = [sys.executable, "-m", "wisangub.tester", "--to", f"127.0.0.1:{port}", "--sign", str(described)]
+        call += ["--signtool", "model", "--silent", "6", "--wait", "0.5", "--lossy", "50"]
+        with in_real_time():
+            with front_end(*right, "--sign", str(described)):
+                tester = subprocess.Popen(call, cwd=TOP, stdout=subprocess.PIPE)
+                assert tester.stdout is not None and b"without --slow" in tester.stdout.readline()
+                assert b"BER forms" in tester.stdout.readline()
+            said = tester.communicate(timeout=LONG)[0]
+        assert tester.returncode == 3 and b"the test was stopped: 6 requests in a row had no reply" in said, said
+        assert b"Random requests: not come to" in said and b"could not be brought back" in said, said
+
+
+class OtherPort(threading.Thread):
+    """Repeats what comes to one port from another one."""
+
+    def __init__(self, port: int) -> None:
+        super().__init__(daemon=True)
+        self.here, self.other = (socket.socket(socket.AF_INET, socket.SOCK_DGRAM) for _ in range(2))
+        self.here.bind(("127.0.0.1", port))
+        self.here.settimeout(LONG)
+        self.count = 0
+
+    def run(self) -> None:
+        while (received := self.here.recvfrom(65_535))[0]:
+            self.other.sendto(*received)
+            self.count += 1
+
+    def end(self) -> None:
+        self.other.sendto(b"", self.here.getsockname())
+        self.join()
+        self.here.close()
+        self.other.close()
+
+
+def test_a_sign_that_answers_from_another_port_is_not_reached() -> None:
+    with tempfile.TemporaryDirectory() as folder:
+        described, port = pathlib.Path(folder) / "bench.sign", free_port()
+        described.write_bytes(text.BENCH)
+        sign = OtherPort(port)
+        sign.start()
+        with in_real_time():
+            ended = conform(port, described, "--wait", "0.2")
+        sign.end()
+        assert ended.returncode == 2 and b"does not answer" in ended.stdout and sign.count, ended
 
 
 def test_nobody_answers() -> None:

@@ -4,11 +4,13 @@ import math
 from typing import Any, Sequence
 
 from model import text
-from trials.wrong_signs import misbehaving
+from model.sign import Sign
+from trials.wrong_signs import bench, misbehaving
 from trials.wrong_signs.misbehaving import Misbehaving
 from wisangub.tester.chapters import ALL
 from wisangub.tester.findings.results import ChapterResult, Quiet, Results, Verdict
-from wisangub.tester.report import words
+from wisangub.tester.report import files, page, words
+from wisangub.tester.runs.repeat import repeat
 from wisangub.tester.session import chapters_of
 from wisangub.tester.sign.way import Oddity
 
@@ -71,9 +73,24 @@ def test_a_reboot_that_nobody_asked_for_differs() -> None:
         assert results.way is not None and results.way.reboots, words.verdict(results)
 
 
+def test_each_report_says_what_was_lost_on_the_way() -> None:
+    results = tried(("communities",), spoils=misbehaving.garbage, share=0.02)
+    about = words.About("127.0.0.1:1", "bench.sign", "model", None, 1, 0, False, "today")
+    for report in (files.as_junit(results, about), files.as_json(results, about, []), page.as_html(results, about, [])):
+        assert Oddity.GARBAGE.value in report
+    assert "the longest silence was" in files.as_junit(tried(("communities",), slow=1.2, wait=1.0), about)
+
+
 def test_another_size_differs() -> None:
     results = tried(("communities",), description=WIDER)
     assert results.verdict() is Verdict.DIFFERS and results.configuration
+
+
+def test_another_spacing_differs_and_it_is_said_that_fonts_cannot_be_read() -> None:
+    spaced = text.BENCH.replace(b"height 7 space 1", b"height 7 space 2")
+    results = tried(("validation",), description=spaced)
+    assert results.verdict() is Verdict.DIFFERS and not results.configuration
+    assert [words.how_sure(held) for held in results.differences() if "fonts cannot be read" in words.how_sure(held)]
 
 
 def test_a_sign_that_falls_silent_is_not_judged() -> None:
@@ -119,6 +136,12 @@ def test_a_budget_ends_the_test_and_the_sign_is_put_back() -> None:
     session.pair.port.way.deadline = 12.0
     results = session.run(chapters_of(("rows", "validation"), False))
     assert results.verdict() is Verdict.NOT_JUDGED and "--budget" in results.stopped and results.is_set_back
+
+
+def test_a_repeated_sequence_leaves_the_sign_s_own_defaults() -> None:
+    sign = Sign(text.bench())
+    sign.state.defaults[7] = 99
+    assert repeat(bench.session(text.BENCH, sign), "tick") == 0 and sign.state.defaults[7] == 99
 
 
 class Interrupting(Quiet):

@@ -14,6 +14,7 @@ from wisangub.tester.requests.objects import Column, Row, integer, octets
 from wisangub.tester.requests.steps import Ask, get, get_next, put
 from wisangub.tester.session import Session
 from wisangub.tester.sign.clock import SimulatedClock
+from wisangub.tester.sign.pair import Inconclusive
 from wisangub.tester.sign.port import Port
 from wisangub.tester.sign.simulated import SimulatedLink
 
@@ -201,6 +202,92 @@ def test_a_late_request_to_any_row_is_seen_on_the_way_back() -> None:
     assert status == {ROW.cell(Column.STATUS): integer(1)}
 
 
+def answered(session: Session, *asks: Ask) -> None:
+    """Requests whose replies come, on a way that lost some before: what is like them is known to be answered."""
+    session.pair.port.passed_over = 1
+    run = session.runner.steps(asks)
+    assert run is None and session.pair.answered
+
+
+def test_a_set_that_is_known_to_be_lost_is_sent_again() -> None:
+    session, losing = begun()
+    answered(session, put((TIME, integer(8))))
+    losing.is_request_lost = True
+    exchange = session.pair.do(put((TIME, integer(9))))
+    assert exchange is not None and exchange.mismatch is None and exchange.theirs is not None
+    assert losing.sent.count(exchange.octets) == 2 and session.reset.read([TIME])[TIME] == integer(9)
+
+
+def test_a_set_that_is_seen_to_be_taken_is_not_waited_for() -> None:
+    session, losing = begun()
+    answered(session, put((TIME, integer(8))))
+    at, losing.is_reply_lost = session.pair.clock.now(), True
+    exchange = session.pair.do(put((TIME, integer(9))))
+    assert exchange is not None and exchange.is_lost and losing.sent.count(exchange.octets) == 1
+    assert session.pair.clock.now() - at < 0.2
+    same = session.pair.do(get(TIME))
+    assert same is not None and same.mismatch is None
+    losing.is_reply_lost = True  # of a kind that none was answered of its reply is waited for
+    exchange = session.pair.do(put(ROW.status(RowStatus.MODIFY_REQ)))
+    assert exchange is not None and exchange.is_lost and session.pair.clock.now() - at > 1
+
+
+def test_a_set_that_is_refused_is_asked_again_as_a_read_is() -> None:
+    session, losing = begun()
+    answered(session, put((TIME, integer(8))))
+    losing.is_request_lost = True
+    at = session.pair.clock.now()
+    exchange = session.pair.do(put((TIME, integer(256))))
+    assert exchange is not None and exchange.theirs is not None and exchange.mismatch is None
+    assert losing.sent.count(exchange.octets) == 2 and session.pair.clock.now() - at < 0.2
+
+
+def test_a_set_that_came_twice_comes_twice_to_ours_too() -> None:
+    session, losing = begun()
+    answered(session, put((TIME, integer(8))), put((TIME, integer(9))))
+    twice = put((TIME, integer(8))).octets(session.pair.port.number - 1, WRITER)
+    assert twice in losing.sent
+    losing.link.send(twice)  # ours does not know of it
+    session.pair.clock.sleep_until(session.pair.clock.now() + 0.01)
+    assert session.runner.steps([get(TIME)]) is None and session.reset.read([TIME])[TIME] == integer(8)
+
+
+def test_a_set_of_before_the_known_state_that_came_late_ends_the_sequence() -> None:
+    session, losing = begun()
+    answered(session, put((TIME, integer(8))))
+    late = put((TIME, integer(8))).octets(session.pair.port.number, WRITER)
+    session.pair.is_dirty = True
+    assert session.reset.reach() == []
+    losing.link.send(late)
+    session.pair.clock.sleep_until(session.pair.clock.now() + 0.01)
+    try:
+        session.runner.steps([get(HEIGHT)])
+    except Inconclusive as why:
+        assert "late or twice" in str(why)
+    else:
+        raise AssertionError("the sequence goes on")
+
+
+def test_a_request_counts_once_for_each_time_that_it_was_sent() -> None:
+    clock = SimulatedClock()
+    link = Silent(clock)
+    port = Port(link, clock)
+    octets_of = get(HEIGHT).octets(7, WRITER)
+    reply = wire.written(wire.Message(wire.RESPONSE, b"admin", 7, 0, 0, [(HEIGHT, integer(14))]))
+    assert port.ask_once(octets_of, 7, wait=0.1).reply is None and port.way.percent() == 100
+    link.replies = [reply]
+    assert port.ask_once(octets_of, 7, is_again=True).reply == reply and port.way.percent() == 50
+    link.replies = [reply]
+    port.listen(0)
+    assert port.way.percent() == 0 and not port.way.late  # the first had its reply within the second that is waited
+    link.replies = [reply, reply]
+    port.listen(0)
+    assert port.way.percent() == 100 and port.way.doubled == 2
+    link.replies = [reply]
+    port.listen(0)
+    assert port.way.percent() == 100 and port.way.doubled == 3
+
+
 def test_asks_of_a_sequence_keep_their_numbers() -> None:
     ask = Ask(wire.GET, ((HEIGHT, (wire.NULL, b"")),), group=3)
     session, _ = begun()
@@ -234,3 +321,19 @@ def test_a_late_reply_to_a_get_is_none_to_a_getnext_of_its_number() -> None:
     after = scalar("defaultPageOffTime")
     link.replies = [reply(TIME), reply(after)]
     assert port.ask_once(get_next(TIME).octets(7, WRITER), 7).reply == reply(after)
+
+
+def test_a_late_reply_is_none_to_another_get_of_its_number() -> None:
+    clock = SimulatedClock()
+    link = Silent(clock)
+    port = Port(link, clock)
+    number = port.new_number()
+
+    def reply(name: tuple[int, ...], value: int) -> bytes:
+        return wire.written(wire.Message(wire.RESPONSE, b"admin", number, 0, 0, [(name, integer(value))]))
+
+    link.replies = [reply(HEIGHT, 14)]
+    assert port.ask_once(get(HEIGHT).octets(number, WRITER), number).reply == reply(HEIGHT, 14)
+    port.new_number()
+    link.replies = [reply(HEIGHT, 14), reply(TIME, 30)]
+    assert port.ask_once(get(TIME).octets(number, WRITER), number).reply == reply(TIME, 30)

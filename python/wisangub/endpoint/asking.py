@@ -14,6 +14,19 @@ Name = tuple[int, ...]
 Values = list[int | str]  # an integer, or octets as digits, for each name that was asked for
 
 
+class Refused(str):
+    """Why a Response has no values, in words: its error-status, and the place of the name at fault, from 1 on."""
+
+    status: int
+    place: int
+
+    @classmethod
+    def of(cls, message: wire.Message) -> "Refused":
+        made = cls(f"error-status {message.status}, {status_word(message.status)}")
+        made.status, made.place = message.status, message.index
+        return made
+
+
 def answer(octets: bytes, community: bytes, number: int) -> wire.Message | None:
     """The Response to a Get; None where the octets are none."""
     message: wire.Message | None = wire.spelled(octets)
@@ -34,7 +47,7 @@ def said(octets: bytes, community: bytes, number: int, asked: list[Name]) -> Val
     if message is None:
         return None
     if message.status:
-        return f"error-status {message.status}, {status_word(message.status)}"
+        return Refused.of(message)
     if [name for name, _ in message.bindings] != asked:
         return "the reply does not answer what was asked"
     return [_worded(value) for _, value in message.bindings]

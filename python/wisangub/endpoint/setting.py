@@ -4,6 +4,7 @@ journal left it."""
 import argparse
 import dataclasses
 import os
+from collections.abc import Callable
 
 from wisangub.output import LOG
 from wisangub.process.coprocess import CoProcess
@@ -37,7 +38,7 @@ def options(about: str | None, command: str) -> argparse.ArgumentParser:
 
 def checked(asked: argparse.Namespace) -> None:
     """Refuses names without a character, and options that go with none that is there."""
-    for name in ("signtool", "sign", "journal", "log", "host"):
+    for name in ("signtool", "sign", "objects", "journal", "log", "host"):
         if getattr(asked, name, None) == "":
             raise Refusal(f"--{name} has no name")
     for option in ("fresh", "accept-damage", "need-journal"):
@@ -45,7 +46,11 @@ def checked(asked: argparse.Namespace) -> None:
             raise Refusal(f"--{option} is of a --journal FILE")
     if asked.json and not asked.log:
         raise Refusal("--json is of a --log FILE")
-    for what, other in (("journal", asked.journal), ("description", asked.sign)):
+    for what, other in (
+        ("journal", asked.journal),
+        ("description", asked.sign),
+        ("file of objects", getattr(asked, "objects", None)),
+    ):
         if asked.log and other and _is_same(asked.log, other):
             raise Refusal(f"{asked.log} cannot be the log and the {what}")
 
@@ -103,10 +108,25 @@ def journal_of(asked: argparse.Namespace, head: Head) -> Journal:
         os.close(old)
 
 
-def begun(asked: argparse.Namespace, end: str, text: bytes | None, journal: Journal | None) -> CoProcess:
-    """The co-process of this description, where the lines of the journal left it."""
+def new(asked: argparse.Namespace, end: str, text: bytes | None) -> CoProcess:
+    """A co-process of this description."""
     process = CoProcess(asked.signtool, [end], text)
     process.begin(b"state" if end == "sign" else b"status last", asked.sign or asked.signtool)
+    return process
+
+
+def begun(
+    asked: argparse.Namespace,
+    end: str,
+    text: bytes | None,
+    journal: Journal | None,
+    before: Callable[[CoProcess], None] | None = None,
+) -> CoProcess:
+    """The co-process of this description, where the lines of the journal left it; `before` hands something over ahead
+    of them."""
+    process = new(asked, end, text)
+    if before is not None:
+        before(process)
     if journal is not None:
         if end == "sign" and process.hand([b"ticks 0"]) != [b"ok"]:
             raise Refusal(f"{asked.signtool} has no line `ticks`, which a journal needs")

@@ -1,6 +1,6 @@
 """A sign on a UDP port: a front end between a socket and `signtool sign`.
 
-    wisangub-sign [--port 1161] [--host 127.0.0.1 | --listen HOST:PORT] [--signtool PATH] [--sign FILE]
+    wisangub-sign [--port 1161] [--host 127.0.0.1 | --listen HOST:PORT] [--signtool PATH] [--sign FILE] [--objects FILE]
         [--journal FILE [--fresh] [--accept-damage] [--need-journal] [--down power|process] [--most-recorded N]]
         [--log FILE|- [--json]] [--no-ticks] [--lose N] [--quiet] [--page [PORT]]
 
@@ -10,7 +10,9 @@ told by the kernel's boot id, or by --down. A journal that is damaged is refused
 from what is whole of it. Where the disk cannot be written it goes on from what is there, answers no SET, and says each
 minute and by its exit status 1 what the next start will not know; with --need-journal it does not start. Of the writing
 community --most-recorded N datagrams a second are recorded, 50 where nothing is said. With --lose N every N-th datagram
-to the sign is lost. What the sign accepts is printed. With --page a browser of this machine shows the lamps and the
+to the sign is lost. What the sign accepts is printed. With --objects there are objects beside the sign's, such as
+sysDescr.0 or a photocell, as the file has them, which is read again at a SIGHUP; what managers set there is printed as
+lines `set NAME VALUE`. With --page a browser of this machine shows the lamps and the
 last datagrams at http://127.0.0.1:8161/, and has buttons that take the power, let seconds pass and lose a datagram. It
 ends at an interrupt or a SIGTERM, and at a second one or before it is announced at once.
 """
@@ -26,11 +28,12 @@ from wisangub.process.coprocess import CoProcess
 from wisangub.refusal import Refusal, status_of
 
 from .clock import Moment, running
+from .firmware import Firmware
 from .keeper import Keeper
 from .limit import MOST_RECORDED, Limit
 from .page.start import copy_of, watched
 from .records import Head
-from .setting import MOST_NUMBER, begun, checked, journal_of, log_of, options
+from .setting import MOST_NUMBER, begun, checked, journal_of, log_of, new, options
 from .sign_front_end import Heard, SignFrontEnd
 from .sockets import Waiting, bound, host_and_port, named
 
@@ -43,6 +46,9 @@ def _asked_for() -> argparse.Namespace:
     words.add_argument("--host", default="127.0.0.1", help="an IPv4 or IPv6 address, or a name")
     words.add_argument("--port", type=int, default=1161, help="a UDP port; 0 is one that is free, which is printed")
     words.add_argument("--listen", metavar="HOST:PORT", help="both in one; an IPv6 address stands in brackets")
+    words.add_argument(
+        "--objects", metavar="FILE", help="objects beside the sign's, as in signs/; read at a SIGHUP too"
+    )
     words.add_argument("--accept-damage", action="store_true", help="goes on, and puts the rest aside")
     words.add_argument("--down", choices=("power", "process"), help="what the time without a process was")
     words.add_argument(
@@ -75,9 +81,10 @@ def has_power(sign: CoProcess) -> bool:
 def main() -> int:
     asked = _asked_for()
     log, text = log_of(asked), description.read(asked.sign)
+    firmware = Firmware(asked.objects, lambda: new(asked, "sign", text), log, asked.quiet) if asked.objects else None
     with bound(asked.host, asked.port) as udp_socket:
         journal = journal_of(asked, Head("sign", description.digest(text))) if asked.journal else None
-        sign = begun(asked, "sign", text, journal)
+        sign = begun(asked, "sign", text, journal, firmware.publish if firmware else None)
         copy, keeper = copy_of(asked, text, journal), Keeper(journal) if journal else None
         up, lines = running(), list[bytes]()
         if keeper:
@@ -93,7 +100,11 @@ def main() -> int:
                 print_line(f"a sign at {named(at if ':' in at[0] else (asked.host, at[1]))}")
             if page and not asked.quiet:
                 print_line(f"a page at {page}")
-            served = SignFrontEnd(sign, udp_socket, keeper, log, up, asked.lose, asked.quiet, who, limit, watcher)
+            if firmware:
+                firmware.tell(sign)
+            served = SignFrontEnd(
+                sign, udp_socket, keeper, log, up, asked.lose, asked.quiet, who, limit, watcher, firmware
+            )
             is_kept = served.serve(waiting, not asked.no_ticks)
     sign.end()
     if log:

@@ -9,6 +9,7 @@ from wisangub.refusal import Refusal, reason
 from wisangub.snmp.wire import MOST_DATAGRAM
 
 from .clock import running
+from .firmware import Firmware
 from .keeper import Keeper
 from .limit import Limit
 from .log import Log
@@ -31,7 +32,7 @@ def line_of(octets: bytes) -> bytes:
 class SignFrontEnd:
     """`lose`: every so many datagrams one is lost, 0 for none. Without a keeper nothing is kept. `up` is the moment up
     to which the sign was told the time. With a keeper the communities are known, and a limit. A watcher is told what
-    passes."""
+    passes. With firmware there are objects beside the sign's."""
 
     def __init__(
         self,
@@ -45,16 +46,19 @@ class SignFrontEnd:
         communities: Communities = (b"", b""),
         limit: Limit[Heard] | None = None,
         watcher: Watcher | None = None,
+        firmware: Firmware | None = None,
     ) -> None:
         self.sign, self.udp_socket, self.keeper, self.log = sign, udp_socket, keeper, log
         self.communities, self.limit = communities, limit or Limit()
         self.up, self.lose, self.is_quiet, self.count = up, lose, is_quiet, 0
-        self.watcher = watcher or Watcher()
+        self.watcher, self.firmware = watcher or Watcher(), firmware
 
     def serve(self, waiting: Waiting, has_ticks: bool) -> bool:
         """Until it is stopped. Seconds that have passed go before datagrams that wait. Whether all is recorded that
         should be."""
         while not waiting.is_stopped:
+            if self.firmware:
+                self.firmware.turn(self.sign)
             left = self.up + 1 - running() if has_ticks else None
             if left is not None and left <= 0:
                 self.tick()
@@ -104,10 +108,14 @@ class SignFrontEnd:
         if self.log:
             for (octets, sender), _ in some:
                 self.log.datagram("in", sender, octets)
+        if self.firmware and some:
+            self.firmware.keep_time(self.sign)
         answers = self.sign.hand([line_of(octets) for (octets, _), _ in some]) if some else []
         answered = [one[1] for one, answer in zip(some, answers) if self.is_answered(one, answer)]
         if self.keeper and answered:
             self.keeper.heard(by_kept=Sort.CHANGING in answered)
+        if self.firmware and any(sort_of(octets, *self.communities) is Sort.CHANGING for (octets, _), _ in some):
+            self.firmware.tell(self.sign)
 
     def sorted(self, heard: list[Heard]) -> list[Sorted]:
         """What is handed over now: what waited for its second, and what is heard, but for what has to wait or is

@@ -13,6 +13,7 @@ from wisangub.snmp.wire import MOST_DATAGRAM, RESPONSE, spelled
 MOST_FAULTS = 100  # of earlier datagrams, that are passed over at once
 _MOST_STRAYS = 16  # datagrams from elsewhere that are read at once, and senders that are told
 _MOST_WAIT = 86_400.0  # seconds that are waited for at once
+_MOST_SIGNALS = 4096  # that are forgotten at once
 Address = tuple[Any, ...]
 
 
@@ -137,7 +138,8 @@ class Waiting:
         self.is_stopped = False
         self.files: list[int] = []  # that were waited for last, by this poll
         self.woken, self.waker = socket.socketpair()
-        self.waker.setblocking(False)
+        for one in (self.woken, self.waker):
+            one.setblocking(False)
         self.ready = self.poll_of([])
         signal.set_wakeup_fd(self.waker.fileno(), warn_on_full_buffer=False)
         stop: Callable[..., None] = self.stop
@@ -162,4 +164,11 @@ class Waiting:
         if files != self.files:
             self.files, self.ready = list(files), self.poll_of(files)
         found = self.ready.poll(None if seconds is None else 1000 * min(max(0.0, seconds), _MOST_WAIT))
+        if not self.is_stopped and any(file == self.woken.fileno() for file, _ in found):
+            self.forget()
         return [] if self.is_stopped else [file for file, _ in found if file in files]
+
+    def forget(self) -> None:
+        """Another signal than those that stop it came, which is waited for no more."""
+        with contextlib.suppress(BlockingIOError):
+            self.woken.recv(_MOST_SIGNALS)

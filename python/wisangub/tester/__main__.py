@@ -7,6 +7,7 @@ from wisangub import commands
 PARTS = {
     "centre": "wisangub.tester.centre.program",
     "describe": "wisangub.tester.describe.program",
+    "several": "wisangub.tester.several.program",
     "soak": "wisangub.tester.soak.program",
     "vectors": "wisangub.tester.vectors.program",
 }

@@ -15,6 +15,7 @@ from wisangub.refusal import Refusal, reason
 from .chapters import ALL, NAMES
 from .context import Context
 from .findings.results import LOSSY, Quiet, Watcher
+from .person.answers import Reader
 from .report import terminal, words
 from .report.baseline import Baseline
 from .report.earlier import Earlier
@@ -26,6 +27,7 @@ from .runs.repeat import repeat
 from .session import Session, chapters_of
 from .sign.capture import Capture
 from .sign.claimed import ClaimedOracle
+from .sign.claimed_device import DeviceOracle
 from .sign.claims import claims_of
 from .sign.clock import RealClock
 from .sign.described import Bad, cause, described
@@ -73,7 +75,8 @@ def texts(word: str) -> int:
     return sys.maxsize if word == "all" else whole(word)
 
 
-def _arguments() -> argparse.ArgumentParser:
+def arguments() -> argparse.ArgumentParser:
+    """The options of a test."""
     parser = argparse.ArgumentParser(
         prog=called("wisangub-conform"), description="compares a sign over UDP with the proved one, reply by reply"
     )
@@ -109,13 +112,15 @@ def _arguments() -> argparse.ArgumentParser:
     parser.add_argument(
         "--pcap", type=pathlib.Path, metavar="FILE", help="what was sent and what came, as tcpdump writes it"
     )
-    parser.add_argument("--junit", type=pathlib.Path, metavar="FILE")
-    parser.add_argument("--json", type=pathlib.Path, metavar="FILE")
+    parser.add_argument(
+        "--junit", type=pathlib.Path, metavar="FILE", help="the report for a test bench, in JUnit's form"
+    )
+    parser.add_argument("--json", type=pathlib.Path, metavar="FILE", help="the report for programs")
     parser.add_argument(
         "--signtool",
         default=str(SIGNTOOL),
         metavar="PATH",
-        help="the program that is the oracle; `model` is that of model",
+        help="the program that replies are compared with; `model` is the model in Python, without the kit",
     )
     parser.add_argument("--wait", type=above_nothing, default=1.0, metavar="SECONDS", help="how long a reply may take")
     parser.add_argument(
@@ -137,6 +142,9 @@ def _arguments() -> argparse.ArgumentParser:
     parser.add_argument(
         "--hours", type=above_nothing, default=0.0, metavar="HOURS", help="random requests for so long after the rest"
     )
+    parser.add_argument(
+        "--person", action="store_true", help="asks a person what the sign shows, and to switch its power off and on"
+    )
     parser.add_argument("--budget", type=above_nothing, metavar="MINUTES", help="the test ends after so many")
     parser.add_argument(
         "--anyway", action="store_true", help="goes on where the sign has another size or other rows than described"
@@ -145,7 +153,10 @@ def _arguments() -> argparse.ArgumentParser:
         "--baseline", type=pathlib.Path, metavar="FILE", help="says what is new and what is gone since this JSON report"
     )
     parser.add_argument(
-        "--claims", type=pathlib.Path, metavar="FILE", help="what the sign claims: objects, ranges and tags, as TOML"
+        "--claims",
+        type=pathlib.Path,
+        metavar="FILE",
+        help="what the sign claims: objects, ranges and tags, and objects besides, as TOML",
     )
     parser.add_argument(
         "--resume", type=pathlib.Path, metavar="FILE", help="goes on with the test whose JSON report this is, into it"
@@ -213,12 +224,14 @@ def _session(asked: argparse.Namespace, description: bytes, oracle: Oracle, judg
     if asked.budget is not None:
         port.way.deadline = clock.now() + 60 * asked.budget
     claims = claims_of(asked.claims, sign)
-    pair = Pair(port, ClaimedOracle(oracle, claims), clock, Ticks(clock), communities)
+    ours = DeviceOracle(ClaimedOracle(oracle, claims), sign.writer)
+    pair = Pair(port, ours, clock, Ticks(clock), communities, device=ours)
     many = sys.maxsize if asked.texts is None and asked.slow else asked.texts
     context = Context(sign, communities, judge, asked.seed, asked.requests, asked.slow, claims, many)
     session = Session(pair, context, watcher)
     session.results.lossy, session.is_anyway = asked.lossy, asked.anyway
     session.rate, session.hours = asked.rate, asked.hours
+    session.person = Reader() if asked.person else None
     return session
 
 
@@ -261,6 +274,14 @@ def _tested(asked: argparse.Namespace, session: Session, watcher: terminal.Plain
     return results.verdict().status
 
 
+def _repeated(session: Session, sequence: str) -> int:
+    """A sequence once more; then it is said what of the sign's own was set, and set back."""
+    status = repeat(session, sequence)
+    for line in words.set_back_words(session.results):
+        print(line)
+    return status
+
+
 def _passed_over(_number: int, _frame: FrameType | None) -> None:
     """A signal after the first; SIG_IGN in its place would have Python complain of one that was on its way."""
 
@@ -274,7 +295,7 @@ def _interrupted(_number: int, _frame: FrameType | None) -> None:
 
 def main() -> int:
     """The whole command; its exit status is the verdict's, or 2 where it could not test."""
-    asked = _arguments().parse_args()
+    asked = arguments().parse_args()
     oracle: Oracle | None = None
     judge: Judge | None = None
     for number in (signal.SIGINT, signal.SIGTERM):
@@ -284,7 +305,7 @@ def main() -> int:
         oracle = made(asked.signtool, description)
         judge = SignJudge(asked.signtool, description)
         if asked.repeat is not None:
-            return repeat(_session(asked, description, oracle, judge, Quiet()), asked.repeat)
+            return _repeated(_session(asked, description, oracle, judge, Quiet()), asked.repeat)
         watcher = terminal.watcher()
         session = _session(asked, description, oracle, judge, watcher)
         return _tested(asked, session, watcher, _about_of(asked, description))

@@ -7,7 +7,7 @@ from dataclasses import dataclass, field
 from wisangub.snmp.names import COLUMNS, SCALARS, Memory, scalar
 
 from .requests.checksum import checksum
-from .requests.objects import Binding, Name, Row, instance, octets
+from .requests.objects import Binding, Name, Row, Value, instance, octets
 from .requests.steps import Ask, put
 from .sign.claims import Claims
 from .sign.described import Description
@@ -30,6 +30,7 @@ class Context:
     is_slow: bool = False
     claims: Claims = field(default_factory=Claims)
     texts: int | None = None  # how many texts are sent, where that is said
+    device: dict[Name, Value] = field(default_factory=dict)  # what the sign's own objects read before they were set
 
     def with_seed(self, seed: int, requests: int) -> "Context":
         """The same with other random requests."""

@@ -16,12 +16,15 @@ from .findings.differences import Difference, subject
 from .findings.results import ChapterResult, Results, Watcher
 from .findings.rules import RULES, Rule
 from .findings.trace import ALIKE, DIFFERS, NOT_JUDGED
+from .person.acceptance import Acceptance
+from .person.answers import Answered, Person
 from .requests.steps import Step, datagrams
 from .runs.load import Load
 from .runs.runner import Run, Runner
 from .runs.shrinking import shrunk
 from .sign.pair import Exchange, Inconclusive, Pair
 from .sign.way import Stopped
+from .state.device import Learnt
 from .state.known_state import Unreachable
 from .state.preflight import Preflight
 from .state.reset import Reset
@@ -43,6 +46,7 @@ class Session:
     is_text_wrong: bool = False  # whether a text differed that a chapter carried
     rate: int | None = None  # requests a second up to which load is asked for
     hours: float = 0.0  # that random requests go on after the chapters
+    person: Person | None = None  # who sees the sign, where that is asked for
     is_anyway: bool = False  # whether it goes on where the sign has another size or other rows than described
     results: Results = field(default_factory=Results)
 
@@ -66,19 +70,21 @@ class Session:
     def run(self, chapters: Sequence[Chapter]) -> Results:
         """These chapters. A sign that falls silent, time that is over and an interrupt end them; then the sign is put
         back as far as it can be."""
+        chapters = [chapter for chapter in chapters if not chapter.is_of_claims or self.context.claims.device]
         self.results.asked, self.results.is_slow = chapters, self.context.is_slow
         self.results.way = self.pair.port.way
+        self.results.person = None if self.person is None else []
         self.results.texts_known = len(known(self.context)) if self.context.rows else 0
         claims, trace = self.context.claims, self.results.trace
-        trace.missing, trace.ranges = claims.missing | {f"[{tag}]" for tag in claims.tags}, claims.ranges
+        trace.missing, trace.ranges = claims.missing | {f"[{tag}]" for tag in claims.tags}, dict(claims.ranges)
+        trace.claim_device(claims.device)
         try:
             self._run(chapters)
         except Stopped as why:
             self.results.stopped = str(why)
         except KeyboardInterrupt:
             self.results.stopped = "it was interrupted"
-        if self.reset.is_begun:
-            self._put_back()
+        self.put_back()
         return self.results
 
     def _run(self, chapters: Sequence[Chapter]) -> None:
@@ -88,11 +94,20 @@ class Session:
             if self.is_enough():
                 break
             if chapter not in judged and (not chapter.is_slow or self.context.is_slow):
-                self.chapter(chapter)
+                self.begun(chapter)
         if is_heard and self.rate is not None and not self.is_enough():
             self.load(self.rate)
         if is_heard and self.hours and not self.is_enough():
             self.endure(self.hours)
+        if is_heard and self.person is not None and not self.is_enough():
+            self.ask(self.person)
+
+    def ask(self, person: Person) -> None:
+        """The steps that a person sees, or takes."""
+        self.watcher.close()
+        acceptance, answered = Acceptance(self.runner, self.context, person), list[Answered]()
+        self.results.person, self.results.questions = answered, acceptance.count()
+        acceptance.run(answered)
 
     def load(self, most: int) -> None:
         """How many requests a second the sign holds, up to so many, in the known state."""
@@ -123,15 +138,27 @@ class Session:
             self._judge_left(result)
             self.watcher.ended(result)
 
-    def _put_back(self) -> None:
-        """The sign in the known state, where it answers."""
+    def put_back(self) -> None:
+        """The sign in the known state, with its own settings as they were read first, where it answers."""
+        if not self.reset.is_entered:
+            return
         self.pair.port.way.begin_anew()
         try:
-            self.results.is_set_back = not self.reset.reach()
+            unreached = self.reset.reach()
+            self.results.is_set_back = not self.reset.put_back(self.results.first) and not unreached
         except (Stopped, Inconclusive, KeyboardInterrupt):
             self.results.is_set_back = False
 
     # --- chapters --------------------------------------------------------------------------------------------
+
+    def begun(self, chapter: Chapter) -> None:
+        """A chapter; where it is about what the sign claims besides, ours has that too while it lasts."""
+        if not chapter.is_of_claims:
+            self.chapter(chapter)
+            return
+        with Learnt(self.pair, self.reset, self.context):
+            self.results.first |= self.context.device
+            self.chapter(chapter)
 
     def chapter(self, chapter: Chapter) -> None:
         """All cases of a chapter, and its place in the results."""
@@ -155,6 +182,7 @@ class Session:
             self._judge_left(result)
         finally:
             result.seconds = self.pair.clock.now() - begun
+            self.results.is_learnt |= self.pair.ticks.is_learnt()
             self.watcher.ended(result)
 
     def _claimed(self, chapter: Chapter) -> list[Block]:

@@ -41,7 +41,9 @@ def main() -> int:
         description=__doc__,
         formatter_class=argparse.RawDescriptionHelpFormatter,
     )
-    parser.add_argument("--keep", default=str(TOP / "docs/pictures"), metavar="FOLDER")
+    parser.add_argument(
+        "--keep", default=str(TOP / "docs/pictures"), metavar="FOLDER", help="where the picture is kept"
+    )
     asked = parser.parse_args()
     start.needed("tests.endpoint.page.picture", "selenium")
     path = pathlib.Path(asked.keep, "sign-page.png")

@@ -7,6 +7,7 @@ import pytest
 
 from wisangub.endpoint.page.lamps import SHADES, Lamps, by_lines, pages_of, with_defaults
 from wisangub.endpoint.sign_front_end import line_of
+from wisangub.endpoint.text_of_picture import with_text
 from wisangub.process import description
 from wisangub.process.coprocess import CoProcess
 from wisangub.process.places import SIGNTOOL, TOP
@@ -33,6 +34,15 @@ def test_lines_are_lamps() -> None:
     assert lamps == wanted and svg.attrib["viewBox"] == "-1 -1 4 8"
 
 
+def test_a_picture_has_its_text_for_who_does_not_see_it() -> None:
+    svg = xml.etree.ElementTree.fromstring(with_text(by_lines(LINES), b"[fl]A<B&\xe9"))
+    said = svg.find("{http://www.w3.org/2000/svg}desc")
+    assert svg.attrib["role"] == "img" and said is not None and said.text == "[fl]A<B&\\xe9"
+    assert svg[0].tag.endswith("title") and svg[1] is said
+    again = with_text(with_text(by_lines(LINES), b"A"), b"B")
+    assert again == with_text(by_lines(LINES), b"A"), "one that has a text keeps it"
+
+
 def test_pages_of_lines() -> None:
     assert pages_of(LINES) == [(0, [".9.", "..."]), (5, ["1..", "..7"])]
 
@@ -45,7 +55,7 @@ def test_other_defaults_in_a_description() -> None:
 def test_without_the_program_the_lines_are_drawn() -> None:
     lamps = Lamps(MODEL, None)
     picture = lamps.of(b"A", LINES, None)
-    assert not picture.is_of_program and picture.svg == by_lines(LINES)
+    assert not picture.is_of_program and picture.svg == with_text(by_lines(LINES), b"A")
     assert lamps.of(b"A", LINES, None) is picture, "it is kept"
 
 

@@ -129,9 +129,9 @@ class Board(Watcher):
 
     # --- what is looked at --------------------------------------------------------------------------------------------
 
-    def may_ask(self) -> bool:
+    def may_ask(self, shown: Shown | None = None) -> bool:
         """Whether a Get would change nothing. Where the power is off it is not answered."""
-        return self.view.shown.is_powered and (self.is_heard or self.silence == 0)
+        return (shown or self.view.shown).is_powered and (self.is_heard or self.silence == 0)
 
     def look(self) -> None:
         """Asks what is shown, and the rest where that may be asked. Only a power event has the power back, and it is
@@ -142,17 +142,17 @@ class Board(Watcher):
         is_back = shown.is_powered and not before.shown.is_powered
         self.is_heard, self.is_wanted = self.is_heard or is_back, self.is_wanted or is_other or is_back
         self.is_shown_anew = False
-        self.view = replace(before, shown=shown, lamps=lamps, is_older=self.is_wanted)
-        if self.is_wanted and self.may_ask():
-            self.ask(is_other)
+        view = replace(before, shown=shown, lamps=lamps, is_older=self.is_wanted)
+        self.view = self.asked(view, is_other) if self.is_wanted and self.may_ask(shown) else view
 
-    def ask(self, is_other: bool) -> None:
-        """Reads what is asked for by Gets. A message has the defaults that hold as it comes up."""
+    def asked(self, view: View, is_other: bool) -> View:
+        """The view with what is asked for by Gets, which nobody sees half. A message has the defaults that hold as it
+        comes up."""
         reading = self.asker.read()
         if reading is None:
-            return
-        view, self.is_wanted, self.silence = self.view, False, reading.silence
+            return view
+        self.is_wanted, self.silence = False, reading.silence
         defaults = reading.defaults if is_other or view.defaults is None else view.defaults
-        self.view = replace(
+        return replace(
             view, reading=reading, read_at=time.time(), is_older=False, read_of=view.shown, defaults=defaults
         )

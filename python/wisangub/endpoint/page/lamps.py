@@ -8,6 +8,7 @@ from dataclasses import dataclass
 from xml.sax.saxutils import quoteattr
 
 from wisangub.endpoint.lack import MOST_TEXT, spelled
+from wisangub.endpoint.text_of_picture import with_text
 from wisangub.process import description
 
 WAIT = 20.0  # seconds for a call of the program
@@ -40,7 +41,7 @@ class Lamps:
         with self.lock:
             if self.key != (text, lines, defaults):
                 svg = self.by_program(text, lines, defaults)
-                self.picture = Picture(svg or by_lines(lines), svg is not None)
+                self.picture = Picture(with_text(svg or by_lines(lines), text), svg is not None)
                 self.key = (text, lines, defaults)
             return self.picture
 

@@ -18,7 +18,7 @@ import sys
 from types import FrameType
 from typing import Protocol
 
-from wisangub.process.places import SIGNTOOL, called
+from wisangub.process.places import SIGNTOOL, add_version, called
 from wisangub.refusal import Refusal
 from wisangub.snmp import wire
 from wisangub.tester.requests.messages import spelled
@@ -106,13 +106,14 @@ def _arguments() -> argparse.ArgumentParser:
         prog=called("wisangub-conform centre"),
         description="our sign on a port, which watches the central system that speaks to it",
     )
-    parser.add_argument("--host", default="127.0.0.1")
-    parser.add_argument("--port", required=True, type=int)
+    add_version(parser, "wisangub-conform centre")
+    parser.add_argument("--host", default="127.0.0.1", help="where the sign listens")
+    parser.add_argument("--port", required=True, type=int, help="the UDP port of the sign")
     parser.add_argument(
         "--sign", required=True, type=pathlib.Path, metavar="DESCRIPTION", help="its description, as in signs/"
     )
     parser.add_argument("--seconds", type=float, help="how long; else until it is interrupted")
-    parser.add_argument("--json", type=pathlib.Path, metavar="FILE")
+    parser.add_argument("--json", type=pathlib.Path, metavar="FILE", help="keeps the requests and what was counted")
     parser.add_argument(
         "--signtool",
         default=str(SIGNTOOL),

@@ -5,6 +5,7 @@ from . import (
     ber,
     communities,
     defaults,
+    device,
     durations,
     get,
     getnext,
@@ -26,15 +27,16 @@ ALL = [
     getnext.CHAPTER,
     sets.CHAPTER,
     rows.CHAPTER,
+    durations.CHAPTER,
     validation.CHAPTER,
     activation.CHAPTER,
     priorities.CHAPTER,
     defaults.CHAPTER,
-    durations.CHAPTER,
     silence.CHAPTER,
     sizes.CHAPTER,
     repeated.CHAPTER,
     random_requests.CHAPTER,
+    device.CHAPTER,
 ]
 NAMES = [chapter.name for chapter in ALL]
 

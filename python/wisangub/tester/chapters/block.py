@@ -36,6 +36,7 @@ class Chapter:
     blocks: Callable[[Context], Iterator[Block]]
     is_slow: bool = False
     is_never_empty: bool = False  # it has cases for any sign
+    is_of_claims: bool = False  # it is about what a sign claims beside the profile, and is asked for nothing else
 
 
 def modify(row: Row) -> Ask:

@@ -9,7 +9,7 @@ from wisangub.tester.requests.objects import Row
 from wisangub.tester.requests.steps import Step, Wait, put
 
 from .block import Block, Chapter, fill, look, message, modify, reports, unuse, validate
-from .telling import Telling, default, spoiling, telling
+from .telling import Telling, default, spoiling, staying, telling
 from .validation import judged
 
 
@@ -31,6 +31,12 @@ def _decide(context: Context, row: Row) -> Iterator[Block]:
         yield Block(f"an activation under default {held.member}", "fits now", steps, True)
         if at == 0 or context.is_slow:
             yield from itertools.islice(_while_validating(row, held), 2 if context.is_slow else 1)
+
+
+def _stay(context: Context, row: Row) -> Iterator[Block]:
+    """Defaults of now hold on each line and page of a text that names none."""
+    for member, other, text in staying(context):
+        yield Block(f"default {member} stays in a text", "missing values", [other, *judged(row, text)], True)
 
 
 def _last_row(context: Context, row: Row) -> Iterator[Block]:
@@ -97,6 +103,7 @@ def _blocks(context: Context) -> Iterator[Block]:
         yield from _last_row(context, row)
     for row in context.rows[:1]:
         yield from _decide(context, row)
+        yield from _stay(context, row)
         yield from _copied(context, row)
 
 

@@ -11,6 +11,9 @@ from .block import Block, Chapter, fill, look, message, modify, reports, validat
 from .telling import telling
 
 _REMAINING = scalar("dmsMessageTimeRemaining")
+_OTHERS = (2, 3, 10, 59, 60, 61, 100, 255, 256, 1000, 32767, 32768, 65534)  # minutes
+_MANY = 16  # seconds: more than there are in a minute that is counted by quarters of a second, or by less
+_CUT = 12015  # minutes of which the seconds are 4 in 16 bits, and in 8
 
 
 def _end_code(code: bytes) -> Binding:
@@ -70,6 +73,14 @@ def _minutes(context: Context) -> Iterator[Block]:
         yield Block(
             f"an activation of {value} minutes", "shown", [activate(context.blank_code(4, 255, value)), *look()], True
         )
+    for at, value in enumerate(_OTHERS):  # of different priorities too; a block each, since a way may lose some
+        code = context.blank_code(4, (4, 9, 100, 128, 254, 255)[at % 6], value)
+        yield Block(f"an activation of {value} minutes", "shown", [activate(code), get(_REMAINING)], True)
+        written: list[Step] = [put(remaining(value)), get(_REMAINING), put(remaining(value)), get(_REMAINING)]
+        yield Block(f"{value} minutes, and again", "remaining", written, True)
+    for row, held in zip(context.permanent[:1], context.described.permanent):
+        code = context.code(row, context.crc(held.text, held.beacon, held.pixel), 255, 2)
+        yield Block("a permanent message for two minutes", "shown", [activate(code), get(_REMAINING)], True)
     yield from _units(context)
     longer: list[Step] = [put(remaining(1)), put(remaining(65535)), Wait(1), *look()]
     yield Block("no end after all", "remaining", longer, True)
@@ -79,11 +90,16 @@ def _units(context: Context) -> Iterator[Block]:
     """Minutes are no seconds and no tenths: what a minute is for does not come within seconds."""
     end, lost = (context.message_code(Row(Memory.BLANK, number), 0) for number in (7, 8))
     shown = activate(context.blank_code(200, 255, 1, bytes([10, 9, 8, 7])))
-    least: list[Step] = [put(_end_code(end)), shown, Wait(2), *look(), put(remaining(1)), Wait(2), *look()]
-    yield Block("a minute is no second", "ends", least, True)
-    quiet = put((scalar("dmsCommunicationsLossMessage"), octets(lost)), (scalar("dmsTimeCommLoss"), integer(1)))
-    silent: list[Step] = [activate(context.blank_code(200)), quiet, Wait(3), *look(), put(_no_limit()), *look()]
-    yield Block("a minute of silence is no second", "silence", silent, True)
+    code = scalar("dmsCommunicationsLossMessage"), octets(lost)
+    quiet, longer = (put(code, (scalar("dmsTimeCommLoss"), integer(minutes))) for minutes in (1, 2))
+    yield Block("a minute is no second", "ends", [put(_end_code(end)), shown, Wait(2), *look()], True)
+    least: list[Step] = [put(_end_code(end)), put(remaining(1)), quiet, Wait(_MANY), *look(), put(_no_limit())]
+    yield Block("minutes are no seconds", "ends", least, True)
+    silent: list[Step] = [activate(context.blank_code(200)), longer, Wait(3), *look(), put(_no_limit()), *look()]
+    yield Block("two minutes of silence are no seconds", "silence", silent, True)
+    cut = put(code, (scalar("dmsTimeCommLoss"), integer(_CUT)))
+    many: list[Step] = [activate(context.blank_code(200)), cut, Wait(5), *look(), put(_no_limit()), *look()]
+    yield Block("a silence of so many seconds that 16 bits do not hold them", "silence", many, True)
     most: list[Step] = [activate(context.blank_code(4, 255, 65534)), Wait(1), *look(), put(remaining(600)), Wait(1)]
     yield Block("minutes in a second", "minutes", [*most, *look()], True)
 

@@ -175,7 +175,7 @@ def heights(context: Context) -> list[Sample]:
     return made("room", found, 4)
 
 
-def _edge(context: Context, front: bytes) -> list[bytes]:
+def edge(context: Context, front: bytes) -> list[bytes]:
     """This text above a last line that stands as low as it may, and above one that stands a row lower."""
     one = context.character()
     for between, count in itertools.product((9, 3, 0), range(8)):
@@ -194,8 +194,8 @@ def spacings(context: Context) -> list[Sample]:
     for above, below in _pairs(context):
         for line in (below, above + below, above[:-1]):
             under = one + b"[nl]" + line + b"[nl0][fo]" + one
-            found += _edge(context, line + b"[nl][fo]" + one) + _edge(context, under)
-        found += _edge(context, above + b"[nl]" + below + b"[nl0][fo]" + one)
+            found += edge(context, line + b"[nl][fo]" + one) + edge(context, under)
+        found += edge(context, above + b"[nl]" + below + b"[nl0][fo]" + one)
         first = first or 2 * len(found)  # the first pair in both orders
     return made("room", found, first)
 

@@ -6,7 +6,7 @@ from typing import Iterator, Sequence
 from wisangub.tester.context import Context
 from wisangub.tester.sign.described import Face, Font
 
-from .edge_texts import Sample, average, made, stacked
+from .edge_texts import Sample, average, made, stacked, unit_of
 
 
 def _plain(font: Font) -> dict[int, bytes]:
@@ -16,6 +16,9 @@ def _plain(font: Font) -> dict[int, bytes]:
         if number < 256 and number not in b"[]":
             found.setdefault(glyph.width, bytes([number]))
     return {width: found[width] for width in sorted(found, reverse=True)}
+
+
+_OCTET = 256  # columns that do not fit an octet
 
 
 class Widths:
@@ -52,7 +55,7 @@ class Widths:
 
 def widths(context: Context) -> Widths:
     """The widths of this sign's characters."""
-    return Widths(context.described.face, context.described.face.width + 1)
+    return Widths(context.described.face, max(_OCTET, context.described.face.width + 1))
 
 
 def exact(context: Context) -> list[Sample]:
@@ -60,11 +63,31 @@ def exact(context: Context) -> list[Sample]:
     face, one, held = context.described.face, context.character(), widths(context)
     across = [held.text(face.width + more) for more in (0, 1)]
     found = [b"[jl%d]" % place + text for text in across if text for place in (2, 3, 4)]
+    found += [before + text for text in across if text for before in _places(one)]
+    found += [text for total in (face.width, face.width + 1) for text in _sides(held, total)]
+    found += [text for text in [held.text(_OCTET)] if text and _is_past(context, text)]
     if one:
         height = face.known_font(context.defaults[4]).height
         down = [stacked(one, height, face.height + more) for more in (0, 1)]
         found += [b"[jp%d]" % place + text for text in down if text for place in (2, 3, 4)]
     return made("room", found, len(found))
+
+
+def _sides(held: Widths, total: int) -> list[bytes]:
+    """A left and a right part that are so wide together."""
+    pairs = ((held.text(left), held.text(total - left)) for left in range(total // 3, total))
+    return [b"[jl2]" + left + b"[jl4]" + right for left, right in pairs if left and right][:1]
+
+
+def _places(one: bytes) -> tuple[bytes, ...]:
+    """What stands before a line that is not the first: a line, a page, or nothing of the part at the bottom."""
+    return (one + b"[nl0]", one + b"[np]", b"[jp4]")
+
+
+def _is_past(context: Context, text: bytes) -> bool:
+    """Whether the last character is what there is no room for, so that what is seen is the whole width."""
+    fault = context.fault(text)
+    return fault is not None and fault[1] == len(text) - 1
 
 
 def centred(context: Context) -> list[Sample]:
@@ -88,7 +111,16 @@ def _columns(context: Context) -> Iterator[bytes]:
                 if _is_telling(left, right):
                     yield from (b"[jl2]" + text + b"[jl3]" + middle for text in left if text)
                     yield from (b"[jl3]" + middle + b"[jl4]" + text for text in right if text)
+                    yield from _all_three(context, left[0], middle, right[0])
                     break
+
+
+def _all_three(context: Context, left: bytes | None, middle: bytes, right: bytes | None) -> Iterator[bytes]:
+    """Three parts that fill a line, in a line by itself and in others, of those that fit."""
+    if left and right:
+        text = b"[jl2]" + left + b"[jl3]" + middle + b"[jl4]" + right
+        texts = [before + text for before in (b"", *_places(context.character()))]
+        yield from (held for held in texts if context.fault(held) is None)
 
 
 def _is_telling(before: Sequence[bytes | None], after: Sequence[bytes | None]) -> bool:
@@ -98,15 +130,66 @@ def _is_telling(before: Sequence[bytes | None], after: Sequence[bytes | None]) -
 
 
 def _rows(context: Context) -> Iterator[bytes]:
-    face, one = context.described.face, context.character()
-    height = face.known_font(context.defaults[4]).height
-    for parity in (1, 0):
-        middles = [total for total in range(height, face.height) if (face.height - total) % 2 == parity]
-        for total in middles if one else []:
-            middle, free = stacked(one, height, total), (face.height - total) // 2
-            top = [stacked(one, height, free + more) for more in (0, 1)]
-            bottom = [stacked(one, height, free + parity + more) for more in (0, 1)]
-            if middle and _is_telling(top, bottom):
-                yield from (b"[jp2]" + text + b"[jp3]" + middle for text in top if text)
-                yield from (b"[jp3]" + middle + b"[jp4]" + text for text in bottom if text)
-                break
+    """Of each rest of the free rows by four, texts that tell that the middle stands a row lower, and a row higher: one
+    that fits, and one that does not. Lines of each font are tried, in the middle and beside it: a lower font may be all
+    that leaves such a rest."""
+    face, fonts = context.described.face, list(_Lines.fonts(context))
+    for rest, is_lower in itertools.product((1, 3, 0, 2), (True, False)):
+        heights = [total for total in range(1, face.height) if (face.height - total) % 4 == rest]
+        places = list(itertools.product(fonts, fonts, heights))
+        for tried in (_touching, _overlapping):
+            found = (tried(face.height, total, middle, side, is_lower) for middle, side, total in places)
+            yield from itertools.islice(filter(None, found), 1)
+        if is_lower:
+            full = (_filling(face.height, total, middle, side) for middle, side, total in places)
+            yield from itertools.islice(filter(None, full), 1)
+
+
+class _Lines:
+    """Lines of a font, the default's font after them."""
+
+    def __init__(self, unit: bytes, front: bytes, height: int) -> None:
+        self._unit, self._front, self._height = unit, front, height
+
+    @classmethod
+    def fonts(cls, context: Context) -> Iterator["_Lines"]:
+        """Those of each font that has a character, the default's first."""
+        face, own = context.described.face, context.defaults[4]
+        for font in sorted(face.fonts, key=lambda font: font.number != own):
+            unit = context.character() if font.number == own else unit_of(font)
+            if unit:
+                yield cls(unit, b"" if font.number == own else b"[fo%d]" % font.number, font.height)
+
+    def text(self, total: int) -> bytes | None:
+        """Lines that are so high together; None where no gaps make it so."""
+        held = stacked(self._unit, self._height, total)
+        return self._front + held + (b"[fo]" if self._front else b"") if held else None
+
+
+def _touching(height: int, total: int, lines: _Lines, others: _Lines, is_lower: bool) -> bytes:
+    """Lines in the middle, so high together, and others that touch them: below, which tells that the middle stands
+    lower, or above; nothing where there are none."""
+    free = (height - total) // 2
+    return _beside(lines.text(total), others.text(height - total - free if is_lower else free), is_lower)
+
+
+def _overlapping(height: int, total: int, lines: _Lines, others: _Lines, is_lower: bool) -> bytes:
+    """The same with others that overlap them by a row: above, which tells that the middle stands lower, or below."""
+    free = (height - total) // 2
+    return _beside(lines.text(total), others.text(1 + (free if is_lower else height - total - free)), not is_lower)
+
+
+def _filling(height: int, total: int, lines: _Lines, others: _Lines) -> bytes:
+    """Lines in the middle, so high together, and others that touch them above and below; nothing where there are
+    none."""
+    free = (height - total) // 2
+    top, middle, bottom = others.text(free), lines.text(total), others.text(height - total - free)
+    if top is None or middle is None or bottom is None:
+        return b""
+    return b"[jp2]" + top + b"[jp3]" + middle + b"[jp4]" + bottom
+
+
+def _beside(middle: bytes | None, side: bytes | None, is_below: bool) -> bytes:
+    if middle is None or side is None:
+        return b""
+    return b"[jp3]" + middle + b"[jp4]" + side if is_below else b"[jp2]" + side + b"[jp3]" + middle

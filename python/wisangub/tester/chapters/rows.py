@@ -2,9 +2,9 @@
 
 from typing import Iterator
 
-from wisangub.snmp.names import Memory, RowStatus
-from wisangub.tester.context import Context, activate
-from wisangub.tester.requests.objects import COUNTS, Column, Row
+from wisangub.snmp.names import Memory, RowStatus, scalar
+from wisangub.tester.context import Context, activate, remaining
+from wisangub.tester.requests.objects import COUNTS, Column, Row, octets
 from wisangub.tester.requests.steps import Step, Wait, put
 from wisangub.tester.sign.judge import MOST_TEXT
 
@@ -127,20 +127,43 @@ def _settling(context: Context, row: Row) -> Iterator[Block]:
 
 
 def _at_their_edges(context: Context, row: Row) -> Iterator[Block]:
-    """A row with the least and with the most that its fields hold is stored, validated and shown; all of it is read."""
-    beacon, pixel = int(context.described.beacons), int(context.described.pixels)
-    longest = b"[cf]" * (MOST_TEXT // 4)
-    for text, owner, sides, priority in ((b"", b"", (0, 0), 1), (longest, b"o" * 127, (beacon, pixel), 255)):
-        crc = context.crc(text, *sides)
-        shown: list[Step] = [
-            *message(row, text, owner, *sides, priority),
-            *look_at_each(row),
-            activate(context.code(row, crc)),
-            *look_at_each(Row(Memory.CURRENT, 1), rule="shown"),
-            *[activate(context.blank_code(1, priority - 1)), activate(context.blank_code(1, priority)), reports()],
-            *look_at_each(Row(Memory.CURRENT, 1), rule="shown"),
-        ]
-        yield Block(f"{len(text)} octets are stored and shown", "set", shown, True)
+    """A row with the most that its fields hold is stored, validated and shown, and then, while that is shown, the same
+    row with the least, and with the most but for its text; all of it is read. Last it is emptied of the most."""
+    sides = (int(context.described.beacons), int(context.described.pixels))
+    text, owner = b"[cf]" * (MOST_TEXT // 4), b"o" * 127
+    current = Row(Memory.CURRENT, 1)
+    steps: list[Step] = [
+        *_shown(context, row, text, owner, sides, 255),
+        *[activate(context.blank_code(1, 254)), reports()],
+        *[modify(row), fill(row, b"", b"", 0, 0, 1), *look_at_each(current, rule="shown")],
+        *_shown(context, row, b"", b"", (0, 0), 1),
+        *[activate(context.blank_code(1, 0)), activate(context.blank_code(1, 1)), reports()],
+        *look_at_each(current, rule="shown"),
+        *_shown(context, row, b"", owner, sides, 255),
+    ]
+    yield Block("the most, and then the least, is stored and shown", "set", steps, True)
+    lengths: list[Step] = [modify(row)]
+    for length in (1, 63, 64, 65, 126, 127, 128, 255, 256, 257, 511):
+        lengths += [put(row.text(b"t" * length), row.owner(b"o" * min(length, 127))), *look_at_each(row)[2:4]]
+    yield Block("other lengths are stored", "set", lengths, True)
+    emptied = [modify(row), fill(row, text, owner, *sides, 255), unuse(row), modify(row), *look(row, rule="emptied")]
+    yield Block("the most is emptied", "emptied", emptied, True)
+
+
+def _shown(context: Context, row: Row, text: bytes, owner: bytes, sides: tuple[int, int], priority: int) -> list[Step]:
+    """A row is written, validated and shown for some minutes; what is shown is shown again, and the row at an end."""
+    crc, current = context.crc(text, *sides), Row(Memory.CURRENT, 1)
+    end = scalar("dmsEndDurationMessage"), octets(context.message_code(row, crc))
+    return [
+        *message(row, text, owner, *sides, priority),
+        *[*look_at_each(row), look_at(*COUNTS, rule="counts")],
+        activate(context.code(row, crc, minutes=30)),
+        *[*look_at_each(current, rule="shown"), reports(rule="shown")],
+        activate(context.code(current, crc, minutes=31)),
+        *[*look_at_each(current, rule="current buffer"), reports(rule="current buffer")],
+        *[activate(context.blank_code(1, minutes=3)), put(end, remaining(0))],
+        *[*look_at_each(current, rule="own activation"), reports(rule="own activation")],
+    ]
 
 
 def look_at_each(row: Row, rule: str = "") -> list[Step]:
@@ -163,7 +186,8 @@ def _blocks(context: Context) -> Iterator[Block]:
         yield from _two_rows(context, first, rows[1])
     yield from _counts(context)
     yield from _settling(context, last)
-    yield from _at_their_edges(context, last)
+    for row in dict.fromkeys((first, last)):
+        yield from _at_their_edges(context, row)
 
 
 CHAPTER = Chapter("rows", "A row's statuses", _blocks)

@@ -20,7 +20,10 @@ _NUMBERS: dict[bytes, tuple[int, int]] = {
     b"pto": (0, 255),
     b"pt5o": (0, 255),
 }
+# numbers of fonts and characters at their ends, and one past them
+_WRONG = (b"[fo0]", b"[fo255]", b"[fo256]", b"[hc0]", b"[hcFFFF]", b"[hc10000]", b"[fo1,00001]", b"[fo1,001]")
 _DIGITS = 5  # that a number has at most
+_VALUE = 4  # the code of the fault of a value that no tag has
 
 
 def _good(context: Context) -> list[bytes]:
@@ -35,16 +38,22 @@ def _good(context: Context) -> list[bytes]:
     return [text for text in found if context.fault(text) is None]
 
 
+def _tight(context: Context) -> list[bytes]:
+    """Ends for which a low matrix has no room, which is another fault than that of a value that no tag has."""
+    texts = [b"[%s%d]" % (letters, end) + context.character() for letters, ends in _NUMBERS.items() for end in ends]
+    return [text for text in texts if (context.fault(text) or (_VALUE, 0))[0] != _VALUE]
+
+
 def _bad(context: Context) -> list[bytes]:
     """One past each end, and one digit more."""
     one, found = context.character(), []
     for letters, (least, most) in _NUMBERS.items():
         found += [one + b"[%s%d]" % (letters, most + 1)] + ([one + b"[%s%d]" % (letters, least - 1)] if least else [])
-    found += [one + text for text in (b"[fo0]", b"[fo256]", b"[hc10000]", b"[fo1,00001]", b"[fo1,001]")]
+    found += [one + text for text in _WRONG]
     return found + [one + b"[%s%0*d]" % (letters, _DIGITS + 1, most) for letters, (_, most) in _NUMBERS.items()]
 
 
 def ends(context: Context) -> list[Sample]:
     """Values at both ends of each tag's range, each by itself, and one past each end."""
-    good, bad = _good(context), _bad(context)
+    good, bad = [*_good(context), *_tight(context)], _bad(context)
     return made("markup code", good, len(good)) + made("markup code", bad, len(bad) - len(_NUMBERS))

@@ -1,10 +1,14 @@
 """Defaults that decide on a text: it fits under some, and not under others."""
 
+import itertools
 from dataclasses import dataclass
+from typing import Iterator
 
 from wisangub.tester.context import Context
 from wisangub.tester.requests.objects import DEFAULTS, Binding, integer
 from wisangub.tester.requests.steps import Ask, put
+
+from .edge_texts import unit_of
 
 
 @dataclass(frozen=True)
@@ -77,3 +81,44 @@ def telling(context: Context) -> list[Telling]:
         told = [held for value in values for kind in kinds for held in _told_by(context, member, value, kind)]
         found += told if context.is_slow else told[:1]
     return found
+
+
+def staying(context: Context) -> Iterator[tuple[int, Ask, bytes]]:
+    """Of each default that decides on a text, a SET of another value, and for a new line and a new page a text that
+    names none, and that is judged otherwise where the sign's first value holds again behind it."""
+    for member, tag, betweens in (
+        (5, b"fo", (b"[nl0]", b"[np]")),
+        (6, b"jl", (b"[nl0]", b"[np]")),
+        (7, b"jp", (b"[np]",)),
+    ):
+        values = [font.number for font in context.described.face.fonts] if member == 5 else (2, 3, 4)
+        for between in betweens:
+            held = (pair for value in values for pair in _lost(context, member, value, tag, between))
+            found = sorted(itertools.islice(held, _TRIED), key=lambda pair: not pair[2])
+            yield from ((member, put(default(member, value)), text) for value, text, _ in found[:1])
+
+
+_TRIED = 20  # texts that tell, of which one that fits is taken
+
+
+def _lost(context: Context, member: int, value: int, tag: bytes, between: bytes) -> Iterator[tuple[int, bytes, bool]]:
+    """Texts that tell whether this value of a default stays, with whether they fit."""
+    own, changed = context.defaults[member - 1], _with_default(context, member, value)
+    fonts = context.described.face
+    unit = unit_of(fonts.known_font(value if member == 5 else context.defaults[4]))
+    if value == own or not unit:
+        return
+    for tail in _tails(unit, member):
+        text, lost = (unit + between + middle + tail for middle in (b"", b"[%s%d]" % (tag, own)))
+        kept, other = context.fault(text, changed), context.fault(lost, changed)
+        if (kept is None) != (other is None):
+            yield value, text, kept is None
+
+
+def _tails(unit: bytes, member: int) -> list[bytes]:
+    """What comes behind a new line or page: characters, lines, and parts of a line or a page."""
+    if member == 5:
+        return [unit * count for count in range(1, 65)] + [b"[nl0]".join([unit] * count) for count in range(2, 13)]
+    tag = b"[jl%d]" if member == 6 else b"[jp%d]"
+    counts = (1, 2, 3, 4, 6, 8, 12) if member == 6 else (1,)
+    return [unit * count + tag % part + unit for count in counts for part in (2, 3, 4)]

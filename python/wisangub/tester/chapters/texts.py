@@ -22,6 +22,7 @@ from .edge_texts import (
     spacings,
     touching,
 )
+from .line_texts import mixed_heights, mixed_spacings
 from .measured_texts import centred, exact
 from .staying_texts import staying
 from .tag_texts import ends
@@ -212,8 +213,16 @@ def joined(context: Context, chosen: list[Sample], most: int = 512) -> list[Samp
 @functools.lru_cache(maxsize=2)
 def known(context: Context) -> list[Sample]:
     """All texts, each once."""
-    found = (
-        parts(context)
+    found = (  # first those whose faults no other text shows
+        spacings(context)
+        + heights(context)
+        + staying(context)
+        + exact(context)
+        + centred(context)
+        + mixed_heights(context)
+        + mixed_spacings(context)
+        + touching(context)
+        + parts(context)
         + pages(context)
         + _fonts(context)
         + _characters(context)
@@ -223,12 +232,6 @@ def known(context: Context) -> list[Sample]:
         + edges(context)
         + mixed(context)
         + mixed_parts(context)
-        + heights(context)
-        + staying(context)
-        + touching(context)
-        + exact(context)
-        + centred(context)
-        + spacings(context)
         + both(context)
     )
     found += made("markup", [b"".join(_GOOD_MARKUP[:-3]), *_GOOD_MARKUP], 1)

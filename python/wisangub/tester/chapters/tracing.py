@@ -21,13 +21,16 @@ def texts_of(block: Block) -> list[bytes]:
     return [value[1] for name, value in bindings if column_of(name) == Column.TEXT and isinstance(value[1], bytes)]
 
 
-def shown_by(block: Block) -> set[str]:
-    """What a case shows: the objects that it writes, or else reads, and the tags of its texts as `[fo]`."""
+def shown_by(block: Block, claims: Claims = Claims()) -> set[str]:
+    """What a case shows: the objects that it writes, or else reads, and the tags of its texts as `[fo]`; and what of
+    the objects beside the profile's that are claimed."""
     asks = [step for step in block.steps if isinstance(step, Ask)]
     written = {object_word(name) for ask in asks if ask.kind == wire.SET for name, _ in ask.bindings}
     read = {object_word(name) for ask in asks if len(ask.bindings) <= _MOST_READ for name, _ in ask.bindings}
     tags = {f"[{tag}]" for text in texts_of(block) for tag in tags_of(text)}
-    return ((written or read) | tags) - {""}
+    words = {claim.name: claim.word for claim in claims.device}
+    besides = {words.get(name, "") for ask in asks for name, _ in ask.bindings} if words else set()
+    return ((written or read) | tags | besides) - {""}
 
 
 def claimed(block: Block, claims: Claims) -> Block | None:
@@ -46,7 +49,9 @@ def claimed(block: Block, claims: Claims) -> Block | None:
 def traced(chapter: str, block: Block, claims: Claims) -> tuple[Case, Block | None]:
     """The case of a block in the report, and the block as it is asked, with that case."""
     held = claimed(block, claims)
-    case = Case(chapter, block.name, block.rule, sorted(shown_by(block)), NOT_SUPPORTED if held is None else NOT_JUDGED)
+    case = Case(
+        chapter, block.name, block.rule, sorted(shown_by(block, claims)), NOT_SUPPORTED if held is None else NOT_JUDGED
+    )
     if held is None:
         return case, None
     return case, replace(held, case=case, plain=held.plain and replace(held.plain, case=case))

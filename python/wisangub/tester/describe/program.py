@@ -14,7 +14,7 @@ import signal
 import sys
 from types import FrameType
 
-from wisangub.process.places import called
+from wisangub.process.places import add_version, called
 from wisangub.refusal import Refusal, reason
 from wisangub.tester.sign.clock import RealClock
 from wisangub.tester.sign.link import UdpLink
@@ -73,6 +73,7 @@ def _arguments() -> argparse.ArgumentParser:
         prog=called("wisangub-conform describe"),
         description="makes a description from a sign over UDP, and prints it; it writes to one row of the sign",
     )
+    add_version(parser, "wisangub-conform describe")
     parser.add_argument("--to", required=True, metavar="HOST:PORT", help="where the sign answers")
     parser.add_argument(
         "--communities",

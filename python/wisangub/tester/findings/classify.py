@@ -3,7 +3,7 @@
 from typing import Sequence
 
 from wisangub.snmp import wire
-from wisangub.snmp.names import Memory, RowStatus
+from wisangub.snmp.names import Memory, RowStatus, scalar
 from wisangub.tester.requests.messages import spelled, status_of
 from wisangub.tester.requests.objects import (
     COMMANDS,
@@ -60,6 +60,7 @@ _BY_MODE: dict[int, str] = {
 BY_CAUSE: dict[int, str] = {Cause.NONE: "accepted", Cause.PRIORITY: "priority", Cause.SYNTAX: "fits now"}
 _PLACES = ("dmsMultiSyntaxError", "dmsMultiSyntaxErrorPosition")
 _NO_FAULT = (0, 2)  # of the code and of its place
+_MARKUP = (3, 4)  # the codes of a tag, and of a value, that is none
 
 
 def rule_of(octets: bytes, ours: bytes | None, theirs: bytes | None, differs: Mismatch) -> Rule:
@@ -78,6 +79,8 @@ def better(named: Rule | None, octets: bytes, ours: bytes | None, theirs: bytes 
     found = rule_of(octets, ours, theirs, differs)
     if named is None:
         return found
+    if named.chapter == "device":
+        return named
     if found.key == "too big":
         return named if named.chapter == "sizes" else found
     if found.key == "error reply" and differs.kind is Kind.STATUS or found.key == "set reply":
@@ -89,16 +92,25 @@ def better(named: Rule | None, octets: bytes, ours: bytes | None, theirs: bytes 
         return named if named.chapter == "getnext" else found
     if named.chapter in ("durations", "silence", "defaults") and found.key in ("priority", "fits now"):
         return named
-    if found.key == "minutes" and named.chapter in _UNTIMED:
+    if found.key == "minutes" and (named.chapter in _UNTIMED or named.key == "ends" and len(differs.names) == 1):
         return found
     if differs.kind is Kind.STATUS and status_of(ours) == status_of(theirs) and named.chapter == "communities":
         return found  # both refuse for the same cause, and name another binding
     if found.key == "verdicts" and named.key in _SETTLING and column_of(differs.names[0]) == Column.STATUS:
         return found
+    if named.key == "layout" and differs.kind is Kind.VALUE and _is_of_markup(ours, theirs):
+        return RULES["markup code"]
     if differs.kind is Kind.VALUE and named.chapter != found.chapter:
         return found if found.key in _CERTAIN or named.chapter in _GENERAL else named
     is_alone = request.kind == wire.SET and len(request.bindings) == 1 and differs.kind is Kind.STATUS
     return found if is_alone and named.chapter == "set" and found.key != "order of causes" else named
+
+
+def _is_of_markup(ours: bytes, theirs: bytes) -> bool:
+    """Whether the sign finds a fault of the markup where ours finds one of the layout."""
+    name = scalar("dmsMultiSyntaxError")
+    want, have = (dict(held.bindings).get(name) for held in map(spelled, (ours, theirs)) if held is not None)
+    return want is not None and have is not None and want[1] not in _MARKUP and have[1] in _MARKUP
 
 
 def is_of_the_sets(named: Rule, found: Rule, steps: Sequence[Step]) -> bool:

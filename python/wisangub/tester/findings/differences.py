@@ -3,7 +3,7 @@
 from dataclasses import dataclass, field
 
 from wisangub.tester.requests.messages import spelled, status_of
-from wisangub.tester.requests.objects import Name, after_dms, spoken
+from wisangub.tester.requests.objects import object_of, spoken
 from wisangub.tester.requests.steps import Step
 from wisangub.tester.sign.pair import Exchange
 
@@ -30,12 +30,6 @@ class Signature:
             other.theirs,
         )
         return same and (self.objects == other.objects or bool(set(self.objects) & set(other.objects)))
-
-
-def object_of(name: Name) -> tuple[int, ...]:
-    """A name without its instance."""
-    rest = after_dms(name) or ()
-    return rest[:4] if rest[:3] == (5, 8, 1) else rest[:2]
 
 
 def signature(exchange: Exchange) -> Signature:

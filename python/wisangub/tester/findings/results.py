@@ -5,6 +5,8 @@ from dataclasses import dataclass, field
 from typing import TYPE_CHECKING, Protocol, Sequence
 
 from wisangub.tester.chapters import Block, Chapter
+from wisangub.tester.person.answers import Answer, Answered
+from wisangub.tester.requests.objects import Name, Value
 from wisangub.tester.sign.way import Way
 
 from .differences import Difference
@@ -65,6 +67,9 @@ class Watcher(Protocol):
     def found(self, difference: Difference) -> None:
         ...
 
+    def close(self) -> None:
+        """Nothing more is shown under the lines that are said from here on."""
+
 
 @dataclass
 class Results:
@@ -76,15 +81,19 @@ class Results:
     lossy: float = LOSSY  # percent
     stopped: str = ""  # why the test ended before its last case
     is_set_back: bool = True
+    first: dict[Name, Value] = field(default_factory=dict)  # the sign's own settings, as they were read first
     chapters: list[ChapterResult] = field(default_factory=list)
     before: list[Difference] = field(default_factory=list)
     once_before: list[Difference] = field(default_factory=list)  # as `once` of a chapter, before any of them
     configuration: list[tuple[str, str, str]] = field(default_factory=list)  # object, as described, as read
     besides: list[str] = field(default_factory=list)  # objects that the sign has besides the profile's
-    set_back: list[tuple[str, str, str]] = field(default_factory=list)  # what the known state changes, likewise
+    set_back: list[tuple[str, str, str]] = field(default_factory=list)  # settings: as tested, and as they were read
+    emptied: list[tuple[str, str]] = field(default_factory=list)  # rows that were in use, as they were read
     texts: set[bytes] = field(default_factory=set)  # that were judged, of so many:
     texts_known: int = 0
     trace: Trace = field(default_factory=Trace)
+    person: list[Answered] | None = None  # what a person said, where that was asked for, of so many questions:
+    questions: int = 0
     load: "Load | None" = None  # how many requests a second it holds, where that was asked for
     taken_up: str = ""  # when the test was begun that this one goes on with
     is_silent: bool = False
@@ -110,6 +119,8 @@ class Results:
         """Why it cannot be said that the sign conforms, a sentence each."""
         found = [f"the test was stopped: {self.stopped}"] if self.stopped else []
         found += [line for chapter in self.asked if (line := self._unjudged_of(chapter))]
+        if self.person is not None and (line := self._unanswered(self.person)):
+            found.append(line)
         if not self.is_learnt:
             found.append("no validation settled while it was watched, so the moment of its seconds is not known")
         if self.way is not None and self.way.percent() > self.lossy:
@@ -132,9 +143,20 @@ class Results:
             return f"{chapter.title}: no case was asked for"
         return f"{chapter.title}: {missing} of {held.wanted} cases were not judged" if missing else ""
 
+    def _unanswered(self, person: list[Answered]) -> str:
+        """What a person did not say."""
+        missing = self.questions - sum(held.answer is not Answer.NONE for held in person)
+        if not self.questions:
+            return "steps with a person: not come to"
+        return f"steps with a person: {missing} of {self.questions} were not answered" if missing else ""
+
+    def denied(self) -> list[Answered]:
+        """What a person saw otherwise than it should be."""
+        return [held for held in self.person or () if held.answer is Answer.NO]
+
     def verdict(self) -> Verdict:
         """What is said of the sign."""
-        if self.is_odd() or self.configuration or self.differences():
+        if self.is_odd() or self.configuration or self.differences() or self.denied():
             return Verdict.DIFFERS
         if self.is_silent:
             return Verdict.UNREACHED
@@ -154,4 +176,7 @@ class Quiet:
         ...
 
     def found(self, difference: Difference) -> None:
+        ...
+
+    def close(self) -> None:
         ...

@@ -15,15 +15,16 @@ CHAPTERS = (
     "getnext",
     "set",
     "rows",
+    "durations",
     "validation",
     "activation",
     "priorities",
     "defaults",
-    "durations",
     "silence",
     "sizes",
     "repeated",
     "random",
+    "device",
 )
 
 

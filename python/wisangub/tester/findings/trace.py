@@ -4,6 +4,7 @@ from dataclasses import dataclass, field
 
 from wisangub.snmp.names import OBJECTS
 from wisangub.tester.requests.texts import TAGS
+from wisangub.tester.sign.device_claims import DeviceClaim
 
 ALIKE, DIFFERS, NOT_JUDGED, NOT_SUPPORTED = "alike", "differs", "not judged", "not supported"
 OUTCOMES = (ALIKE, DIFFERS, NOT_JUDGED, NOT_SUPPORTED)
@@ -45,10 +46,17 @@ class Trace:
     missing: frozenset[str] = frozenset()  # objects, and tags as `[fo]`
     ranges: dict[str, tuple[int, int]] = field(default_factory=dict)
     cases: list[Case] = field(default_factory=list)
+    device: list[str] = field(default_factory=list)  # objects beside the profile's that are claimed, or said to be none
+
+    def claim_device(self, claims: tuple[DeviceClaim, ...]) -> None:
+        """What is claimed beside the profile's objects."""
+        self.device = [claim.word for claim in claims]
+        self.missing |= {claim.word for claim in claims if not claim.is_there}
+        self.ranges |= {claim.word: claim.ends for claim in claims if claim.ends is not None}
 
     def requirements(self) -> list[Requirement]:
-        """Each object and tag of the profile, with the cases that show it."""
-        words = [*OBJECTS, *[f"[{tag}]" for tag in TAGS]]
+        """Each object and tag of the profile, and what is claimed besides, with the cases that show it."""
+        words = [*OBJECTS, *[f"[{tag}]" for tag in TAGS], *self.device]
         shown: dict[str, list[Case]] = {word: [] for word in words}
         for case in self.cases:
             for word in case.shows:

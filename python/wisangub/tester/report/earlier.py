@@ -12,6 +12,8 @@ from wisangub.tester.findings.differences import Difference
 from wisangub.tester.findings.results import ChapterResult, Results
 from wisangub.tester.findings.rules import RULES
 from wisangub.tester.findings.trace import Case
+from wisangub.tester.requests.messages import spelled
+from wisangub.tester.requests.objects import Name, Value
 from wisangub.tester.runs.repeat import steps_of
 from wisangub.tester.sign.pair import Exchange
 from wisangub.tester.sign.way import Way
@@ -28,7 +30,8 @@ class Earlier:
     when: str
     chapters: list[ChapterResult]
     once_before: list[Difference]
-    set_back: list[tuple[str, str, str]]
+    emptied: list[tuple[str, str]]
+    first: dict[Name, Value]  # the sign's own settings, where it could not be brought back to them
     counts: dict[str, Any]
     cases: list[Case]
 
@@ -51,7 +54,8 @@ class Earlier:
         results.taken_up = self.when
         results.chapters += self.chapters
         results.once_before += self.once_before
-        results.set_back += self.set_back
+        results.emptied += self.emptied
+        results.first = self.first
         results.trace.cases += self.cases
 
     def words(self) -> str:
@@ -72,9 +76,11 @@ def _earlier(held: dict[str, Any], communities: tuple[bytes, bytes]) -> Earlier:
         if is_before or found["found_in"] in by_name:
             kept = before if is_before else by_name[found["found_in"]].once
             kept.append(_difference(found, communities))
-    set_back = [(one["object"], one["described"], one["read"]) for one in held["set_back"]]
+    emptied = [(one["object"], one["read"]) for one in held["emptied"]]
+    message = None if held["is_set_back"] else spelled(bytes.fromhex(held["first"]))
+    first = {} if message is None else dict(message.bindings)
     cases = [Case(**case) for case in held["cases"] if case["chapter"] in by_name]
-    return Earlier(held["taken_up"] or held["when"], chapters, before, set_back, held["way_counts"], cases)
+    return Earlier(held["taken_up"] or held["when"], chapters, before, emptied, first, held["way_counts"], cases)
 
 
 def _chapter(held: dict[str, Any]) -> ChapterResult:

@@ -8,11 +8,13 @@ from wisangub.tester.findings.differences import Difference
 from wisangub.tester.findings.results import Results, Verdict
 from wisangub.tester.findings.rules import CHAPTERS
 from wisangub.tester.findings.trace import OUTCOMES, Requirement
+from wisangub.tester.person.answers import Answer
+from wisangub.tester.requests.steps import put
 from wisangub.tester.sign.way import Oddity
 
 from .causes import cause, causes
 from .terminal import difference_lines
-from .words import About, head, how_sure, origin, sequence, verdict, way_words
+from .words import About, head, how_sure, origin, sequence, set_back_words, verdict, way_words
 
 
 def as_json(results: Results, about: About, not_tested: list[str]) -> str:
@@ -45,7 +47,13 @@ def as_json(results: Results, about: About, not_tested: list[str]) -> str:
         "causes": causes(results.differences()),
         "configuration": _objects(results.configuration),
         "besides": results.besides,
-        "set_back": _objects(results.set_back),
+        "set_back": [{"object": name, "tested": tested, "read": read} for name, tested, read in results.set_back],
+        "emptied": [{"object": name, "read": read} for name, read in results.emptied],
+        "is_set_back": results.is_set_back,
+        "first": _first(results),
+        "person": [
+            {"step": held.name, "answer": held.answer.value, "remark": held.remark} for held in results.person or ()
+        ],
         "load": [vars(rate) for rate in results.load.done] if results.load is not None else None,
         "texts": {"sent": len(results.texts), "known": results.texts_known},
         "requirements": [_requirement(held) for held in results.trace.requirements()],
@@ -72,6 +80,11 @@ def _odd(results: Results) -> dict[str, int]:
         found |= {oddity.value: way.odd[oddity] for oddity in Oddity}
         found["the sign began anew by itself"] = way.reboots
     return found
+
+
+def _first(results: Results) -> str:
+    """The octets of a SET of the sign's own settings, as they were read first."""
+    return put(*results.first.items()).octets(1, (b"", b"")).hex() if results.first else ""
 
 
 def _requirement(held: Requirement) -> dict[str, Any]:
@@ -127,7 +140,13 @@ def as_junit(results: Results, about: About) -> str:
     found = results.verdict()
     suite = ET.Element("testsuite", name="conform", hostname=about.to, timestamp=about.when.replace(" ", "T"))
     for name in dict.fromkeys(["before", *CHAPTERS]):
-        _chapter_cases(suite, name, results, about)
+        if name != "device" or results.trace.device:
+            _chapter_cases(suite, name, results, about)
+    for held in results.person or ():
+        case = ET.SubElement(suite, "testcase", classname="conform.person", name=held.name, time="0.000")
+        if held.answer is not Answer.YES:
+            tag = "failure" if held.answer is Answer.NO else "skipped"
+            ET.SubElement(case, tag, message=_printable(f"{held.answer.value} {held.remark}"))
     last = ET.SubElement(suite, "testcase", classname="conform.verdict", name="verdict", time="0.000")
     if found in (Verdict.NOT_JUDGED, Verdict.UNREACHED):
         ET.SubElement(last, "error", type=found.value, message=_printable(verdict(results)))
@@ -136,7 +155,8 @@ def as_junit(results: Results, about: About) -> str:
     for kind, tag in (("tests", "testcase"), ("failures", "failure"), ("errors", "error"), ("skipped", "skipped")):
         suite.set(kind, str(len(list(suite.iter(tag)))))
     suite.set("time", f"{sum(held.seconds for held in results.chapters):.3f}")
-    ET.SubElement(suite, "system-out").text = _printable(head(about))
+    said = [head(about), *set_back_words(results), *way_words(results)]
+    ET.SubElement(suite, "system-out").text = _printable("\n".join(said))
     return ET.tostring(suite, encoding="unicode", xml_declaration=True) + "\n"
 
 

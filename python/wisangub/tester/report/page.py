@@ -9,7 +9,19 @@ from wisangub.tester.findings.trace import ALIKE, DIFFERS
 
 from .causes import cause, causes
 from .picture import pages_of, svg
-from .words import About, claim_words, head, how_sure, load_words, origin, sequence, verdict, way_words
+from .words import (
+    About,
+    claim_words,
+    head,
+    how_sure,
+    load_words,
+    origin,
+    person_words,
+    sequence,
+    set_back_words,
+    verdict,
+    way_words,
+)
 
 _STYLE = pathlib.Path(__file__).with_name("style.css").read_text(encoding="utf-8")
 
@@ -49,7 +61,7 @@ def _steps(difference: Difference) -> str:
 def _drawn(difference: Difference) -> str:
     found = []
     for caption, lines in difference.pictures:
-        found.append(f"<p>{_quoted(caption)}</p>" + "".join(svg(rows) for rows in pages_of(lines)))
+        found.append(f"<p>{_quoted(caption)}</p>" + "".join(svg(rows, caption) for rows in pages_of(lines)))
     return "".join(found)
 
 
@@ -106,13 +118,12 @@ def as_html(results: Results, about: About, not_tested: list[str]) -> str:
     seen = "".join(_article(number, held, about) for number, held in enumerate(results.once(), len(found) + 1))
     once = f"<h2>Now and then</h2>{seen}" if seen else ""
     once += _list("Besides the profile's objects, and no difference", results.besides)
-    once += _list("Load", load_words(results))
+    once += _list("Load", load_words(results)) + _list("What a person saw", person_words(results))
     once += _list("The way to the sign", way_words(results)) + _list("Not judged", results.unjudged())
     summary = _list("What differs", causes(found))
     once += _requirements(results)
-    before = _objects("Described otherwise", results.configuration) + _objects(
-        "Changed, and set back", results.set_back
-    )
+    before = _objects("Described otherwise", results.configuration)
+    before += _list("What was set", set_back_words(results))
     left_out = "".join(f"<li>{_quoted(line)}</li>" for line in not_tested)
     facts = f"{head(about)}; oracle {about.oracle}; seed {about.seed}; {about.when}"
     facts += f"; taken up from {results.taken_up}" if results.taken_up else ""

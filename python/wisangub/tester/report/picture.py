@@ -1,5 +1,7 @@
 """Pictures of texts as our sign draws them, as SVG inside a page."""
 
+from xml.sax.saxutils import escape
+
 from wisangub.snmp import wire
 from wisangub.tester.context import Context
 from wisangub.tester.findings.compare import shown
@@ -51,8 +53,8 @@ def pages_of(lines: list[str]) -> list[list[str]]:
     return found
 
 
-def svg(rows: list[str]) -> str:
-    """A page's lamps."""
+def svg(rows: list[str], said: str) -> str:
+    """A page's lamps; what is said of them is for who does not see them."""
     width, height = _LAMP * max(map(len, rows), default=1), _LAMP * len(rows)
     dots = {"dark": ""} | {digit: "" for digit in "0123456789"}
     for y, row in enumerate(rows):
@@ -66,4 +68,4 @@ def svg(rows: list[str]) -> str:
     size = f'viewBox="0 0 {width} {height}" width="{min(2 * width, 1000)}"'
     plate = f'<rect width="{width}" height="{height}" fill="#101010"/>'
     lamps = f'<g fill="none" stroke-width="3" stroke-linecap="round">{paths}</g>'
-    return f'<svg {size} xmlns="http://www.w3.org/2000/svg" role="img">{plate}{lamps}</svg>'
+    return f'<svg {size} xmlns="http://www.w3.org/2000/svg" role="img"><desc>{escape(said)}</desc>{plate}{lamps}</svg>'

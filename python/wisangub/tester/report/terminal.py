@@ -8,7 +8,19 @@ from wisangub.tester.findings.differences import Difference
 from wisangub.tester.findings.results import ChapterResult, Results
 
 from .causes import cause, causes
-from .words import About, besides_words, claims_words, how_sure, load_words, origin, sequence, verdict, way_words
+from .words import (
+    About,
+    besides_words,
+    claims_words,
+    how_sure,
+    load_words,
+    origin,
+    person_words,
+    sequence,
+    set_back_words,
+    verdict,
+    way_words,
+)
 
 try:
     from rich.console import Console
@@ -135,9 +147,7 @@ def ending(results: Results, about: About, not_tested: list[str]) -> list[str]:
     lines: list[str] = []
     for name, described, read in results.configuration:
         lines.append(f"described otherwise: {name} is {described} in the description, {read} on the sign")
-    for name, described, read in results.set_back:
-        said = f"{name} is {described} in the description, was {read} on the sign, and is set back"
-        lines.append(f"changed since: {said}")
+    lines += set_back_words(results)
     if results.besides:
         lines.append(f"besides: the sign has {besides_words(results)}, which is no difference")
     for number, difference in enumerate([*results.differences(), *results.once()], 1):
@@ -147,6 +157,7 @@ def ending(results: Results, about: About, not_tested: list[str]) -> list[str]:
     for title, held in (
         ("what the sign claims:", claims_words(results)),
         ("load:", load_words(results)),
+        ("what a person saw:", person_words(results)),
         ("the way to the sign:", way_words(results)),
         ("not judged:", results.unjudged()),
     ):

@@ -14,10 +14,10 @@ from wisangub.tester.findings.results import Results, Verdict
 from wisangub.tester.findings.trace import ALIKE, DIFFERS, NOT_SUPPORTED, Requirement
 
 NOT_SEEN = [
-    "losses and returns of power, and the codes that they activate: no request makes them",
-    "lamps, pages, flashes and all else that is drawn: SNMP does not read it",
-    "the copy of the defaults that a message is drawn with",
+    "losses and returns of power, and the codes that they activate: no request makes them; --person asks for them",
+    "lamps, pages, flashes and all else that is drawn: SNMP does not read it; --person asks what is seen",
 ]
+_NEVER_SEEN = "the copy of the defaults that a message is drawn with"
 
 _SOURCE = re.compile(r"RFC \d+(?:, [\d.]*\d)?|NTCIP 1203(?: v\d+)?|X\.690|ISO/IEC \d+")
 _OF_SPACING = ("room", "layout", "layout place", "no fault")  # rules that hang on the description's fonts
@@ -71,14 +71,18 @@ def origin(difference: Difference) -> str:
 
 def not_tested(context: Context, results: Results, chapters: list[Chapter]) -> list[str]:
     """What the test did not look at, and why."""
-    found = list(NOT_SEEN)
+    found = [*([] if results.person else NOT_SEEN), _NEVER_SEEN]
     if not context.is_slow:
         found.append("whole minutes of durations, and silence: they take minutes and run with --slow")
     if len(results.texts) < results.texts_known:
         found.append(
             f"{results.texts_known - len(results.texts)} of {results.texts_known} texts: --texts all sends them"
         )
-    missing = [chapter.title for chapter in chapters if not chapter.is_slow and chapter not in results.asked]
+    missing = [
+        chapter.title
+        for chapter in chapters
+        if not (chapter.is_slow or chapter.is_of_claims or chapter in results.asked)
+    ]
     if missing:
         found.append("not asked for: " + ", ".join(missing))
     if not context.rows:
@@ -106,6 +110,8 @@ def verdict(results: Results) -> str:
         return f"{found.value}: nothing differs in {cases} cases"
     count = len(results.differences())
     told = f"{count} difference{'s' if count > 1 else ''}" if count else "no difference that comes again"
+    denied = len(results.denied())
+    told += f"; {denied} steps with a person were answered no" if denied else ""
     return f"{found.value}: {told}" + (f"; {odd_words(results)}" if results.is_odd() else "")
 
 
@@ -141,7 +147,20 @@ def claims_words(results: Results) -> list[str]:
     narrower = [f"{one.word} {claim_words(one)}" for one in held if one.claimed_range]
     found += [f"claimed in part: {', '.join(narrower)}"] if narrower else []
     unseen = [one.word for one in held if one.is_claimed and not one.count(ALIKE) + one.count(DIFFERS)]
-    return found + ([f"shown by no case: {', '.join(unseen)}"] if unseen else [])
+    return found + ([f"no case that was judged is about: {', '.join(unseen)}"] if unseen else [])
+
+
+def person_words(results: Results) -> list[str]:
+    """What a person said, a line each."""
+    return [
+        f"{held.name}: {held.answer.value}" + (f", {_printed(held.remark)}" if held.remark else "")
+        for held in results.person or ()
+    ]
+
+
+def _printed(remark: str) -> str:
+    """What was typed, with what is no printable character as \\x and two digits."""
+    return "".join(character if character.isprintable() else f"\\x{ord(character):02x}" for character in remark)
 
 
 def load_words(results: Results) -> list[str]:
@@ -149,11 +168,18 @@ def load_words(results: Results) -> list[str]:
     return results.load.words() if results.load is not None else []
 
 
+def set_back_words(results: Results) -> list[str]:
+    """What of a sign's own was set to what, a line each."""
+    back = ", and back at the end" if results.is_set_back else ", and could not be set back"
+    found = [f"set: {name} from {read} to {tested}{back}" for name, tested, read in results.set_back]
+    return found + [f"emptied: {name} was {read}" for name, read in results.emptied]
+
+
 def way_words(results: Results) -> list[str]:
     """What was lost, late, doubled or garbled on the way, and how the sign was left."""
     found = results.way.words() if results.way is not None else []
     if not results.is_set_back:
-        found.append("the sign could not be brought back to the state that the test begins with")
+        found.append("the sign could not be brought back to the state that it was in, but for its rows")
     return found
 
 

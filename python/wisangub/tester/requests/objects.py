@@ -108,6 +108,12 @@ def is_validation(name: Name, value: Value) -> bool:
     return column_of(name) == Column.STATUS and value == (wire.INTEGER, RowStatus.VALIDATE_REQ)
 
 
+def object_of(name: Name) -> tuple[int, ...]:
+    """A name without its instance."""
+    rest = after_dms(name) or ()
+    return rest[:4] if rest[:3] == (5, 8, 1) else rest[:2]
+
+
 def word_of(name: Name) -> str:
     """The scalar whose instance .0 this is; no word for what is none."""
     rest = after_dms(name)

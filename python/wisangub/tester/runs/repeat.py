@@ -55,11 +55,17 @@ def repeat(session: Session, sequence: str) -> int:
         if session.reset.ask_height() is None:
             print(Verdict.UNREACHED.value)
             return Verdict.UNREACHED.status
+        session.preflight.read_first()
         session.preflight.reach_first()
         run = session.runner.anew(steps)
     except (Inconclusive, Stopped, Unreachable) as fault:
         print(f"{Verdict.NOT_JUDGED.value}: {fault}")
         return Verdict.NOT_JUDGED.status
+    except KeyboardInterrupt:
+        print(f"{Verdict.NOT_JUDGED.value}: it was interrupted")
+        return Verdict.NOT_JUDGED.status
+    finally:
+        session.put_back()
     if run is not None:
         _show(run)
         return Verdict.DIFFERS.status

@@ -5,11 +5,11 @@ from dataclasses import dataclass, field
 from typing import Sequence
 
 from wisangub.snmp import wire
-from wisangub.tester.findings.differences import Signature, object_of, signature
+from wisangub.tester.findings.differences import Signature, signature
 from wisangub.tester.requests.messages import spelled
 from wisangub.tester.requests.objects import is_validation
 from wisangub.tester.requests.steps import Ask, Step, Wait
-from wisangub.tester.sign.pair import Exchange, Inconclusive, Pair
+from wisangub.tester.sign.pair import Exchange, Inconclusive, Likeness, Pair, likeness
 from wisangub.tester.state.reset import Reset
 
 _TRIES = 3
@@ -31,16 +31,13 @@ class Run:
 
 @dataclass
 class Runner:
-    """Runs sequences from the known state. `answered` has what SETs were answered, by their likes."""
+    """Runs sequences from the known state."""
 
     pair: Pair
     reset: Reset
     most_seconds: float = 40.0  # that a difference is made smaller
     runs: int = 0
-    answered: set[tuple[object, ...]] = field(default_factory=set)  # what SETs were answered, by their likes
-    lost: Counter[tuple[object, ...]] = field(
-        default_factory=Counter
-    )  # and which were not, though they may be answered
+    lost: Counter[Likeness] = field(default_factory=Counter)  # SETs without a reply, by their likes
     is_doubtful: bool = False  # whether the last run had a SET without a reply of which no like was ever answered
 
     def steps(self, steps: Sequence[Step]) -> Run | None:
@@ -50,6 +47,7 @@ class Runner:
         sent: list[bytes | None] = []
         self.is_doubtful = False
         for at, step in enumerate(steps):
+            self.pair.settle_strays()
             exchange = self.pair.do(step)
             if exchange is None:
                 sent += [None] * step.ticks if isinstance(step, Wait) else []
@@ -65,18 +63,20 @@ class Runner:
         """Whether a read is right when it is asked again at once: no late request made it wrong, but the sign did."""
         if exchange.is_set or not self.pair.port.is_lossy():
             return not exchange.is_set
+        if exchange.theirs is None:
+            return False
         again = self.pair.do(exchange.step)
-        return again is not None and again.mismatch is None
+        return again is not None and again.mismatch is None and not self.pair.port.strays
 
     def is_lost(self, exchange: Exchange) -> bool:
         """Whether a SET without a reply is one of many whose replies came, or of few of its kind so far, on a way that
         loses some. What it did is known then."""
         if exchange.theirs is not None:
-            self.answered.update(_likeness(exchange) if exchange.is_set else ())
+            self.pair.answered.update(_likeness(exchange) if exchange.is_set else ())
             return False
         if not exchange.is_lost or not self.pair.port.is_lossy():
             return False
-        unknown = _likeness(exchange) - self.answered
+        unknown = _likeness(exchange) - self.pair.answered
         self.lost.update(unknown)
         self.is_doubtful |= bool(unknown)
         return all(self.lost[one] <= _MOST_LOST for one in unknown)
@@ -105,13 +105,10 @@ class Runner:
         return None
 
 
-def _likeness(exchange: Exchange) -> set[tuple[object, ...]]:
-    """What a sign answers alike: for each object that a request names, the request's kind and the reply's status."""
-    message, reply = spelled(exchange.octets), spelled(exchange.ours or b"")
-    if message is None or reply is None:
-        return set()
-    places = {object_of(name) for name, _ in message.bindings}
-    return {(message.kind, message.community, place, reply.status) for place in places}
+def _likeness(exchange: Exchange) -> set[Likeness]:
+    """What a sign answers alike to the request of an exchange."""
+    message = spelled(exchange.octets)
+    return set() if message is None or exchange.ours is None else likeness(message, exchange.ours)
 
 
 def _is_timed(steps: Sequence[Step]) -> bool:

@@ -55,7 +55,8 @@ class Shrinking:
                 self.runner.reset.let_late_come()
                 before = port.way.troubles()
                 seen += (is_seen := self.shows(steps, of_any_cost=True))
-                port.listen(max(port.way.slowest, port.wait))
+                if is_seen:
+                    port.listen(max(port.way.slowest, port.wait))  # what tells of a late request may still come
             except Inconclusive:
                 continue
             if port.way.troubles() == before:
@@ -117,11 +118,14 @@ def _cost(steps: Sequence[Step]) -> tuple[int, int, int]:
 def shrunk(runner: Runner, run: Run, block: Sequence[Step], is_made_smaller: bool = True) -> tuple[Run, bool]:
     """The smallest run found that shows the same, and whether the difference was seen again at all.
 
-    `block` is what was done last, which often suffices.
+    `block` is what was done last, which often suffices. On a way that loses some what was done before it is run again
+    at the end of the chapter, unless the sign was wrong once for sure.
     """
     shrinking = Shrinking(runner, run.signature, run, runner.pair.clock.now() + runner.most_seconds)
     is_seen = len(block) < len(run.steps) and shrinking.is_seen_again(block)
-    for _ in range(1 if runner.pair.port.is_lossy() else 2):
+    is_lossy = runner.pair.port.is_lossy()
+    is_left = is_lossy and len(block) < len(run.steps) and not run.exchange.is_slip
+    for _ in range(0 if is_left else 1 if is_lossy else 2):
         is_seen = is_seen or shrinking.is_seen_again(run.steps)
     if is_seen and is_made_smaller:
         shrinking.waits_alone()

@@ -22,6 +22,9 @@ class ClaimedOracle:
     def tick(self) -> None:
         self._oracle.tick()
 
+    def power(self, seconds: int) -> None:
+        self._oracle.power(seconds)
+
     def end(self) -> None:
         self._oracle.end()
 

@@ -14,7 +14,9 @@ from wisangub.snmp.names import OBJECTS
 from wisangub.tester.requests.objects import DEFAULTS, RANGES, Binding, Name, Value
 from wisangub.tester.requests.texts import TAGS
 
+from . import device_claims
 from .described import Description
+from .device_claims import DeviceClaim
 
 # without these nothing can be tested
 NEEDED = (
@@ -30,11 +32,12 @@ NEEDED = (
 
 @dataclass(frozen=True)
 class Claims:
-    """The objects and tags that a sign has not, and narrower ranges of those that it has."""
+    """The objects and tags that a sign has not, narrower ranges of those that it has, and what it has besides."""
 
     missing: frozenset[str] = frozenset()
     ranges: dict[str, tuple[int, int]] = field(default_factory=dict)
     tags: frozenset[str] = frozenset()
+    device: tuple[DeviceClaim, ...] = ()  # beside the profile's objects
 
     def is_missing(self, name: Name) -> bool:
         """Whether it is an instance of an object that the sign has not."""
@@ -82,17 +85,18 @@ def read(path: pathlib.Path) -> Claims:
         raise Refusal(f"the claims cannot be read: {reason(fault)}") from None
     except ValueError as fault:
         raise Refusal(f"{path}: {fault}") from None
-    others = [word for word in held if word not in ("objects", "ranges", "tags")]
+    others = [word for word in held if word not in ("objects", "ranges", "tags", "device")]
     if others or not all(isinstance(part, dict) for part in held.values()):
         raise Refusal(
-            f"{path}: claims have the parts [objects], [ranges] and [tags], not {', '.join(others) or 'this'}"
+            f"{path}: claims have the parts [objects], [ranges], [tags] and [device], not {', '.join(others) or 'this'}"
         )
     missing = frozenset(_refused(path, held.get("objects", {}), tuple(OBJECTS)))
     needed = missing & set(NEEDED)
     if needed:
         raise Refusal(f"{path}: without {', '.join(sorted(needed))} nothing can be tested")
     tags = frozenset(_refused(path, held.get("tags", {}), TAGS))
-    return Claims(missing, dict(_narrower(path, held.get("ranges", {}))), tags)
+    device = device_claims.read(path, held.get("device", {}))
+    return Claims(missing, dict(_narrower(path, held.get("ranges", {}))), tags, device)
 
 
 def _refused(path: pathlib.Path, held: dict[str, Any], known: tuple[str, ...]) -> Iterator[str]:

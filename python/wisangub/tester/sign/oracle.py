@@ -24,6 +24,9 @@ class Oracle(Protocol):
     def tick(self) -> None:
         """A second passes."""
 
+    def power(self, seconds: int) -> None:
+        """The power is lost, and back after so many seconds."""
+
     def end(self) -> None:
         """It is needed no more."""
 
@@ -70,6 +73,10 @@ class CoProcessOracle:
 
     def tick(self) -> None:
         self.lines(b"tick")
+
+    def power(self, seconds: int) -> None:
+        self.lines(b"power-lost")
+        self.lines(b"power-back %d" % seconds)
 
     def end(self) -> None:
         if self._process is not None:

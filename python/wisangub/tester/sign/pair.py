@@ -6,19 +6,24 @@ from wisangub.snmp import wire
 from wisangub.snmp.names import scalar
 from wisangub.tester.findings.compare import Kind, Mismatch, mismatch
 from wisangub.tester.requests.messages import spelled
-from wisangub.tester.requests.objects import Name, Row, is_validation, row_of
+from wisangub.tester.requests.objects import Name, Row, is_validation, object_of, row_of
 from wisangub.tester.requests.steps import Ask, Raw, Step, Wait, get
-from wisangub.tester.state.unanswered import is_command, is_known
+from wisangub.tester.state.unanswered import Fate, fate, is_command, is_refused, is_seen_taken, is_settled
 
 from .besides import Besides
+from .claimed_device import DeviceOracle
 from .clock import Clock
 from .oracle import Oracle
-from .port import Port
+from .port import Heard, Port
 from .ticks import Ticks
 
 _OF_NAMES = (Kind.STATUS, Kind.BINDINGS, Kind.VALUE)  # differences that other objects may explain
 _MOST_DOUBTS = 2  # sequences in a row that end since a tick may have come late
 _SAMPLES = 3  # how often a Get whose answer is in doubt is asked anew
+_MOST_SENT = 3  # how often a SET is sent that is known to be lost
+
+
+Likeness = tuple[object, ...]
 
 
 class Inconclusive(Exception):
@@ -50,9 +55,12 @@ class Pair:
     communities: tuple[bytes, bytes]
     masked: set[Name] = field(default_factory=set)
     besides: Besides = field(default_factory=Besides)  # what the sign under test has that ours has not
+    device: DeviceOracle | None = None  # ours, where it may have what the sign claims besides
     touched: set[Row] = field(default_factory=set)
     log: list[bytes | None] = field(default_factory=list)  # what ours was handed since it began; None is a tick
     numbers: dict[int, int] = field(default_factory=dict)
+    since: int = 0  # the number of the last request before the known state was left
+    answered: set[Likeness] = field(default_factory=set)  # what SETs were answered, by their likes
     requests: int = 0
     spellings: int = 0  # replies that spelled the same in other octets
     is_spelling_told: bool = False
@@ -173,9 +181,9 @@ class Pair:
 
     def set(self, step: Ask | Raw, octets: bytes, message: wire.Message, ours: bytes) -> Exchange:
         """A SET at both. Raises Inconclusive where it cannot be told what it did."""
-        heard = self.port.ask_once(octets, message.number, ours)
+        is_void = self.port.is_lossy() and is_refused(message, ours)
+        heard = self._ask_void(octets, message, ours) if is_void else self._ask_set(octets, message, ours)
         if heard.reply is None:
-            self.settle_lost(octets, message, ours)
             return Exchange(step, octets, ours, None, Mismatch(Kind.NO_ANSWER), True, True)
         if _hangs_on_ticks(message) and self.ticks.may_have_come(heard.ended):
             raise Inconclusive("a tick may have come before the sign took what hangs on ticks")
@@ -186,10 +194,60 @@ class Pair:
             raise Inconclusive("a tick of the sign came while it answered")
         return Exchange(step, octets, ours, heard.reply, differs, is_set=True)
 
-    def settle_lost(self, octets: bytes, message: wire.Message, ours: bytes) -> None:
+    def _ask_void(self, octets: bytes, message: wire.Message, ours: bytes) -> Heard:
+        """A SET that ours refuses, at the sign under test: on a way that loses some it is asked again as a read is."""
+        for sent, wait in enumerate(self.port.waits()):
+            if sent and self._again(octets) != ours:
+                raise Inconclusive("a SET that was to be refused is lost, and would be refused no more")
+            heard = self.port.ask_once(octets, message.number, ours, wait, is_again=sent > 0)
+            if heard.reply is not None:
+                return heard
+        self._settle_lost(octets, message, ours)
+        return heard
+
+    def _ask_set(self, octets: bytes, message: wire.Message, ours: bytes) -> Heard:
+        """What came of a SET at the sign under test. On a way that loses some, what is known to be lost is sent once
+        more, to both. Raises Inconclusive where it cannot be told what it did."""
+        is_usual = likeness(message, ours) <= self.answered
+
+        def is_seen() -> bool:
+            return is_usual and is_seen_taken(self, octets, message)
+
+        for sent in range(_MOST_SENT):
+            if sent:
+                self._again(octets)
+            heard = self.port.ask_watched(octets, message.number, ours, is_seen, is_again=sent > 0)
+            if heard.reply is not None:
+                break
+            if self._settle_lost(octets, message, ours) is Fate.TAKEN or not self.port.is_lossy():
+                break
+        return heard
+
+    def _again(self, octets: bytes) -> bytes | None:
+        """Our reply to what is sent once more."""
+        self.pass_ticks()
+        return self.hand(octets)
+
+    def _settle_lost(self, octets: bytes, message: wire.Message, ours: bytes) -> Fate:
         """A SET has no reply: afterwards ours is handed it or not, as it is known of the sign under test."""
-        if not is_known(self, octets, message, ours):
+        found = fate(self, octets, message, ours)
+        if found is Fate.UNKNOWN:
             raise Inconclusive("no reply to a SET, and reading does not tell what it did")
+        return found
+
+    def settle_strays(self) -> None:
+        """Where replies to SETs came late or twice, so may the SETs have: then ours is handed them too. Raises
+        Inconclusive where reading does not tell."""
+        if not self.port.is_lossy():
+            return
+        self.port.listen(0)
+        while self.port.strays:
+            number = self.port.strays.pop()
+            octets = self.port.way.earlier(number) or b""
+            message = spelled(octets)
+            if message is not None and not is_settled(self, octets, message, number > self.since):
+                self.port.strays.clear()
+                raise Inconclusive("a SET came late or twice, and reading does not tell what it did")
 
     def dropped(self, step: Ask | Raw, octets: bytes, number: int) -> Exchange:
         """Octets that ours does not answer."""
@@ -206,6 +264,13 @@ class Pair:
         self.hand(sentinel)
         differs = mismatch(None, answer) or (None if is_heard else Mismatch(Kind.NO_ANSWER))
         return Exchange(step, octets, None, answer, differs)
+
+
+def likeness(message: wire.Message, ours: bytes) -> set[Likeness]:
+    """What a sign answers alike: for each object that a request names, the request's kind and our reply's status."""
+    reply = spelled(ours)
+    places = {object_of(name) for name, _ in message.bindings}
+    return set() if reply is None else {(message.kind, message.community, place, reply.status) for place in places}
 
 
 def _hangs_on_ticks(message: wire.Message) -> bool:

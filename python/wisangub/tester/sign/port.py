@@ -1,6 +1,7 @@
 """Requests to the sign under test, and which of the datagrams that come in are their replies."""
 
 from dataclasses import dataclass, field
+from typing import Callable
 
 from wisangub.snmp import wire
 from wisangub.tester.requests.messages import spelled
@@ -13,7 +14,7 @@ from .way import Oddity, Way
 _TRIES, _LOSSY_TRIES = 3, 8
 _PAUSE, _AT_ONCE = 0.05, 0.001  # seconds in which nobody looked, and within which a reply was there already
 _MOST_KEPT = 8  # datagrams of one request number that are remembered
-_LEAST_WAIT = 0.25  # seconds that a read waits at least
+_LEAST_WAIT = 0.05  # seconds that a request waits at least until it is late beside others
 _LEAST_LOOK = 0.05  # seconds that a look waits at least
 
 
@@ -28,6 +29,15 @@ class Heard:
 
 
 @dataclass
+class _Awaited:
+    """A SET whose reply may come while others are waited for."""
+
+    number: int
+    octets: bytes
+    reply: bytes | None = None
+
+
+@dataclass
 class Port:
     """The sign under test. Replies to earlier requests, late or doubled, are passed over and counted."""
 
@@ -39,8 +49,9 @@ class Port:
     sent: int = 0
     passed_over: int = 0
     asked_again: int = 0
-    usual: float = 0.0  # seconds that replies take of late
     given_up: set[int] = field(default_factory=set)  # numbers of looks whose replies were not waited for
+    strays: list[int] = field(default_factory=list)  # numbers of SETs whose replies came late, or once more
+    _awaited: _Awaited | None = None
     _looked: float = 0.0  # when it was last looked whether something had come
     _is_timed: bool = True  # whether it is known when the last reply came
     patience: int | None = None  # requests in a row without a reply after which the test ends
@@ -95,6 +106,8 @@ class Port:
             message = spelled(reply)
             if message is not None and self.is_earlier(message.number, 0):
                 self._pass_over(reply, message, 0)
+            else:
+                self._note_odd(reply, message, 0)
 
     def await_reply(self, number: int, octets: bytes, expected: bytes | None, until: float) -> bytes | None:
         """The reply to these octets with this number, or one that belongs to no request at all."""
@@ -122,9 +135,28 @@ class Port:
         if asked is not None and not _may_answer(message, asked):
             self.way.note(Oddity.ANOTHER, reply)
             return
+        if self._is_kept(reply, message):
+            return
         if message.number not in self.given_up:
             self.passed_over += 1
             self.way.passed_over(message.number, self._is_timed)
+            self._note_stray(message.number)
+
+    def _is_kept(self, reply: bytes, message: wire.Message) -> bool:
+        """Whether it is the reply to the SET that is waited for besides, which is kept."""
+        awaited = self._awaited
+        if awaited is None or awaited.reply is not None or message.number != awaited.number:
+            return False
+        if not _may_answer(message, awaited.octets):
+            return False
+        awaited.reply = reply
+        return True
+
+    def _note_stray(self, number: int) -> None:
+        """A reply came late or once more: so may the request have, which changes a sign where it is a SET."""
+        asked = spelled(self.way.earlier(number) or b"")
+        if asked is not None and asked.kind == wire.SET:
+            self.strays.append(number)
 
     def ask_once(
         self,
@@ -138,41 +170,73 @@ class Port:
     ) -> Heard:
         """A request that is sent once. The octets of the reply that is expected need not be looked into. What is to
         have no answer is not `is_answered`, and what is not waited for as ever is not counted as lost."""
+        begun = self._begin(octets, number, is_answered, is_again)
+        reply = self.await_reply(number, octets, expected, begun + (self.wait if wait is None else wait))
+        return self._ended(reply, number, begun, is_answered, is_counted)
+
+    def _begin(self, octets: bytes, number: int, is_answered: bool = True, is_again: bool = False) -> float:
+        """A request is sent, at this moment."""
+        earlier = self.way.earlier(number)
+        if earlier is not None and earlier != octets:
+            self.note(number, earlier)
         if number != self.number:
             self.note(number, octets)
         if is_answered:
             self.way.send(number, octets, is_again)
         begun = self.clock.now()
         self.send(octets)
-        reply = self.await_reply(number, octets, expected, begun + (self.wait if wait is None else wait))
-        ended = self.clock.now()
+        return begun
+
+    def _ended(
+        self, reply: bytes | None, number: int, begun: float, is_answered: bool = True, is_counted: bool = True
+    ) -> Heard:
+        """What came of a request that was sent at this moment."""
         if reply is not None:
-            self.usual += (ended - begun - self.usual) / 8
-            self.way.answered(number, is_answered)
+            self.way.answered(number, is_answered and is_counted)
         elif is_answered:
-            self.way.silent(begun, is_counted)
-        return Heard(reply, 1, begun, ended)
+            self.way.silent(number, begun, is_counted)
+        return Heard(reply, 1, begun, self.clock.now())
+
+    def ask_watched(
+        self, octets: bytes, number: int, expected: bytes, is_seen: Callable[[], bool], is_again: bool
+    ) -> Heard:
+        """A SET that is sent once. Where its reply is late beside others it is looked whether it is seen to be taken;
+        then its reply is not waited for."""
+        begun = self._begin(octets, number, is_again=is_again)
+        reply = self.await_reply(number, octets, expected, begun + self.soon())
+        if reply is None and self.clock.now() < begun + self.wait:
+            awaited = self._awaited = _Awaited(number, octets)
+            try:
+                is_taken = is_seen()
+            finally:
+                self._awaited = None
+            reply = awaited.reply
+            if reply is None and not is_taken:
+                reply = self.await_reply(number, octets, expected, begun + self.wait)
+        return self._ended(reply, number, begun)
 
     def look(self, octets: bytes, number: int) -> Heard:
         """A read whose reply counts only where it comes about as fast as replies do."""
-        wait = min(self.wait, max(_LEAST_LOOK, 4 * self.usual))
+        wait = min(self.wait, max(_LEAST_LOOK, 4 * self.way.usual()))
         heard = self.ask_once(octets, number, wait=wait, is_counted=False)
         if heard.reply is None:
             self.given_up.add(number)
         return heard
 
-    def _tries(self) -> int:
-        """How often a read is sent: more often on a way that loses some, until that is no reason for no reply."""
-        return _LOSSY_TRIES if self.is_lossy() else _TRIES
+    def soon(self) -> float:
+        """Seconds after which a reply is late beside others, on a way that loses some."""
+        return min(self.wait, max(_LEAST_WAIT, 4 * self.way.usual())) if self.is_lossy() else self.wait
 
-    def _read_wait(self) -> float:
-        """Seconds after which a read is asked again: on a way that loses some, when a reply is late beside others."""
-        return min(self.wait, max(_LEAST_WAIT, 4 * self.usual)) if self.is_lossy() else self.wait
+    def waits(self) -> list[float]:
+        """Seconds that a read waits each time that it is sent: on a way that loses some it is sent more often, until
+        that is no reason for no reply, and soon at first."""
+        tries = _LOSSY_TRIES if self.is_lossy() else _TRIES
+        return [min(self.wait, self.soon() * 2 ** (at // 2)) for at in range(tries)]
 
     def ask(self, octets: bytes, number: int, expected: bytes | None = None) -> Heard:
         """A request that may be asked again, three times in all, and more on a way that loses some."""
-        for tries in range(1, self._tries() + 1):
-            heard = self.ask_once(octets, number, expected, self._read_wait(), is_again=tries > 1)
+        for tries, wait in enumerate(self.waits(), 1):
+            heard = self.ask_once(octets, number, expected, wait, is_again=tries > 1)
             heard.tries = tries
             if heard.reply is not None:
                 break
@@ -187,11 +251,11 @@ class Port:
         """Octets that are to have no answer, and a Get after them: their answer, and whether the Get was answered."""
         self.send(octets)
         answer: bytes | None = None
-        for tries in range(self._tries()):
+        for tries, wait in enumerate(self.waits()):
             self.way.send(sentinel_number, sentinel, is_again=tries > 0)
             begun = self.clock.now()
             self.send(sentinel)
-            until = self.clock.now() + self._read_wait()
+            until = begun + wait
             while (reply := self._receive(until)) is not None:
                 message = spelled(reply)
                 if message is not None and message.number == sentinel_number:
@@ -201,7 +265,7 @@ class Port:
                     answer = reply
                 else:
                     self._pass_over(reply, message, number)
-            self.way.silent(begun)
+            self.way.silent(sentinel_number, begun)
         return answer, False
 
 

@@ -10,9 +10,10 @@ from .clock import Clock
 
 LONGEST_SILENCE = 5.0  # seconds: a longer one is more than a way that loses some
 _PATIENCE = 30.0  # seconds without a reply after which a test ends
+_LAST_PATIENCE = 40.0  # and after which the sign is not put back: one that was silent for a minute is
 _MOST_KEPT = 2048  # requests whose replies may still come
 _MOST_SHOWN = 100  # octets of a reply that no way makes
-_SUMS = ("asked", "unanswered", "late", "doubled", "reboots")  # what is counted of a way
+_SUMS = ("asked", "unanswered", "late", "doubled", "twice", "reboots")  # what is counted of a way
 _MOSTS = ("longest", "slowest")  # seconds, of which the most is kept
 _MOST_SHARE = 50.0  # percent of replies that a way may lose, by which silences are judged
 _DELAYS = 24  # replies that are looked at to see whether they come in time
@@ -32,13 +33,15 @@ class Oddity(Enum):
 
 @dataclass
 class Sent:
-    """A request that replies may come to: when it was sent, its octets, how often it was sent and answered."""
+    """A request that replies may come to: its octets, and when it was sent, the first time and each that has no reply
+    yet."""
 
     moment: float
     octets: bytes
-    last: float  # when it was sent last
-    sends: int = 1
-    replies: int = 0
+    waiting: list[float]
+    missing: set[float] = field(default_factory=set)  # those that had no reply in time
+    in_time: int = 0  # how often it was sent and had one
+    doubled: int = 0  # replies beyond one for each time
 
 
 @dataclass
@@ -55,8 +58,9 @@ class Way:
     deadline: float = math.inf
     asked: int = 0
     unanswered: int = 0  # requests that had no reply in time
-    late: int = 0
-    doubled: int = 0
+    late: int = 0  # of these, those whose reply came later
+    doubled: int = 0  # replies beyond the one that a request has
+    twice: int = 0  # requests that had their reply in time, and more than one
     longest: float = 0.0  # seconds that the sign was silent at the longest
     slowest: float = 0.0  # seconds that a reply took at the longest
     reboots: int = 0  # that nobody asked for
@@ -65,11 +69,12 @@ class Way:
     _recent: dict[int, Sent] = field(default_factory=dict)
     _silent_since: float | None = None
     _in_a_row: int = 0
+    _most_silent: float = _PATIENCE
     _delays: deque[float] = field(default_factory=lambda: deque(maxlen=_DELAYS))
 
     def percent(self) -> float:
         """The share of requests whose reply did not come, came late or came twice."""
-        return min(100.0, 100 * (self.unanswered + self.doubled) / self.asked) if self.asked else 0.0
+        return min(100.0, 100 * (self.unanswered + self.twice) / self.asked) if self.asked else 0.0
 
     def troubles(self) -> tuple[int, int, int]:
         """How many replies were missing, late and doubled so far."""
@@ -79,51 +84,65 @@ class Way:
         """A request is sent whose reply is waited for, be it again since there was none. Raises Stopped where it is no
         use to go on."""
         self._give_up()
+        now = self.clock.now()
         if is_again and number in self._recent:
-            self._recent[number].sends += 1
-            self._recent[number].last = self.clock.now()
+            self._recent[number].waiting.append(now)
             return
-        self._recent[number] = Sent(self.clock.now(), octets, self.clock.now())
+        self._recent[number] = Sent(now, octets, [now])
         if len(self._recent) > _MOST_KEPT:
             self._recent.pop(next(iter(self._recent)))
 
     def answered(self, number: int, is_counted: bool = True) -> None:
         """A request has its reply."""
-        now = self.clock.now()
         if self._silent_since is not None:
-            self.longest = max(self.longest, now - self._silent_since)
+            self.longest = max(self.longest, self.clock.now() - self._silent_since)
         self._silent_since, self._in_a_row = None, 0
         self.asked += is_counted
         sent = self._recent.get(number)
-        if sent is not None:
-            sent.replies += 1
-            self._took(sent)
+        if sent is not None and sent.waiting:
+            self._took(sent, True)
 
-    def silent(self, begun: float, is_counted: bool = True) -> None:
-        """A request that was sent at this moment has no reply in time."""
+    def silent(self, number: int, begun: float, is_counted: bool = True) -> None:
+        """A request that was sent at this moment has no reply so far."""
         if self._silent_since is None:
             self._silent_since = begun
         self.longest = max(self.longest, self.clock.now() - self._silent_since)
         self.asked += is_counted
-        self.unanswered += is_counted
         self._in_a_row += is_counted
+        sent = self._recent.get(number)
+        if is_counted and sent is not None and sent.waiting:
+            self.unanswered += 1
+            sent.missing.add(sent.waiting[-1])
 
     def passed_over(self, number: int, is_timed: bool = True) -> None:
         """A reply to an earlier request; it may be unknown how late it is."""
         sent = self._recent.get(number)
-        if sent is None or sent.replies >= sent.sends:
-            self.doubled += 1
+        if sent is not None and sent.waiting:
+            self._silent_since, self._in_a_row = None, 0
+            self._took(sent, is_timed)
             return
-        self.late += 1
-        sent.replies += 1
-        if is_timed:
-            self._took(sent)
-        self._silent_since, self._in_a_row = None, 0
+        self.doubled += 1
+        if sent is None or sent.doubled < sent.in_time:
+            self.twice += 1
+        if sent is not None:
+            sent.doubled += 1
 
-    def _took(self, sent: Sent) -> None:
-        """A request has a reply, which may be one to what was sent last."""
-        self._delays.append(self.clock.now() - sent.moment)
-        self.slowest = max(self.slowest, self.clock.now() - sent.last)
+    def _took(self, sent: Sent, is_timed: bool) -> None:
+        """A request has a reply, which counts as one to what was sent last. It is in time where it came within the wait
+        that the command names, though the request may have been sent again before."""
+        now, begun = self.clock.now(), sent.waiting.pop()
+        is_missing = begun in sent.missing
+        is_late = is_missing and not (is_timed and now - begun <= self.wait)
+        self.late += is_late
+        self.unanswered -= is_missing and not is_late
+        sent.in_time += not is_late
+        if is_timed:
+            self._delays.append(now - sent.moment)
+            self.slowest = max(self.slowest, now - begun)
+
+    def usual(self) -> float:
+        """Seconds that half of the replies take of late."""
+        return sorted(self._delays)[len(self._delays) // 2] if self._delays else 0.0
 
     def note(self, oddity: Oddity, octets: bytes) -> None:
         """A reply that no way makes of a right one."""
@@ -142,7 +161,7 @@ class Way:
         if self.patience is not None and self._in_a_row >= self.patience:
             raise Stopped(f"{self._in_a_row} requests in a row had no reply")
         silence = 0.0 if self._silent_since is None else now - self._silent_since
-        if self.patience is None and silence >= _PATIENCE:
+        if self.patience is None and silence >= self._most_silent:
             raise Stopped(f"the sign was silent for {silence:.0f} seconds")
         least = sorted(self._delays)[_DELAYS // 5] if len(self._delays) == _DELAYS else 0.0
         if least > self.wait:
@@ -162,6 +181,7 @@ class Way:
     def begin_anew(self) -> None:
         """What was silent is no reason to stop any more: once more is tried, with no deadline."""
         self.deadline, self._silent_since, self._in_a_row = math.inf, None, 0
+        self._most_silent = _LAST_PATIENCE
         self._delays.clear()
 
     def counts(self) -> dict[str, Any]:

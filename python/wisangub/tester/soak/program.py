@@ -1,10 +1,13 @@
 """Right signs through many random requests: wisangub-conform soak [--seeds N] [--requests N] [--faulty SHARE]
 
-    [--both-ways] [--under-test PATH] [--signtool PATH] [--sign FILE] [--first SEED] [--record FILE] [--jobs N]
+    [--both-ways] [--whole] [--under-test PATH] [--signtool PATH] [--sign FILE] [--first SEED] [--record FILE]
+    [--jobs N]
 
 The sign under test and the oracle are the model or a program. With --faulty that share of the replies is lost, late or
 doubled, a third of it each, and with --both-ways of the requests too. A line a seed, in the order in which they end;
-last how many sequences were told and how many could not be, and `N passed, N failed`. With --record each seed is a line
+last how many sequences were told and how many could not be, and `N passed, N failed`. With --whole all chapters are run
+as a test without options but `--lossy 30` does, which has to conform, and its minutes of the sign are said. With
+--record each seed is a line
 of JSON in that file, with the commit that was run; seeds that stand there for the same commit and the same options are
 not run again.
 """
@@ -20,17 +23,21 @@ import time
 from typing import Any
 
 from wisangub.process.description import BENCH
-from wisangub.process.places import TOP
+from wisangub.process.places import TOP, add_version
 from wisangub.tester.findings.compare import fields
-from wisangub.tester.findings.results import Results
+from wisangub.tester.findings.results import Results, Verdict
+from wisangub.tester.report import words
 from wisangub.tester.report.words import sequence
 from wisangub.tester.sign.judge import SignJudge
 from wisangub.tester.sign.oracle import Oracle, made
 
 from . import bench
 
-_OPTIONS = ("under_test", "signtool", "sign", "faulty", "both_ways", "requests", "seed", "commit")
-_OF_EARLIER = {"both_ways": False}  # what records of earlier had no word for
+_OPTIONS = ("under_test", "signtool", "sign", "faulty", "both_ways", "whole", "requests", "seed", "commit")
+_OF_EARLIER = {"both_ways": False, "whole": False}  # what records of earlier had no word for
+_LOSSY = 30.0  # percent that a whole test may lose
+_USUAL = 500  # random requests of a whole test
+_MOST_SECONDS = 40.0  # that it makes a difference smaller
 
 
 class Program:
@@ -70,7 +77,7 @@ def _told(results: Results) -> list[str]:
     for found in [*results.differences(), *results.once()]:
         again = "" if found.is_repeated else ", and did not come again"
         lines.append(f"  {found.rule.chapter} ({found.rule.key}), {found.title}{again}")
-        lines += [f"    {octets or 'tick'} {'; '.join(words)}" for octets, words in sequence(found)[-12:]]
+        lines += [f"    {octets or 'tick'} {'; '.join(said)}" for octets, said in sequence(found)[-12:]]
         lines += [f"    ours {'; '.join(fields(found.ours))}", f"    theirs {'; '.join(fields(found.theirs))}"]
     return lines
 
@@ -81,11 +88,13 @@ def run(entry: dict[str, Any], description: bytes) -> dict[str, Any]:
     oracle, sign = made(entry["signtool"], description), made(entry["under_test"], description)
     judge = SignJudge(entry["signtool"], description)
     try:
-        seed, faulty, requests = entry["seed"], entry["faulty"], entry["requests"]
+        seed, faulty, requests = entry["seed"], entry["faulty"], _USUAL if entry["whole"] else entry["requests"]
         session = bench.session(
             description, Program(sign), oracle, judge, seed, faulty, requests, both_ways=entry["both_ways"]
         )
-        results = bench.run(session, ["random"])
+        if entry["whole"]:
+            session.results.lossy, session.most_seconds = _LOSSY, _MOST_SECONDS
+        results = bench.run(session, [] if entry["whole"] else ["random"])
     finally:
         oracle.end()
         sign.end()
@@ -95,7 +104,10 @@ def run(entry: dict[str, Any], description: bytes) -> dict[str, Any]:
         "when": datetime.datetime.now(datetime.timezone.utc).isoformat(timespec="seconds"),
         "asked": session.pair.requests,
         "told_requests": sum(held.told for held in results.chapters),
-        "clean": results.is_clean(),
+        "clean": results.verdict() is Verdict.CONFORMS if entry["whole"] else results.is_clean(),
+        "verdict": words.verdict(results),
+        "minutes": round(session.pair.clock.now() / 60, 1),
+        "percent": round(port.way.percent(), 1),
         "asked_again": port.asked_again,
         "passed_over": port.passed_over,
         "not_told": sum(held.untold for held in results.chapters),
@@ -107,6 +119,9 @@ def run(entry: dict[str, Any], description: bytes) -> dict[str, Any]:
 
 
 def _line(held: dict[str, Any]) -> str:
+    if held["whole"]:
+        way = f"{held['percent']} % lost, late or doubled"
+        return f"seed {held['seed']}: {held['verdict']}, {held['minutes']} minutes of the sign, {way}"
     verdict = "nothing differs" if held["clean"] else "differs"
     lost = f"{held['asked_again']} asked again, {held['passed_over']} passed over"
     untold = f"{held['not_told']} of {held['cases']} sequences not told, {held['seen_once']} seen once"
@@ -154,15 +169,34 @@ def _soak(asked: argparse.Namespace, description: bytes) -> list[dict[str, Any]]
 def main() -> int:
     """Runs the seeds and prints what came of each; the exit status is 1 where one differs."""
     parser = argparse.ArgumentParser(prog="wisangub-conform soak", description="right signs through random requests")
-    parser.add_argument("--seeds", type=int, default=20)
-    parser.add_argument("--first", type=int, default=1, metavar="SEED")
-    parser.add_argument("--requests", type=int, default=100_000)
-    parser.add_argument("--faulty", type=float, default=0.0, metavar="SHARE")
+    add_version(parser, "wisangub-conform soak")
+    parser.add_argument("--seeds", type=int, default=20, help="how many seeds")
+    parser.add_argument("--first", type=int, default=1, metavar="SEED", help="the first of them")
+    parser.add_argument("--requests", type=int, default=100_000, help="how many random requests of each seed")
+    parser.add_argument(
+        "--faulty", type=float, default=0.0, metavar="SHARE", help="the share of replies that are lost, late or doubled"
+    )
     parser.add_argument("--both-ways", action="store_true", help="that share of the requests too")
-    parser.add_argument("--under-test", default="model", metavar="PATH")
-    parser.add_argument("--signtool", default="model", metavar="PATH")
+    parser.add_argument("--whole", action="store_true", help="all chapters, which have to conform with --lossy 30")
+    parser.add_argument(
+        "--under-test",
+        default="model",
+        metavar="PATH",
+        help="the program that is the sign under test; `model` is the model",
+    )
+    parser.add_argument(
+        "--signtool",
+        default="model",
+        metavar="PATH",
+        help="the program that replies are compared with; `model` is the model",
+    )
     parser.add_argument("--sign", type=pathlib.Path, help="a description; else the bench sign")
-    parser.add_argument("--record", type=pathlib.Path, metavar="FILE")
+    parser.add_argument(
+        "--record",
+        type=pathlib.Path,
+        metavar="FILE",
+        help="keeps what each seed came to, and goes on where it was stopped",
+    )
     parser.add_argument("--jobs", type=int, default=1, metavar="N", help="seeds at a time")
     asked = parser.parse_args()
     ends = _soak(asked, asked.sign.read_bytes() if asked.sign else BENCH)

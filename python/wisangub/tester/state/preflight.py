@@ -11,7 +11,7 @@ from wisangub.tester.findings.differences import Difference
 from wisangub.tester.findings.results import Results, Watcher
 from wisangub.tester.findings.rules import RULES, Rule
 from wisangub.tester.requests.messages import spelled
-from wisangub.tester.requests.objects import DEFAULTS, Column, Name, Value, integer, octets, row_of, spoken
+from wisangub.tester.requests.objects import Column, Name, Value, integer, octets, row_of, spoken
 from wisangub.tester.requests.steps import Ask, Wait, get, get_next, looks
 from wisangub.tester.sign.besides import Besides
 from wisangub.tester.sign.pair import Exchange, Pair
@@ -49,6 +49,7 @@ class Preflight:
             self.results.is_silent = True
             return False
         self.pair.masked.update(name for name in self.context.all_instances if self.context.claims.is_missing(name))
+        self.read_first()
         self.configure()
         others = [name for name, _, _ in self.results.configuration if name in _OTHER_SIGN]
         if others and not is_anyway:
@@ -61,8 +62,19 @@ class Preflight:
         self.compare_all()
         return True
 
+    def read_first(self) -> None:
+        """The sign's own defaults, codes and times, to be put back at the end. What an earlier test read first, and
+        could not put back, stands."""
+        settings = self.reset.objects.settings()
+        have = self.reset.read([name for name in settings if name not in self.pair.masked])
+        self.results.first = {name: value for name, value in have.items() if value is not None} | self.results.first
+        for name, value in self.results.first.items():
+            if value != settings.get(name, value):
+                said = (spoken(name), value_words(settings[name], name), value_words(value, name))
+                self.results.set_back.append(said)
+
     def configure(self) -> None:
-        """What is described otherwise is told and left out; what was changed is listed."""
+        """What is described otherwise is told and left out; rows that are in use are listed."""
         for name, wanted, have in _differing(self.reset, _described(self.context)):
             if self.reset.read([name])[name] == wanted:
                 self._wrong_once(get(name), Mismatch(Kind.VALUE, (name,)))
@@ -71,10 +83,8 @@ class Preflight:
             self.results.configuration.append((spoken(name), value_words(wanted, name), read))
             self.add(self.configuration_difference(name))
             self.pair.masked.add(name)
-
-        for name, wanted, have in _differing(self.reset, _first_state(self.context)):
-            read = "nothing" if have is None else value_words(have, name)
-            self.results.set_back.append((spoken(name), value_words(wanted, name), read))
+        for name, _, have in _differing(self.reset, _unused(self.context)):
+            self.results.emptied.append((spoken(name), "nothing" if have is None else value_words(have, name)))
 
     def configuration_difference(self, name: Name) -> Difference:
         exchange = self.on_both(get(name))
@@ -90,11 +100,13 @@ class Preflight:
     def reach_first(self) -> None:
         """The known state for the first time; what cannot be brought there is told, and left out from here on."""
         self.pair.touched.update(self.context.rows)
+        self.reset.is_entered = True
         for _ in range(3):
             unreached = self.reset.reach(observe=True)
-            if not unreached:
+            if unreached:
+                self.tell_unreached(unreached)
+            elif not self.pair.port.is_lossy() or not self.reset.is_unlearnt():
                 break
-            self.tell_unreached(unreached)
         self.results.is_learnt = self.pair.ticks.is_learnt()
 
     def find_besides(self) -> None:
@@ -255,10 +267,9 @@ def _described(context: Context) -> dict[Name, Value]:
     return wanted
 
 
-def _first_state(context: Context) -> dict[Name, Value]:
-    """What the description says of the defaults, and rows that nobody uses: requests may have changed them."""
-    defaults = {name: integer(value) for name, value in zip(DEFAULTS, context.defaults)}
-    return defaults | {row.cell(Column.STATUS): integer(RowStatus.NOT_USED) for row in context.rows}
+def _unused(context: Context) -> dict[Name, Value]:
+    """The status of rows that nobody uses."""
+    return {row.cell(Column.STATUS): integer(RowStatus.NOT_USED) for row in context.rows}
 
 
 def _differing(reset: Reset, wanted: dict[Name, Value]) -> list[tuple[Name, Value, Value | None]]:

@@ -27,6 +27,7 @@ class Reset:
     context: Context
     last: dict[Name, tuple[Ask, bytes | None]] = field(default_factory=dict)
     is_begun: bool = False  # whether the sign was in the known state before
+    is_entered: bool = False  # whether anything was written to bring it there
     is_together: bool = False  # whether ours is handed what brings the sign under test there
 
     def __post_init__(self) -> None:
@@ -56,7 +57,7 @@ class Reset:
         if self.is_together:
             self.pair.pass_ticks()
             self.pair.hand(sent)
-        return self.pair.port.ask_once(sent, number).reply
+        return self.pair.port.ask_once(sent, number, wait=self.pair.port.soon()).reply  # it is read back afterwards
 
     def ask_height(self) -> bytes | None:
         """Any Get at all."""
@@ -83,6 +84,7 @@ class Reset:
         for left in range(_LOSSY_ROUNDS if is_lossy else _ROUNDS, 0, -1):
             is_watched |= is_lossy and left <= _ROUNDS  # where the end of no validation is seen, the rows are emptied
             wanted = self.wanted()
+            self.pair.port.strays.clear()
             have = self.read(list(wanted))
             self._notice_reboot(have)
             wrong = [name for name, value in wanted.items() if have.get(name) != value]
@@ -128,10 +130,27 @@ class Reset:
         if is_refusal_wrong or any(name in wrong for name in self.objects.shown()):
             self.put(activate(self.context.known_code), *self.objects.shown())
 
-    def put(self, request: Ask, *names: Name) -> None:
-        """A SET, which is remembered as the last for these names."""
+    def put_back(self, values: dict[Name, Value]) -> list[Name]:
+        """The sign's own settings, as they were read; which could not be brought there. Where requests may come late
+        they are looked at twice, with time for what was late in between."""
+        looks_left = 2 if self.pair.port.is_lossy() else 1
+        for _ in range(_LOSSY_ROUNDS):
+            have = self.read(list(values))
+            wrong = [name for name, value in values.items() if have.get(name) != value]
+            for name in wrong:
+                self.ask(put((name, values[name])))
+            looks_left -= not wrong
+            if not looks_left:
+                return []
+            if not wrong:
+                self.pair.port.listen(max(self.pair.port.way.slowest, self.pair.port.wait))
+        return wrong
+
+    def put(self, request: Ask, *names: Name) -> bool:
+        """A SET, which is remembered as the last for these names; whether it was answered."""
         reply = self.ask(request)
         self.last |= {name: (request, reply) for name in names}
+        return reply is not None
 
     def empty(self, row: Row) -> None:
         """A row becomes not used, at the end of its validation where it has one."""
@@ -140,10 +159,13 @@ class Reset:
 
     def validate(self, row: Row) -> None:
         """An empty row is validated, for its verdict and to see when the sign's tick comes."""
-        self.put(put(row.status(RowStatus.MODIFY_REQ)), *self.objects.verdicts())
+        is_answered = self.put(put(row.status(RowStatus.MODIFY_REQ)), *self.objects.verdicts())
         asked = self.pair.clock.now()
-        self.put(put(row.status(RowStatus.VALIDATE_REQ)), *self.objects.verdicts())
-        self.validation.watch_asked(row, asked)
+        is_answered &= self.put(put(row.status(RowStatus.VALIDATE_REQ)), *self.objects.verdicts())
+        if is_answered or not self.pair.port.is_lossy():
+            self.validation.watch_asked(row, asked)
+        else:
+            self.validation.watch(row)
         self.put(put(row.status(RowStatus.NOT_USED_REQ)), row.cell(Column.STATUS))
         self.pair.touched.add(row)
 
@@ -166,6 +188,7 @@ class Reset:
                 self.pair.hand(request.octets(self.pair.port.new_number(), self.pair.communities))
             self.pair.pass_ticks()
         self.pair.is_dirty, self.is_begun = bool(unreached), True
+        self.pair.since = self.pair.port.number
         if not unreached:
             self.pair.touched.clear()
         return unreached

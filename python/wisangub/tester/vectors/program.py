@@ -16,7 +16,7 @@ import time
 from typing import Any
 
 from wisangub import junit
-from wisangub.process.places import TOP, called
+from wisangub.process.places import TOP, add_version, called
 
 _MOST_SILENT = 3
 
@@ -71,6 +71,7 @@ def main() -> int:
         description=__doc__,
         formatter_class=argparse.RawDescriptionHelpFormatter,
     )
+    add_version(parser, "wisangub-conform vectors")
     parser.add_argument("--to", default="127.0.0.1:1161", metavar="HOST:PORT", help="where the sign is")
     parser.add_argument("--wait", type=float, default=0.5, metavar="SECONDS", help="how long a reply may take")
     parser.add_argument("--junit", type=pathlib.Path, metavar="FILE", help="a report as JUnit has it is written here")

@@ -1,0 +1,90 @@
+"""Several signs in a run, over UDP: each with its verdict and its reports, lists at fault, and an interrupt."""
+
+import contextlib
+import json
+import pathlib
+import signal
+import subprocess
+import sys
+import tempfile
+import time
+
+from model import text
+from wisangub.process.places import TOP
+from wisangub.refusal import Refusal
+from wisangub.tester.several.listed import read
+
+from .endpoints import LONG, free_port, front_end, in_real_time
+
+CALL = [sys.executable, "-m", "wisangub.tester", "several"]
+OPTIONS = ["--signtool", "model", "--only", "communities", "--wait", "5"]
+
+
+def test_each_sign_has_its_verdict_and_its_reports() -> None:
+    with tempfile.TemporaryDirectory() as name, contextlib.ExitStack() as ends:
+        folder, ports = pathlib.Path(name), [free_port() for _ in range(2)]
+        described = folder / "bench.sign"
+        described.write_bytes(text.BENCH)
+        ends.enter_context(in_real_time())
+        right = ("bin/wisangub-sign", "--signtool", str(TOP / "model/signtool"))
+        ends.enter_context(front_end(*right, "--port", str(ports[0]), "--sign", str(described)))
+        wrong = ("-m", "trials.wrong_signs.serve", "--port", str(ports[1]), "--sign", str(described))
+        ends.enter_context(front_end(*wrong, "the_reader_writes"))
+        (folder / "list").write_text(
+            f"# two signs\nnorth 127.0.0.1:{ports[0]} bench.sign --lossy 50\nsouth 127.0.0.1:{ports[1]} bench.sign\n"
+            "west 127.0.0.1:1 no.sign\n",
+            encoding="utf-8",
+        )
+        call = [*CALL, str(folder / "list"), "--into", str(folder / "reports"), *OPTIONS]
+        ended = subprocess.run(call, cwd=TOP, capture_output=True, timeout=LONG, check=False)
+        assert ended.returncode == 1 and b"1 conforms, 1 differs, 1 not tested" in ended.stdout, ended
+        assert b"north at 127.0.0.1:%d: conforms: nothing differs in" % ports[0] in ended.stdout, ended
+        held = json.loads((folder / "reports/several.json").read_text(encoding="utf-8"))
+        assert [one["verdict"] for one in held] == ["conforms", "differs", "not tested"]
+        assert "no.sign" in held[2]["words"]
+        for kind in ("html", "json", "junit.xml", "txt"):
+            assert (folder / f"reports/south.{kind}").stat().st_size, kind
+
+
+def test_an_interrupt_ends_the_tests_that_run_and_begins_no_other() -> None:
+    with tempfile.TemporaryDirectory() as name, contextlib.ExitStack() as ends:
+        folder, port = pathlib.Path(name), free_port()
+        described = folder / "bench.sign"
+        described.write_bytes(text.BENCH)
+        ends.enter_context(in_real_time())
+        right = ("bin/wisangub-sign", "--signtool", str(TOP / "model/signtool"))
+        ends.enter_context(front_end(*right, "--port", str(port), "--sign", str(described)))
+        lines = [f"{one} 127.0.0.1:{port} bench.sign\n" for one in ("first", "second")]
+        (folder / "list").write_text("".join(lines), encoding="utf-8")
+        call = [*CALL, str(folder / "list"), "--into", str(folder), "--jobs", "1", "--signtool", "model", "--wait", "5"]
+        with subprocess.Popen(call, cwd=TOP, stdout=subprocess.PIPE) as several:
+            said, until = folder / "first.txt", time.monotonic() + LONG
+            while not (said.exists() and b"BER forms" in said.read_bytes()) and time.monotonic() < until:
+                time.sleep(0.1)
+            several.send_signal(signal.SIGINT)
+            assert several.stdout is not None
+            printed = several.stdout.read()
+            assert several.wait(LONG) == 3 and b"2 not judged" in printed, printed
+        assert b"it was interrupted" in said.read_bytes() and not (folder / "second.txt").exists()
+
+
+def test_a_list_at_fault_is_refused_with_its_line() -> None:
+    table = [
+        ("north 127.0.0.1:1\n", "line 1: such a line is: NAME HOST:PORT DESCRIPTION"),
+        ("../north 127.0.0.1:1 a.sign\n", "line 1: such a line is"),
+        ("\nnorth 127.0.0.1:1 a.sign\nnorth 127.0.0.1:2 a.sign\n", "line 3: another sign is called north"),
+        ("north 127.0.0.1:1 'a.sign\n", "line 1: No closing quotation"),
+        ("north 127.0.0.1:1 a.sign --json=x\n", "--json=x is not for a test of several signs"),
+        ("north 127.0.0.1:1 a.sign --lossy 101\n", "line 1: these are no options of a test"),
+        ("# nobody\n", "names no sign"),
+    ]
+    with tempfile.TemporaryDirectory() as folder:
+        path = pathlib.Path(folder) / "list"
+        for lines, words in table:
+            path.write_text(lines, encoding="utf-8")
+            try:
+                read(path)
+            except Refusal as refused:
+                assert words in str(refused), (lines, refused)
+            else:
+                raise AssertionError(lines)

@@ -1,0 +1,1 @@
+"""Several signs, each tested beside its description in a process of its own."""

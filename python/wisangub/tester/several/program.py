@@ -1,0 +1,142 @@
+"""Several signs in a run: wisangub-conform several LIST --into FOLDER [--jobs N] [OPTION ..]
+
+A line of LIST is a sign: NAME HOST:PORT DESCRIPTION and options of its test alone. All other options hold for all. Each
+sign is tested in a process of its own, so many at a time; its reports are NAME.html, NAME.json, NAME.junit.xml and
+NAME.txt in FOLDER. A line a sign is printed as it ends, and last how many have which verdict. An interrupt ends the
+tests that run, which put their signs back, and begins no other.
+"""
+
+import argparse
+import json
+import pathlib
+import queue
+import signal
+import subprocess
+import sys
+import threading
+from dataclasses import dataclass, field
+from types import FrameType
+
+from wisangub.process.places import add_version, called, environment
+from wisangub.refusal import Refusal, reason
+from wisangub.tester.cli import count
+from wisangub.tester.findings.results import Verdict
+
+from .listed import Listed, read, refused
+
+_WRONG = "not tested"  # what a command that is wrong comes to
+_WORDS = {verdict.status: verdict.value for verdict in Verdict} | {2: _WRONG}
+_ORDER = (1, 3, 2)  # the status of all is the first of these that a sign has, and else 0
+
+
+@dataclass
+class Several:
+    """The tests of a list, and how they ended: the status and the last line of each by its name."""
+
+    folder: pathlib.Path
+    options: list[str]
+    waiting: "queue.SimpleQueue[Listed]" = field(default_factory=queue.SimpleQueue)
+    ended: dict[str, tuple[int, str]] = field(default_factory=dict)
+    running: list["subprocess.Popen[bytes]"] = field(default_factory=list)
+    is_stopped: bool = False
+    _lock: threading.Lock = field(default_factory=threading.Lock)
+
+    def run(self, signs: list[Listed], jobs: int) -> None:
+        """All of them, so many at a time."""
+        for held in signs:
+            self.waiting.put(held)
+        threads = [threading.Thread(target=self._work) for _ in range(jobs)]
+        for thread in threads:
+            thread.start()
+        for thread in threads:
+            thread.join()
+
+    def stop(self) -> None:
+        """The tests that run put their signs back and end; no other begins."""
+        self.is_stopped = True
+        for process in self.running:
+            process.send_signal(signal.SIGTERM)
+
+    def _work(self) -> None:
+        while not self.is_stopped:
+            try:
+                self._test(self.waiting.get_nowait())
+            except queue.Empty:
+                return
+
+    def _test(self, held: Listed) -> None:
+        """A sign's test, and its line."""
+        path = self.folder / f"{held.name}.txt"
+        call = [sys.executable, "-m", "wisangub.tester", *held.call(self.folder, self.options)]
+        with path.open("wb") as out:
+            process = subprocess.Popen(
+                call, env=environment(), stdin=subprocess.DEVNULL, stdout=out, stderr=out, process_group=0
+            )
+            self.running.append(process)
+            if self.is_stopped:
+                process.send_signal(signal.SIGTERM)
+            status = process.wait()
+            self.running.remove(process)
+        said = path.read_text(encoding="utf-8", errors="replace").rstrip().split("\n")[-1]
+        with self._lock:
+            self.ended[held.name] = (status, said)
+            print(f"{held.name} at {held.to}: {said}", flush=True)
+
+
+def _summary(signs: list[Listed], several: Several) -> int:
+    """Prints how many have which verdict, keeps that as JSON, and says the status of all."""
+    statuses = {held.name: several.ended.get(held.name, (3, "not begun"))[0] for held in signs}
+    verdicts = {name: _WORDS.get(status, _WRONG) for name, status in statuses.items()}
+    counts = {word: list(verdicts.values()).count(word) for word in dict.fromkeys([*_WORDS.values()])}
+    print(", ".join(f"{number} {word}" for word, number in counts.items() if number))
+    whole = [
+        {
+            "name": held.name,
+            "to": held.to,
+            "verdict": verdicts[held.name],
+            "words": several.ended.get(held.name, (3, ""))[1],
+        }
+        for held in signs
+    ]
+    (several.folder / "several.json").write_text(json.dumps(whole, indent=1) + "\n", encoding="utf-8")
+    known = [status if status in (0, *_ORDER) else 2 for status in statuses.values()]
+    return next((status for status in _ORDER if status in known), 0)
+
+
+def main() -> int:
+    """The whole command: 1 where a sign differs, else 3 where one is not judged, 2 where one was not tested, or 0."""
+    parser = argparse.ArgumentParser(
+        prog=called("wisangub-conform several"),
+        description="tests the signs of a list, each beside its description",
+        epilog="a line of the list is: NAME HOST:PORT DESCRIPTION [OPTION ..]; other options hold for each sign",
+    )
+    add_version(parser, "wisangub-conform several")
+    parser.add_argument(
+        "list", type=pathlib.Path, help="a line a sign: NAME HOST:PORT DESCRIPTION and options of its test"
+    )
+    parser.add_argument("--into", type=pathlib.Path, required=True, metavar="FOLDER", help="where the reports are put")
+    parser.add_argument("--jobs", type=count, default=8, metavar="N", help="signs at a time, 8 where nothing is said")
+    asked, options = parser.parse_known_args()
+    try:
+        refused(options, parser.prog)
+        signs = read(asked.list)
+        asked.into.mkdir(parents=True, exist_ok=True)
+    except Refusal as fault:
+        print(fault, file=sys.stderr)
+        return 2
+    except OSError as fault:
+        print(reason(fault), file=sys.stderr)
+        return 2
+    several = Several(asked.into, options)
+
+    def stopped(_number: int, _frame: FrameType | None) -> None:
+        several.stop()
+
+    for number in (signal.SIGINT, signal.SIGTERM):
+        signal.signal(number, stopped)
+    several.run(signs, asked.jobs)
+    return _summary(signs, several)
+
+
+if __name__ == "__main__":
+    sys.exit(main())
