@@ -9,10 +9,10 @@ from wisangub.process.places import TOP
 
 PAGES = (TOP / "README.md", TOP / "CONTRIBUTING.md", TOP / "CHANGELOG.md", *sorted((TOP / "docs").glob("*.md")))
 MANUALS = sorted((TOP / "tools/release/man").glob("*.[17]"))
-COMMAND = re.compile(r"(?:bin/)?(wisangub-(?:sign|centre|conform|control))")
+COMMAND = re.compile(r"(?:bin/)?(wisangub-(?:sign|centre|objects|conform|control))")
 PARTS = {  # the subcommands
-    "wisangub-conform": ("centre", "describe", "soak", "vectors"),
-    "wisangub-control": ("users", "demo", "backup", "signs", "command", "worker"),
+    "wisangub-conform": ("centre", "describe", "several", "soak", "vectors"),
+    "wisangub-control": ("users", "tokens", "demo", "backup", "archive", "signs", "command", "worker"),
 }
 
 

@@ -39,7 +39,7 @@ def called(request: pytest.FixtureRequest, tmp_path: pathlib.Path) -> Called:
 def test_each_command_and_subcommand_is_named() -> None:
     found = {(one.command, one.part) for one in named()}
     assert found == {(command, part) for command in COMMANDS for part in ("", *PARTS.get(command, ()))}
-    assert len(COMMANDS) == 4
+    assert len(COMMANDS) == 5
 
 
 def test_help_names_each_option(called: Called) -> None:

@@ -12,7 +12,7 @@ from wisangub import junit
 from wisangub.process.places import TOP
 
 FOLDER = TOP / "vectors"
-NAMES = ("codes", "datagrams", "requests", "scripts", "texts")
+NAMES = ("agents", "codes", "datagrams", "requests", "scripts", "texts")
 
 
 def cases(name: str) -> list[dict[str, Any]]:

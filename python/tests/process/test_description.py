@@ -47,6 +47,15 @@ def test_what_is_no_description_is_refused_by_its_line() -> None:
         assert words in str(read(octets)), octets[-20:]
 
 
+def test_what_nobody_sees_in_a_refused_line_is_named() -> None:
+    mark, tab = b"\xef\xbb\xbf" + BENCH, BENCH.replace(b"size ", b"size\t", 1)
+    line = tab.split(b"\n").index(next(line for line in tab.split(b"\n") if b"\t" in line)) + 1
+    assert "byte order mark" in description.unseen(mark, b"line 1")
+    assert "its octet 5 is a tab" in description.unseen(tab, b"line %d" % line)
+    for text, answer in ((BENCH, b"line 1"), (mark, b"line 2"), (tab, b"memory"), (tab, b"line 999"), (tab, b"line 0")):
+        assert description.unseen(text, answer) == ""
+
+
 def test_a_centre_is_described_with_another_first_number() -> None:
     assert description.first_of(None) == description.first_of(BENCH) == 1
     other = description.with_first(None, 700)

@@ -53,6 +53,13 @@ def test_an_answer_of_many_lines_is_read_whole() -> None:
     process.end()
 
 
+def test_a_bad_line_is_told_by_its_first_two_words() -> None:
+    for answer in ("bad line", "bad line word 2: a number from 0 to 65535 is wanted"):
+        process = CoProcess("/bin/sh", ["-c", f"while read -r line; do echo '{answer}'; done"])
+        assert process.ask(b"blank x") == [answer.encode()]
+        process.end()
+
+
 class Faulty:
     """A socket that tells of faults before it has a datagram."""
 

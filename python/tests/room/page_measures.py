@@ -102,7 +102,7 @@ def main() -> int:
         description=__doc__,
         formatter_class=argparse.RawDescriptionHelpFormatter,
     )
-    parser.add_argument("--signs", type=int, default=200)
+    parser.add_argument("--signs", type=int, default=200, help="how many signs")
     parser.add_argument("--seconds", type=float, default=10.0, help="for each page")
     asked = parser.parse_args()
     start.needed("tests.room.page_measures", "aiohttp", "jinja2")

@@ -60,7 +60,9 @@ def main() -> int:
         description=__doc__,
         formatter_class=argparse.RawDescriptionHelpFormatter,
     )
-    parser.add_argument("--keep", default=str(TOP / "docs/pictures"), metavar="FOLDER")
+    parser.add_argument(
+        "--keep", default=str(TOP / "docs/pictures"), metavar="FOLDER", help="where the pictures are kept"
+    )
     asked = parser.parse_args()
     start.needed("tests.room.pictures", "aiohttp", "jinja2", "selenium", "pytest")
     made = taken(pathlib.Path(asked.keep))

@@ -153,7 +153,7 @@ def main() -> int:
         description=__doc__,
         formatter_class=argparse.RawDescriptionHelpFormatter,
     )
-    parser.add_argument("--signtool", default=str(SIGNTOOL), metavar="PATH")
+    parser.add_argument("--signtool", default=str(SIGNTOOL), metavar="PATH", help="the program")
     program = os.path.abspath(parser.parse_args().signtool)
     python = start.seeing(MODULES)
     if python is None or not os.access(program, os.X_OK):

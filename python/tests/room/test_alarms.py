@@ -105,7 +105,7 @@ def test_an_alarm_is_acknowledged_once(tmp_path: pathlib.Path, where: str) -> No
         (number,) = [int(row[0] or 0) for row in bench.store.database.run("SELECT id FROM alarms WHERE kind = 'other'")]
         assert (await operator.post(f"/alarms/{number}/acknowledge", {}))[::2] == (303, "/alarms")
         assert (await operator.post(f"/alarms/{number}/acknowledge", {}))[0] == 409
-        assert (await operator.post("/alarms/999/acknowledge", {}))[0] == 409
+        assert (await operator.post("/alarms/999/acknowledge", {}))[0] == 404
         rows = bench.store.database.run("SELECT who, what FROM audit ORDER BY id DESC LIMIT 1")
         said = "it shows “FOG”, which 192.0.2.1 activated"
         assert rows == [("operator", f"one: alarm {number} is acknowledged: {said}")]

@@ -1,4 +1,4 @@
-"""A browser before nginx and TLS, as docs/CONTROL.md has it: cookies that go nowhere else, and pages that follow."""
+"""A browser before nginx and TLS, as the example nginx.conf has it: cookies that go nowhere else, pages that follow."""
 
 import contextlib
 import dataclasses

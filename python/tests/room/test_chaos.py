@@ -21,7 +21,7 @@ ROWS: dict[int, Any] = {row: None for row in range(200)}
 def run_of(seed: int) -> Run:
     """What a seed decides before anything has begun."""
     asked = Asked(200, 500, 4, 300.0, seed, 1.0, 8.0, None, "sqlite", "")
-    return Run(asked, ROWS, NOTHING, NOTHING)
+    return Run(asked, ROWS, NOTHING, NOTHING, NOTHING, NOTHING)
 
 
 def test_a_seed_repeats_what_is_asked_for_and_when_trouble_is_due() -> None:

@@ -194,7 +194,7 @@ def test_a_command_that_waits_is_withdrawn(tmp_path: pathlib.Path, where: str) -
         assert (await one.post(f"/commands/{number}/withdraw", {}))[0] == 303
         assert bench.store.commands.how(number) == "withdrawn by operator"
         assert (await one.post(f"/commands/{number}/withdraw", {}))[0] == 409
-        assert (await one.post("/commands/999/withdraw", {}))[0] == 409
+        assert (await one.post("/commands/999/withdraw", {}))[0] == 404
 
     run(tmp_path, where, act)
 

@@ -246,11 +246,7 @@ def test_a_reading_is_a_row_where_it_is_another(where: str) -> None:
         and first.readings.due([sign]) == [(sign, -1)]
         and second.readings.due([sign]) == []
     )
-    assert [store.readings.numbers([sign])[sign] for store in (first, second, first)] == [
-        -BLOCK - 1,
-        -BLOCK - 2,
-        -BLOCK - 3,
-    ]
+    assert [store.readings.numbers([sign])[sign] for store in (first, second, first)] == [-2, -3, -4]
     first.readings.keep([Said(sign, -1, 5, "a")])
     assert first.readings.of(sign) == [(5, "a", None)]
     first.readings.keep([Said(sign, -5, 4, "a"), Said(sign, -4, 3, "a")])

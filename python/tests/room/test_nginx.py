@@ -1,4 +1,4 @@
-"""The pages behind TLS: the example of docs/CONTROL.md, run by nginx."""
+"""The pages behind TLS: the example nginx.conf, run by nginx."""
 
 import contextlib
 import pathlib

@@ -170,7 +170,7 @@ def test_quiet_times(where: str) -> None:
     assert [night.is_now(one) for one in at] == [True, True, False, False, False, True, True]
     assert [day.is_now(one) for one in at] == [not night.is_now(one) for one in at]
     assert Settings((), night).kinds(at[0]) == [] and Settings((), night).kinds(at[3]) == list(alarms.KINDS)
-    assert Settings((), day).kinds(at[3]) == ["silent", "error", "other"]
+    assert Settings((), day).kinds(at[3]) == ["silent", "error", "other", "device"]
     store, _, sign = two_stores(where)
     store.readings.keep([Said(sign, -1, fault="no reply")])
     store.alarms.look()

@@ -47,6 +47,7 @@ PAGES = {
     "/groups/2": Role.ADMINISTRATOR,
     "/rules": Role.ADMINISTRATOR,
     "/audit": Role.ADMINISTRATOR,
+    "/archives": Role.ADMINISTRATOR,
 }
 POSTS = {
     "/send": Role.OPERATOR,
@@ -80,6 +81,7 @@ def filled(bench: Bench) -> None:
         bench.read(row, text=MARKUP.encode().hex(), owner=MARKUP.encode().hex())
     bench.silent(bench.gantry)
     bench.table(bench.one)
+    bench.itself(bench.one, sysName=MARKUP.encode().hex(), moduleMake=MARKUP.encode().hex())
     head = f"journal 1 centre rules 1 description {bench.service.signs[bench.one].digest} first 1"
     line = f"publish 3 1 {MARKUP.encode().hex()} {b'me'.hex()} 0 0 100 65535 255 192.0.2.1"
     command = bench.store.commands.ask(bench.one, "operator", line)
@@ -146,6 +148,7 @@ def test_every_page_for_every_role(tmp_path: pathlib.Path, where: str) -> None:
 def test_the_routes_are_those_that_are_tried() -> None:
     tried = {re.sub(r"\?.*", "", re.sub(r"\{\w+\}|\d+", "*", path)) for path in [*PAGES, *POSTS]}
     others = {"/login", "/logout", "/events", "/pictures/*/*.svg", "/signs/*/table", "/logins/*/end", "/account/factor"}
+    others |= {"/account/tokens", "/health", "/metrics", "/archives/*", "/history.csv", "/audit.csv"}
     found = {re.sub(r"\{\w+(:(?:[^{}]|\{[^{}]*\})*)?\}", "*", route.path) for route in ROUTES}
     assert found - others <= tried, found - others - tried
 

@@ -48,8 +48,8 @@ def test_a_user_of_before_may_what_he_might(where: str) -> None:
     assert levels == {Role.READER: 1, Role.OPERATOR: 3, Role.ADMINISTRATOR: 3}
     assert rights.of_user(store.database, "nobody") == Rights()
     store.commands.ask_all([(sign, BLANK)], "operator", "what", "x")
-    for name in ("reader", "nobody"):
-        with pytest.raises(Refusal, match=f"one: {name} may not command it"):
+    for name, of in (("reader", "one"), ("nobody", "a sign")):
+        with pytest.raises(Refusal, match=f"^{of}: {name} may not command it"):
             store.commands.ask_all([(sign, BLANK)], name, "what", "y")
 
 
@@ -137,10 +137,10 @@ def test_withdrawing_and_acknowledging(where: str) -> None:
     command = store.commands.ask(sign, "me", BLANK)
     store.database.run("INSERT INTO alarms (sign, kind, what, begun) VALUES (?, 'silent', 'x', 1)", sign)
     (number,) = [int(row[0] or 0) for row in store.database.run("SELECT id FROM alarms")]
-    for name in ("other", "nobody"):
-        with pytest.raises(Refusal, match=f"one: {name} may not do this"):
+    for name, of in (("other", "one"), ("nobody", "a sign")):
+        with pytest.raises(Refusal, match=f"^{of}: {name} may not do this"):
             store.commands.withdraw(command, name)
-        with pytest.raises(Refusal, match=f"one: {name} may not do this"):
+        with pytest.raises(Refusal, match=f"^{of}: {name} may not do this"):
             alarms.see(store.database, number, name)
     assert store.commands.withdraw(command, "me") and alarms.see(store.database, number, "me")
 
@@ -209,10 +209,19 @@ def test_a_sign_that_is_not_one_s_own_is_nowhere(tmp_path: pathlib.Path, where: 
             "/look", json={"signs": [bench.gantry], "text": "A"}, headers={"X-Token": await one.token()}
         )
         assert (await answer.json())["looks"] == []
-        assert (await one.post("/commands/1/withdraw", {}))[0] == 403
+        assert (await one.post("/send", confirmed))[0] == 422
+        asked = [f"/alarms/{row[0]}/acknowledge" for row in alarm_rows(bench, bench.gantry)]
+        assert asked
+        for path in ("/commands/1/withdraw", *asked):
+            status, page, _ = await one.post(path, {})
+            assert status == 404 and "gantry" not in page and "GANTRY" not in page, path
         assert (await boss.get("/"))[1].count('<li class="card') == 3, "an administrator sees all"
 
     run(tmp_path, where, act)
+
+
+def alarm_rows(bench: Bench, sign: int) -> list[tuple[object, ...]]:
+    return [tuple(row) for row in bench.store.database.run("SELECT id FROM alarms WHERE sign = ?", sign)]
 
 
 def test_no_button_without_a_right(tmp_path: pathlib.Path) -> None:

@@ -1,4 +1,4 @@
-"""The roles of PostgreSQL that docs/CONTROL.md has: a service works, and changes neither audit nor journals."""
+"""The roles of PostgreSQL of the example roles.sql: a service works, and changes neither audit nor journals."""
 
 import pathlib
 import re
@@ -39,10 +39,9 @@ DENIED = (
 
 
 def recipe() -> list[str]:
-    """The statements of the page, for the roles of the test."""
-    found = re.search(r"```sql\n(.*?)```", (TOP / "docs/CONTROL.md").read_text(), re.DOTALL)
-    assert found is not None
-    text = re.sub(r"\bcontrol\b", SERVICE, found[1].replace("control_owner", OWNER))
+    """The statements of the example, for the roles of the test."""
+    lines = (TOP / "python/wisangub/room/examples/roles.sql").read_text(encoding="utf-8").splitlines(keepends=True)
+    text = re.sub(r"\bcontrol\b", SERVICE, "".join(line for line in lines if not line.startswith("--")))
     return [one.strip() for one in text.split(";\n") if one.strip()]
 
 

@@ -1,5 +1,6 @@
 """A worker over a sign on loopback: commands, workers that end at any line, and lines that grew long."""
 
+import dataclasses
 import os
 import pathlib
 import re
@@ -187,12 +188,9 @@ def test_of_two_that_think_they_drive_a_sign_one_goes_on(tmp_path: pathlib.Path,
         assert at.store.commands.how(command) == "accepted" and len(set(at.live.accepted)) == 1
 
 
-def test_a_new_centre_where_lines_grew_long(
-    tmp_path: pathlib.Path, where: str, monkeypatch: pytest.MonkeyPatch
-) -> None:
-    monkeypatch.setattr(session, "MOST_LINES", 3)
+def test_a_new_centre_where_lines_grew_long(tmp_path: pathlib.Path, where: str) -> None:
     with bench(tmp_path, where) as at:
-        worker = at.worker()
+        worker = at.worker(dataclasses.replace(PACE, lines=3))
         for _ in range(3):
             assert at.ended(worker, at.ask(HELLO)) == "accepted"
         rows = at.store.database.run("SELECT line FROM lines WHERE line LIKE 'journal %' ORDER BY number")

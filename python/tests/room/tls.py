@@ -1,19 +1,17 @@
-"""nginx as the example of docs/CONTROL.md has it, before a service, with a certificate of its own made by openssl."""
+"""nginx as the example nginx.conf has it, before a service, with a certificate of its own made by openssl."""
 
 import base64
 import contextlib
 import hashlib
 import os
 import pathlib
-import re
 import subprocess
 from typing import Iterator
 
 from trials.room.ports import free_port, until_answers
 from wisangub.process.places import TOP
 
-PAGE = TOP / "docs/CONTROL.md"
-EXAMPLE = re.compile(r"```nginx\n(.*?)```", re.DOTALL)
+EXAMPLE = TOP / "python/wisangub/room/examples/nginx.conf"
 NAME = "control.example.org"
 TEMPORARY = ("client_body", "proxy", "fastcgi", "uwsgi", "scgi")
 
@@ -57,9 +55,7 @@ def words_of_browser(folder: pathlib.Path) -> tuple[str, ...]:
 
 def example(folder: pathlib.Path, port: int, service: int) -> str:
     """The example's words with other ports and places, each of which stands in it once."""
-    found = EXAMPLE.search(PAGE.read_text(encoding="utf-8"))
-    assert found is not None
-    text = found[1]
+    text = EXAMPLE.read_text(encoding="utf-8")
     for old, new in (
         ("listen 443 ", f"listen 127.0.0.1:{port} "),
         (f"/etc/ssl/{NAME}.pem", f"{folder}/certificate.pem"),

@@ -14,7 +14,9 @@ from aiohttp.test_utils import TestClient, TestServer
 
 from wisangub.process.places import SIGNTOOL, TOP
 from wisangub.room import fleet
+from wisangub.room.device import ERRORS, LASTING, MEASURED
 from wisangub.room.store import database, passwords, users
+from wisangub.room.store.devices import DeviceSaid
 from wisangub.room.store.messages import RowSaid
 from wisangub.room.store.readings import Said
 from wisangub.room.store.store import Store
@@ -36,6 +38,28 @@ SHOWN = {
     "pixel": 0,
     "priority": 100,
 }
+ITSELF: dict[str, int | str] = {
+    "sysName": b"roadside".hex(),
+    "sysDescr": b"a message sign".hex(),
+    "moduleMake": b"Example Signs".hex(),
+    "moduleModel": b"RS 96".hex(),
+    "moduleVersion": b"1.0".hex(),
+    "dmsSignWidth": 1920,
+    "dmsSignHeight": 540,
+    "dmsIllumControl": 6,
+    "dmsIllumNumBrightLevels": 8,
+    "dmsIllumManLevel": 8,
+    "dmsStatDoorOpen": 5,
+    "shortErrorStatus": 36,
+    "dmsIllumBrightLevelStatus": 6,
+    "dmsIllumLightOutputStatus": 49151,
+    "tempMinCtrlCabinet": 20,
+    "tempMaxCtrlCabinet": 31,
+    "tempMinAmbient": -4,
+    "tempMaxAmbient": -4,
+    "tempMinSignHousing": 7,
+    "tempMaxSignHousing": 8,
+}  # what a sign says of itself
 NAMES = ("one", "<b>two</b>", "gantry")
 TOKEN = re.compile(r'name="token" value="([0-9a-f]{64})"')
 
@@ -124,6 +148,15 @@ class Bench:
             "priority": priority,
         }
         self.store.messages.keep([RowSaid(row, 3, number, reading, 4, json.dumps(held))])
+
+    def itself(self, row: int, number: int = -11, **changed: int | str | None) -> None:
+        """A sign says of itself what ITSELF has, but for what is changed, or left out."""
+        every: dict[str, int | str | None] = {**ITSELF, **changed}
+        values = {name: value for name, value in every.items() if value is not None}
+        lasting, measured = ({name: values[name] for name in names if name in values} for names in (LASTING, MEASURED))
+        errors = values.get(ERRORS, 0)
+        assert isinstance(errors, int)
+        self.store.devices.keep([DeviceSaid(row, number, lasting, measured, errors, frozenset(), True)])
 
     @contextlib.asynccontextmanager
     async def standing(self) -> AsyncIterator[Visitors]:

@@ -7,9 +7,12 @@ from typing import Iterable, NoReturn, Sequence
 
 from wisangub.refusal import Refusal, reason
 
+from .description import unseen
+
 _WAIT = 10  # milliseconds, after which answers are read though the process takes nothing
 PATIENCE = 60_000  # milliseconds that a program may take to its first answer
-_ENDS = (b"ok", b"dropped", b"bad line")
+_ENDS = (b"ok", b"dropped")
+_BAD_LINE = [b"bad", b"line"]  # and behind it perhaps why
 _ENDING_WORDS = (b"reply", b"accepted", b"send", b"refused")
 _FIRST_WORDS = (b"shown", b"idle", b"busy")  # of what is asked first
 _HOW = " (tools/build.py builds the program; --signtool model/signtool is the model in its place)"
@@ -18,7 +21,8 @@ REFUSED = (b"read", b"too long", b"memory")  # what stands in place of a descrip
 
 def _is_last(answer: bytes) -> bool:
     """Whether a line is the last one of an answer."""
-    return answer in _ENDS or answer.split(b" ")[0] in _ENDING_WORDS
+    words = answer.split(b" ", 2)
+    return answer in _ENDS or words[0] in _ENDING_WORDS or words[:2] == _BAD_LINE
 
 
 class CoProcess:
@@ -126,7 +130,8 @@ class CoProcess:
             raise Refusal(f"{name}: {refused}") from refused
         if answer.startswith(b"line ") or answer in REFUSED:
             self.end()  # what it says of the line comes first
-            raise Refusal(f"{name}: {answer.decode()}: no description of a sign")
+            more = unseen(self.description, answer)
+            raise Refusal(f"{name}: {answer.decode()}: no description of a sign{more}")
         if answer.split(b" ")[0] not in _FIRST_WORDS:
             self.process.kill()
             raise Refusal(f"{self.program} does not answer as signtool does")

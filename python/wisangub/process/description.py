@@ -31,6 +31,18 @@ def read(path: str | None) -> bytes | None:
     return text[: ended.end()].rstrip(b"\r\n") + b"\n"
 
 
+def unseen(text: bytes, answer: bytes) -> str:
+    """What nobody sees in the line of a description that an answer `line N` refuses: words to put after it."""
+    found = re.fullmatch(rb"line ([0-9]+)", answer)
+    lines = text.split(b"\n")
+    if found is None or not 1 <= int(found[1]) <= len(lines):
+        return ""
+    line = lines[int(found[1]) - 1]
+    if line.startswith(b"\xef\xbb\xbf"):
+        return "; it begins with a byte order mark, the octets EF BB BF"
+    return f"; its octet {line.index(9) + 1} is a tab, and words have a space between them" if 9 in line else ""
+
+
 def digest(text: bytes | None) -> str:
     """The SHA-256 of a description; the bench sign has the word `bench`."""
     return "bench" if text is None else hashlib.sha256(text).hexdigest()

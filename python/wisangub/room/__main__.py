@@ -8,8 +8,10 @@ PARTS = {
     "worker": "wisangub.room.worker.program",
     "command": "wisangub.room.command",
     "users": "wisangub.room.users",
+    "tokens": "wisangub.room.tokens",
     "signs": "wisangub.room.signs",
     "backup": "wisangub.room.store.backup",
+    "archive": "wisangub.room.archive",
     "demo": "wisangub.room.demo",
 }
 

@@ -63,8 +63,8 @@ def main() -> int:
     parser.add_argument(
         "--wait", type=options.seconds, default=120.0, metavar="SECONDS", help="how long its end is waited for"
     )
-    parser.add_argument("sign", metavar="SIGN")
-    parser.add_argument("line", metavar="LINE")
+    parser.add_argument("sign", metavar="SIGN", help="the sign's name in the fleet")
+    parser.add_argument("line", metavar="LINE", help="a line of a live centre, or publish-text ..")
     asked = parser.parse_args()
     options.need("wisangub.room.command", asked.database)
     line = _line_of(asked.line)

@@ -84,9 +84,13 @@ def _enter(where: str) -> None:
 
 def main() -> int:
     parser = options.command_options(__doc__, "wisangub-control demo")
-    parser.add_argument("--listen", default=LISTEN, metavar="HOST:PORT")
-    parser.add_argument("--fleet", type=pathlib.Path, default=_FLEET, metavar="FILE")
-    parser.add_argument("--signtool", default=str(SIGNTOOL), metavar="PATH")
+    parser.add_argument("--listen", default=LISTEN, metavar="HOST:PORT", help="where the pages are")
+    parser.add_argument(
+        "--fleet", type=pathlib.Path, default=_FLEET, metavar="FILE", help="the signs that it begins and drives"
+    )
+    parser.add_argument(
+        "--signtool", default=str(SIGNTOOL), metavar="PATH", help="the program that the signs and their centres are"
+    )
     asked = parser.parse_args()
     start.needed("wisangub.room.demo", "aiohttp", "jinja2")
     signal.signal(signal.SIGTERM, signal.default_int_handler)

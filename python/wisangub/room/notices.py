@@ -14,7 +14,7 @@
     [quiet]
     from = "22:00"                               # by the clock of the machine
     until = "06:00"
-    kinds = ["failed"]                           # else all: silent, error, other, failed
+    kinds = ["failed"]                           # else all: silent, error, other, failed, device
 """
 
 import contextlib

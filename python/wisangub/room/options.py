@@ -4,7 +4,7 @@ import argparse
 import contextlib
 from typing import Iterator
 
-from wisangub.process.places import SIGNTOOL, called
+from wisangub.process.places import SIGNTOOL, add_version, called
 from wisangub.refusal import Refusal
 
 from . import start
@@ -16,10 +16,12 @@ _CREATE = "make the database, where there is none: without it another name is no
 
 
 def command_options(words: str | None, command: str) -> argparse.ArgumentParser:
-    """The options of a command, none yet, and its help: the words of its module."""
-    return argparse.ArgumentParser(
+    """The options of a command, --version alone yet, and its help: the words of its module."""
+    parser = argparse.ArgumentParser(
         prog=called(command), description=words, formatter_class=argparse.RawDescriptionHelpFormatter
     )
+    add_version(parser, command)
+    return parser
 
 
 def add_database(parser: argparse.ArgumentParser, default: str | None = None, may_create: bool = False) -> None:
@@ -32,7 +34,12 @@ def add_database(parser: argparse.ArgumentParser, default: str | None = None, ma
 def add_fleet(parser: argparse.ArgumentParser) -> None:
     """--fleet, --signtool and --alarms."""
     parser.add_argument("--fleet", required=True, metavar="FILE", help="the signs, as in signs/fleet.toml")
-    parser.add_argument("--signtool", default=str(SIGNTOOL), metavar="PATH")
+    parser.add_argument(
+        "--signtool",
+        default=str(SIGNTOOL),
+        metavar="PATH",
+        help="the program that the centres are and that draws pictures",
+    )
     parser.add_argument("--alarms", metavar="FILE", help="who is told of alarms, by mail and webhooks")
 
 

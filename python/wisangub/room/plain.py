@@ -1,4 +1,4 @@
-"""A text of MULTI as plain words: for who sees no picture, and for words that may not be shown."""
+"""A text of MULTI as plain words: for who sees no picture, and for words that may not be shown. And counts in words."""
 
 import re
 from typing import Iterator, Sequence
@@ -6,6 +6,11 @@ from typing import Iterator, Sequence
 # a bracket that is shown, a tag, or another character
 _PIECE = re.compile(rb"(\[\[|\]\]|[^\[\]])|\[([^\]]*)\]", re.DOTALL)
 _BREAKS = {b"nl": " / ", b"np": " // "}
+
+
+def counted(number: int, what: str) -> str:
+    """So many of something."""
+    return f"{number} {what}{'s' * (number != 1)}"
 
 
 def _tag_of(body: bytes) -> str:

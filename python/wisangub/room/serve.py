@@ -2,17 +2,19 @@
 
     [--database room.sqlite | postgresql://USER@HOST/NAME] [--create] [--listen 127.0.0.1:8080] [--behind-tls]
     [--plain-http] [--idle MINUTES] [--zone NAME] [--access-log FILE]
-    [--no-worker]
+    [--archives FOLDER] [--no-worker]
 
 It ends at an interrupt or a SIGTERM. The first user is made by `wisangub-control users --database .. --create add NAME
-administrator`, and the database with it. Further workers may stand beside it: wisangub-control worker.
+administrator`, and the database with it. Further workers may stand beside it: wisangub-control worker. To look at it
+first: wisangub-control demo, with three signs on this machine. Beside these there are wisangub-control command, tokens,
+signs, backup and archive; each has --help.
 """
 
 import argparse
 import sys
 
 from wisangub.endpoint.sockets import Waiting, host_and_port
-from wisangub.process.places import add_version, called
+from wisangub.process.places import called
 from wisangub.refusal import Refusal, status_of
 from wisangub.room.output import print_line
 
@@ -28,7 +30,6 @@ LISTEN = "127.0.0.1:8080"
 
 def arguments() -> argparse.ArgumentParser:
     parser = options.command_options(__doc__, "wisangub-control")
-    add_version(parser, "wisangub-control")
     options.add_fleet(parser)
     options.add_database(parser, "room.sqlite", may_create=True)
     parser.add_argument("--listen", default=LISTEN, metavar="HOST:PORT", help=f"where the pages are; else {LISTEN}")
@@ -49,6 +50,7 @@ def arguments() -> argparse.ArgumentParser:
     )
     parser.add_argument("--zone", metavar="NAME", help="the zone that times are shown in; else the machine's")
     parser.add_argument("--access-log", metavar="FILE", help="a line of JSON for each request is appended to it")
+    parser.add_argument("--archives", metavar="FOLDER", help="of archives that administrators see on pages")
     parser.add_argument("--no-worker", action="store_true", help="pages alone; workers are other processes")
     parser.add_argument("--beside", type=int, help=argparse.SUPPRESS)  # a socket to the worker that began the pages
     return parser
@@ -82,6 +84,7 @@ def _pages(asked: argparse.Namespace, signs: list[Sign], waiting: Waiting) -> in
         zone_of(asked.zone),
         idle=60 * asked.idle,
         access_log=asked.access_log,
+        archives=asked.archives,
     )
     pages = Pages(settings, signs, *host_and_port(asked.listen))
     worker = None if asked.beside is None else beside.Other.of(asked.beside)

@@ -25,8 +25,8 @@ def _arguments() -> argparse.ArgumentParser:
     calls = parser.add_subparsers(dest="call", required=True, metavar="CALL")
     calls.add_parser("list")
     call = calls.add_parser("rename")
-    call.add_argument("old", metavar="OLD")
-    call.add_argument("new", metavar="NEW")
+    call.add_argument("old", metavar="OLD", help="the name that the database has")
+    call.add_argument("new", metavar="NEW", help="the name that the fleet has")
     return parser
 
 

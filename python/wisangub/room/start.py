@@ -17,6 +17,8 @@ PACKAGES = {
     "psycopg": "python3-psycopg",
     "aiohttp": "python3-aiohttp",
     "jinja2": "python3-jinja2",
+    "prometheus_client": "python3-prometheus-client",
+    "jsonschema": "python3-jsonschema",
     "pytest": "python3-pytest",
     "selenium": "python3-selenium",
 }
@@ -37,8 +39,12 @@ def pythons() -> list[str]:
 
 
 def _sees(python: str, modules: tuple[str, ...]) -> bool:
-    """Whether this Python is 3.11 or newer and sees them all."""
-    asked = f"import sys, {', '.join(modules)}; sys.exit(sys.version_info < (3, 11))"
+    """Whether this Python is 3.11 or newer and sees them all. It looks for them and imports none: that takes a busy
+    machine longer than one waits."""
+    asked = (
+        "import sys; from importlib.util import find_spec; "
+        f"sys.exit(sys.version_info < (3, 11) or None in map(find_spec, {modules!r}))"
+    )
     try:
         return (
             subprocess.run(
@@ -46,7 +52,7 @@ def _sees(python: str, modules: tuple[str, ...]) -> bool:
                 stdin=subprocess.DEVNULL,
                 stdout=subprocess.DEVNULL,
                 stderr=subprocess.DEVNULL,
-                timeout=20,
+                timeout=60,
             ).returncode
             == 0
         )

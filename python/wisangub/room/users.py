@@ -49,9 +49,9 @@ def _arguments() -> argparse.ArgumentParser:
     ):
         call = calls.add_parser(name)
         if wanted:
-            call.add_argument("name", metavar="NAME")
+            call.add_argument("name", metavar="NAME", help="the user's name")
         if wanted == 2:
-            call.add_argument("role", metavar="ROLE")
+            call.add_argument("role", metavar="ROLE", help="reader, operator or administrator")
     return parser
 
 

@@ -1,13 +1,14 @@
-"""Names and words of objects, as mibs/DMS-PROFILE-MIB has them."""
+"""Names and words of objects, as mibs/ has them: those of a sign, and those that stand beside a sign's."""
 
 import re
 
 from wisangub.process.places import TOP
 
 FILE = TOP / "mibs/DMS-PROFILE-MIB"
-_ENTERPRISES = (1, 3, 6, 1, 4, 1)
+BESIDE = (TOP / "mibs/RFC1213-MIB", TOP / "mibs/DMS-DEVICE-MIB")
+_ROOTS = {"enterprises": (1, 3, 6, 1, 4, 1), "mgmt": (1, 3, 6, 1, 2)}
 _PLACE = re.compile(
-    r"^(\w+)\s+(?:OBJECT IDENTIFIER|OBJECT-TYPE(.*?))\s*::= \{ (\w+) (\d+) \}", re.MULTILINE | re.DOTALL
+    r"^([\w-]+)\s+(?:OBJECT IDENTIFIER|OBJECT-TYPE(.*?))\s*::= \{ ([\w-]+) (\d+) \}", re.MULTILINE | re.DOTALL
 )
 _CHOICES = re.compile(r"SYNTAX\s+INTEGER \{(.*?)\}", re.DOTALL)
 
@@ -18,7 +19,7 @@ class Mib:
     def __init__(self, text: str) -> None:
         self.objects: dict[tuple[int, ...], str] = {}
         self.words: dict[str, dict[int, str]] = {}
-        places: dict[str, tuple[int, ...]] = {"enterprises": _ENTERPRISES}
+        places: dict[str, tuple[int, ...]] = {**_ROOTS}
         for name, syntax, above, number in _PLACE.findall(text):
             if above in places:
                 places[name] = (*places[above], int(number))
@@ -30,9 +31,9 @@ class Mib:
 
     @staticmethod
     def read() -> "Mib":
-        """The file's, or none where it is not here."""
+        """Those of the files, or none where they are not here."""
         try:
-            return Mib(FILE.read_text(encoding="utf-8"))
+            return Mib("\n".join(path.read_text(encoding="utf-8") for path in (FILE, *BESIDE)))
         except OSError:
             return Mib("")
 

@@ -1,18 +1,18 @@
-"""The table of alarms: what is wrong with a sign, as its readings, its table and its commands say."""
+"""The table of alarms: what is wrong with a sign, as its readings, its table, its commands and it itself say."""
 
 from dataclasses import dataclass
 from typing import Sequence
 
+from wisangub.room.device import errors
 from wisangub.snmp.names import RowStatus
 
-from . import queries, rights
+from . import devices, queries, rights
 from .audit import note
 from .connection import Database, Row
 from .queries import Shown, SignView
 from .values import places, text_or_none, texts, time_of, time_or_none, whole
 
-SILENT, ERROR, OTHER, FAILED = "silent", "error", "other", "failed"
-KINDS = (SILENT, ERROR, OTHER, FAILED)
+SILENT, ERROR, OTHER, FAILED, DEVICE = KINDS = ("silent", "error", "other", "failed", "device")
 TRIES, AGAIN = 6, 60.0  # how often it is tried to tell somebody, and seconds to the second time; then longer
 _MOST_TOLD = 50  # alarms of one message
 EVERY = 5.0  # seconds from one look for alarms to the next, of all workers together
@@ -70,6 +70,12 @@ def listed(database: Database, sign: int | None = None, most: int = 200) -> list
 def signs_with(database: Database, kind: str) -> set[int]:
     """The signs of which an alarm of this kind stands."""
     return {whole(row[0]) for row in database.run("SELECT sign FROM alarms WHERE kind = ? AND ended IS NULL", kind)}
+
+
+def sign_of(database: Database, number: int) -> int | None:
+    """The sign of an alarm."""
+    rows = database.run("SELECT sign FROM alarms WHERE id = ?", number)
+    return whole(rows[0][0]) if rows else None
 
 
 def see(database: Database, number: int, who: str) -> bool:
@@ -171,6 +177,8 @@ class Alarms:
         )
         for sign_id, command, outcome in rows:
             found[whole(sign_id), FAILED] = f"command {command} {outcome}"
+        for sign_id, status in devices.with_errors(self.database).items():
+            found[sign_id, DEVICE] = f"it says that something is wrong with it: {', '.join(errors(status))}"
         return found
 
     def _other(self, sign: SignView) -> str | None:

@@ -182,7 +182,11 @@ def _advanced(where: str, who: str, first: int | None) -> str:
 
 def _arguments() -> argparse.ArgumentParser:
     parser = options.command_options(__doc__, "wisangub-control backup")
-    parser.add_argument("what", choices=("copy", "restore", "advance"))
+    parser.add_argument(
+        "what",
+        choices=("copy", "restore", "advance"),
+        help="make a copy, restore one, or advance the numbers of a database that came back otherwise",
+    )
     options.add_database(parser)
     parser.add_argument("--to", type=pathlib.Path, metavar="FILE", help="where the copy goes")
     parser.add_argument("--from", type=pathlib.Path, metavar="FILE", dest="source", help="the copy")

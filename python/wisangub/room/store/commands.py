@@ -3,6 +3,8 @@
 from dataclasses import dataclass
 from typing import Sequence
 
+from wisangub.room.plain import counted
+
 from . import rights, rules
 from .audit import note
 from .connection import Database, Taken
@@ -30,14 +32,19 @@ class Commands:
         with self.database.transaction():
             return self._put(sign, who, line, rules.words(self.database))
 
-    def ask_all(self, lines: Sequence[tuple[int, str]], who: str, what: str, confirmation: str) -> int:
+    def ask_all(
+        self, lines: Sequence[tuple[int, str]], who: str, what: str, confirmation: str, through: str = ""
+    ) -> int:
         """A command for each of these signs, or for none: the number of what was asked, which `what` says in words. A
-        confirmation counts once: where it is there already, what was asked with it then. Refused as in `ask`, and where
-        the user may not give one of them."""
+        confirmation counts once: where it is there already, what was asked with it then. `through` is what another
+        system asked through, for the audit. Refused as in `ask`, and where the user may not give one of them."""
         try:
             with self.database.transaction():
                 rights.check(self.database, who, lines)
-                return self.put_all(lines, who, what, confirmation)
+                batch = self.put_all(lines, who, what, confirmation)
+                if through:
+                    note(self.database, who, f"{what} on {counted(len(lines), 'sign')} was asked for through {through}")
+                return batch
         except Taken:
             rows = self._run("SELECT id FROM batches WHERE confirmation = ? AND who = ?", confirmation, who)
             if not rows:

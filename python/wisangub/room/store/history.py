@@ -1,12 +1,13 @@
 """What the pages ask the database for: what was asked together, the ledger, earlier readings, the audit."""
 
-from dataclasses import dataclass, field
+from dataclasses import dataclass, field, replace
 
-from .database import Database
-from .queries import COMMANDS, CommandView, Shown, command_view
-from .values import text_or_none, time_of, whole
+from .database import Database, Value
+from .queries import COMMANDS, CommandView, Shown, command_view, least, where_of, within
+from .values import text_or_none, texts, time_of, whole
 
 Line = tuple[int, str, float]  # of a centre: its number, what it says, and when it was handed over
+Entry = tuple[int, float, str, str]  # of the audit: number, time, who, what
 
 
 @dataclass(frozen=True)
@@ -34,15 +35,44 @@ def batch(database: Database, number: int) -> Batch | None:
 
 def people(database: Database) -> list[str]:
     """Those who ever asked for something."""
-    return [str(row[0]) for row in database.run("SELECT DISTINCT who FROM commands ORDER BY who")]
+    return each_one(database, "commands")
 
 
-def ledger(database: Database, number: int, most: int = 200) -> list[tuple[int, str, str, float]]:
-    """The newest entries: the request's number, the code, the outcome, and when it was noted."""
+def each_one(database: Database, table: str) -> list[str]:
+    """Who stands in a table: one after the other by the index, since each may stand there often."""
     rows = database.run(
-        "SELECT number, code, outcome, at FROM ledger WHERE sign = ? ORDER BY number DESC LIMIT ?", number, most
+        f"WITH RECURSIVE each_one (who) AS (SELECT min(who) FROM {table} UNION ALL"
+        f" SELECT (SELECT min(who) FROM {table} WHERE {table}.who > each_one.who) FROM each_one"
+        " WHERE each_one.who IS NOT NULL) SELECT who FROM each_one WHERE who IS NOT NULL"
     )
-    return [(whole(row[0]), str(row[1]), str(row[2]), time_of(row[3])) for row in rows]
+    return texts(rows)
+
+
+@dataclass(frozen=True)
+class Activation:
+    """An entry of the ledger: the request's number, the code, the outcome, and when it was noted; who asked for it and
+    with which line, as far as that is known."""
+
+    number: int
+    code: str
+    outcome: str
+    at: float
+    who: str | None = None
+    line: str | None = None
+
+
+def ledger(database: Database, number: int, most: int = 200) -> list[Activation]:
+    """The newest entries."""
+    rows = database.run(
+        "SELECT ledger.number, ledger.code, ledger.outcome, ledger.at, commands.who, commands.line FROM ledger"
+        " LEFT JOIN commands ON commands.id = ledger.command WHERE ledger.sign = ? ORDER BY ledger.number DESC LIMIT ?",
+        number,
+        most,
+    )
+    return [
+        Activation(whole(row[0]), str(row[1]), str(row[2]), time_of(row[3]), text_or_none(row[4]), text_or_none(row[5]))
+        for row in rows
+    ]
 
 
 @dataclass(frozen=True)
@@ -71,11 +101,44 @@ def readings(database: Database, number: int, most: int = 100) -> list[ReadingVi
     ]
 
 
-def audit(database: Database, before: int | None, most: int = 100) -> list[tuple[int, float, str, str]]:
-    """The newest lines: number, time, who, what."""
-    where, values = ("", []) if before is None else (" WHERE id < ?", [before])
-    rows = database.run(f"SELECT id, at, who, what FROM audit{where} ORDER BY id DESC LIMIT ?", *values, most)
+@dataclass(frozen=True)
+class AuditWanted:
+    """Which lines of the audit are looked for, the newest first: of whom, from when until when, below which number."""
+
+    who: str = ""
+    since: float | None = None
+    until: float | None = None
+    before: int | None = None
+    most: int = 100
+    first: int | None = None
+
+    def where(self) -> tuple[str, list[Value]]:
+        return where_of(
+            ("who = ?", self.who or None),
+            ("at + 0 >= ?", self.since),
+            ("at + 0 < ?", self.until),
+            ("id < ?", self.before),
+            ("id >= ?", self.first),
+        )
+
+
+def audited(database: Database, wanted: AuditWanted) -> list[Entry]:
+    """Lines of the audit."""
+    first, last = within(database, "audit", "at", wanted.since, wanted.until)
+    wanted = replace(wanted, first=first, before=least(wanted.before, last))
+    where, values = wanted.where()
+    rows = database.run(f"SELECT id, at, who, what FROM audit{where} ORDER BY id DESC LIMIT ?", *values, wanted.most)
     return [(whole(row[0]), time_of(row[1]), str(row[2]), str(row[3])) for row in rows]
+
+
+def audit(database: Database, before: int | None, most: int = 100) -> list[Entry]:
+    """The newest lines."""
+    return audited(database, AuditWanted(before=before, most=most))
+
+
+def audit_people(database: Database) -> list[str]:
+    """Those of whom the audit has a line."""
+    return each_one(database, "audit")
 
 
 def centre_lines(database: Database, number: int, before: int | None) -> list[Line]:

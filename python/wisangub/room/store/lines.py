@@ -11,6 +11,13 @@ from wisangub.endpoint.records import Head
 from .connection import Database, Taken, Value
 from .values import CLOCK, places, whole
 
+# The number of a line that is in an archive is taken, though the line stands here no more: the same once more is
+# refused by the key. It comes after the line's own statement, and so sees what was taken out as that one waited.
+_NOT_ARCHIVED = (
+    "INSERT INTO lines (sign, number, line, worker, at)"
+    " SELECT id, CAST(? AS BIGINT), '', '', 0 FROM signs WHERE id = ? AND archived >= ?"
+)
+
 
 @dataclass(frozen=True)
 class Line:
@@ -35,10 +42,12 @@ class Journal(NamedTuple):
 
 @dataclass
 class News:
-    """What came of a line: the ledger's lines that are new, and how the sign's command ended, in words."""
+    """What came of a line: the ledger's lines that are new, of the command `of`, and how the sign's command ended, in
+    words."""
 
     sign: int
     ledger: list[str] = field(default_factory=list)
+    of: int | None = None
     command: int | None = None
     how: str | None = None
 
@@ -115,6 +124,7 @@ class Lines:
                 f"INSERT INTO lines (sign, number, line, worker, at) VALUES (?, ?, ?, ?, {CLOCK})",
                 [(line.sign, line.number, line.text.decode(), worker) for line in lines],
             )
+            run_all(_NOT_ARCHIVED, [(line.number, line.sign, line.number) for line in lines])
             run_all(
                 "UPDATE signs SET centre = ? WHERE id = ?",
                 [(line.number, line.sign) for line in lines if line.is_first],
@@ -132,6 +142,7 @@ class Lines:
                     line.text.decode(),
                     worker,
                 )
+                self._run(_NOT_ARCHIVED, line.number, line.sign, line.number)
                 self._run("UPDATE signs SET centre = ? WHERE id = ?", line.number, line.sign)
                 self._run(
                     f"UPDATE commands SET outcome = ?, ended = {CLOCK}"
@@ -155,10 +166,10 @@ class Lines:
         run_all, signs = self.database.run_all, [(one.sign,) for one in ended]
         with self.database.transaction():
             run_all(
-                f"INSERT INTO ledger (sign, number, code, outcome, at) VALUES (?, ?, ?, ?, {CLOCK})"
+                f"INSERT INTO ledger (sign, number, code, outcome, command, at) VALUES (?, ?, ?, ?, ?, {CLOCK})"
                 " ON CONFLICT (sign, number) DO UPDATE SET outcome = excluded.outcome, at = excluded.at"
                 " WHERE ledger.outcome = 'waiting' AND excluded.outcome <> 'waiting'",
-                [(one.sign, *_entry(line)) for one in news for line in one.ledger],
+                [(one.sign, *_entry(line), one.of) for one in news for line in one.ledger],
             )
             run_all(
                 f"UPDATE commands SET outcome = ?, ended = {CLOCK} WHERE id = ? AND outcome IS NULL",

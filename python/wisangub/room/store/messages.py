@@ -1,4 +1,4 @@
-"""The table of messages: the rows of each sign's message table, as they were last read."""
+"""The tables of messages and of their hearings: the rows of each sign's message table, as they were last read."""
 
 from dataclasses import dataclass
 from typing import Sequence
@@ -8,6 +8,17 @@ from .values import CLOCK, places, text_or_none, time_of, whole
 
 # a table that was asked for at a time to come is due: the clock jumped
 _DUE = f"(table_wanted = 1 OR table_read_at + ? <= {CLOCK} OR table_read_at > {CLOCK})"
+# nothing newer was heard of the row
+_NEWEST = (
+    "EXISTS (SELECT 1 FROM row_hearings WHERE row_hearings.sign = messages.sign"
+    " AND row_hearings.memory = messages.memory AND row_hearings.number = messages.number"
+    " AND row_hearings.reading = {reading})"
+)
+HEARD = "COALESCE(row_hearings.heard, messages.heard)"  # when a row was heard last, of OF_ROWS
+OF_ROWS = (
+    "FROM messages LEFT JOIN row_hearings ON row_hearings.sign = messages.sign"
+    " AND row_hearings.memory = messages.memory AND row_hearings.number = messages.number"
+)
 
 
 @dataclass(frozen=True)
@@ -52,36 +63,58 @@ class Messages:
         self._run("UPDATE signs SET table_wanted = 1 WHERE id = ?", sign)
 
     def keep(self, said: Sequence[RowSaid]) -> None:
-        """What signs said of rows: the newest of each row that was ever in use."""
+        """What signs said of rows: the newest of each row that was ever in use, written where it says something else;
+        when each was heard stands apart."""
         if not said:
             return
         said = sorted(said, key=lambda one: (one.sign, one.memory, one.number, -one.reading))
+        unused = [one for one in said if one.held is None]
+        used = [one for one in said if one.held is not None]
         with self.database.transaction(is_lasting=False):
-            self.database.run_all(
-                f"UPDATE messages SET reading = ?, heard = {CLOCK}, status = ?, held = ?"
-                " WHERE sign = ? AND memory = ? AND number = ? AND reading > ?",
-                [
-                    (one.reading, one.status, one.held, one.sign, one.memory, one.number, one.reading)
-                    for one in said
-                    if one.held is None
-                ],
-            )
-            self.database.run_all(
-                f"INSERT INTO messages (sign, memory, number, reading, heard, status, held)"
-                f" VALUES (?, ?, ?, ?, {CLOCK}, ?, ?) ON CONFLICT (sign, memory, number) DO UPDATE"
-                f" SET reading = excluded.reading, heard = {CLOCK}, status = excluded.status, held = excluded.held"
-                " WHERE messages.reading > excluded.reading",
-                [
-                    (one.sign, one.memory, one.number, one.reading, one.status, one.held)
-                    for one in said
-                    if one.held is not None
-                ],
-            )
+            self._hear(unused, used)
+            self._write(unused, used)
+
+    def _hear(self, unused: Sequence[RowSaid], used: Sequence[RowSaid]) -> None:
+        """Each row was heard now, but for what comes late; from here on its row here is this transaction's."""
+        self.database.run_all(
+            f"UPDATE row_hearings SET reading = ?, heard = {CLOCK}"
+            " WHERE sign = ? AND memory = ? AND number = ? AND reading > ?",
+            [(one.reading, one.sign, one.memory, one.number, one.reading) for one in unused],
+        )
+        self.database.run_all(
+            f"INSERT INTO row_hearings (sign, memory, number, reading, heard) VALUES (?, ?, ?, ?, {CLOCK})"
+            " ON CONFLICT (sign, memory, number) DO UPDATE SET reading = excluded.reading, heard = excluded.heard"
+            " WHERE row_hearings.reading > excluded.reading",
+            [(one.sign, one.memory, one.number, one.reading) for one in used],
+        )
+
+    def _write(self, unused: Sequence[RowSaid], used: Sequence[RowSaid]) -> None:
+        """Rows that say something else than they did; what comes late is let be."""
+        self.database.run_all(
+            f"UPDATE messages SET reading = ?, heard = {CLOCK}, status = ?, held = NULL"
+            " WHERE sign = ? AND memory = ? AND number = ? AND reading > ?"
+            f" AND (status <> ? OR held IS NOT NULL) AND {_NEWEST.format(reading='?')}",
+            [
+                (one.reading, one.status, one.sign, one.memory, one.number, one.reading, one.status, one.reading)
+                for one in unused
+            ],
+        )
+        self.database.run_all(
+            f"INSERT INTO messages (sign, memory, number, reading, heard, status, held)"
+            f" VALUES (?, ?, ?, ?, {CLOCK}, ?, ?) ON CONFLICT (sign, memory, number) DO UPDATE"
+            " SET reading = excluded.reading, heard = excluded.heard, status = excluded.status, held = excluded.held"
+            " WHERE messages.reading > excluded.reading"
+            " AND (messages.status <> excluded.status OR messages.held IS NULL OR messages.held <> excluded.held)"
+            f" AND {_NEWEST.format(reading='excluded.reading')}",
+            [(one.sign, one.memory, one.number, one.reading, one.status, one.held) for one in used],
+        )
 
     def of(self, sign: int) -> list[tuple[int, int, int, str | None, float]]:
         """The rows of a sign's table: memory, number, status, what it holds, and when that was heard."""
         rows = self._run(
-            "SELECT memory, number, status, held, heard FROM messages WHERE sign = ? ORDER BY memory, number", sign
+            f"SELECT messages.memory, messages.number, status, held, {HEARD} {OF_ROWS} WHERE messages.sign = ?"
+            " ORDER BY messages.memory, messages.number",
+            sign,
         )
         return [
             (whole(memory), whole(number), whole(status), text_or_none(held), time_of(heard))

@@ -2,11 +2,13 @@
 
 import functools
 import json
-from dataclasses import dataclass
+from dataclasses import dataclass, replace
 
 from .database import Database, Row, Value
+from .messages import HEARD, OF_ROWS
 from .values import SLACK, places, text_or_none, time_of, time_or_none, whole, whole_or_none
 
+_NEAR = 1000  # rows
 _SIGNS = """
 SELECT signs.id, signs.name, signs.place, signs.address, signs.poll,
        last.at, last.fault, said.shown,
@@ -159,10 +161,16 @@ def command_view(row: Row) -> CommandView:
     )
 
 
+def where_of(*parts: tuple[str, Value]) -> tuple[str, list[Value]]:
+    """The conditions whose values are given, and these."""
+    given = [(part, value) for part, value in parts if value is not None]
+    return (" WHERE " + " AND ".join(part for part, _ in given) if given else ""), [value for _, value in given]
+
+
 @dataclass(frozen=True)
 class Wanted:
     """Which commands are looked for, the newest first; `before` is a number that they are below, `signs` are those that
-    they are of, where not of all."""
+    they are of, where not of all; `since` and `until` are when they were asked for."""
 
     sign: int | None = None
     who: str = ""
@@ -170,18 +178,20 @@ class Wanted:
     before: int | None = None
     most: int = 50
     signs: frozenset[int] | None = None
+    since: float | None = None
+    until: float | None = None
+    first: int | None = None
 
     def where(self) -> tuple[str, list[Value]]:
-        parts: list[str] = []
-        values: list[Value] = []
-        for part, value in (
+        where, values = where_of(
             ("commands.sign = ?", self.sign),
             ("commands.who = ?", self.who or None),
             ("commands.id < ?", self.before),
-        ):
-            if value is not None:
-                parts.append(part)
-                values.append(value)
+            ("commands.asked_at + 0 >= ?", self.since),  # numbers bound it: see `within`
+            ("commands.asked_at + 0 < ?", self.until),
+            ("commands.id >= ?", self.first),
+        )
+        parts = [where.removeprefix(" WHERE ")] if where else []
         if self.signs is not None:
             parts.append(f"commands.sign IN ({places(self.signs)})" if self.signs else "1 = 0")
             values.extend(sorted(self.signs))
@@ -194,7 +204,30 @@ class Wanted:
         return (" WHERE " + " AND ".join(parts) if parts else ""), values
 
 
+def within(
+    database: Database, table: str, column: str, since: float | None, until: float | None
+) -> tuple[int | None, int | None]:
+    """The least number, and one above the greatest, of rows whose times lie between two, since numbers grow with times;
+    some rows more are looked at at both ends, where a clock jumped back."""
+    first = last = None
+    if since is not None:
+        sql = f"SELECT min(id) FROM (SELECT id FROM {table} WHERE {column} >= ? ORDER BY {column} LIMIT ?) AS near"
+        first = whole_or_none(database.run(sql, since, _NEAR)[0][0])
+        first = 2**62 if first is None else first
+    if until is not None:
+        sql = f"SELECT max(id) FROM (SELECT id FROM {table} WHERE {column} < ? ORDER BY {column} DESC LIMIT ?) AS near"
+        last = (whole_or_none(database.run(sql, until, _NEAR)[0][0]) or 0) + 1
+    return first, last
+
+
+def least(*numbers: int | None) -> int | None:
+    """The least of those that are there."""
+    return min((number for number in numbers if number is not None), default=None)
+
+
 def commands(database: Database, wanted: Wanted) -> list[CommandView]:
+    first, last = within(database, "commands", "asked_at", wanted.since, wanted.until)
+    wanted = replace(wanted, first=first, before=least(wanted.before, last))
     where, values = wanted.where()
     return list(
         map(command_view, database.run(f"{COMMANDS}{where} ORDER BY commands.id DESC LIMIT ?", *values, wanted.most))
@@ -247,8 +280,8 @@ class TableView:
 def table(database: Database, number: int) -> TableView:
     rows = []
     for memory, at, status, kept, heard in database.run(
-        "SELECT memory, number, status, held, heard FROM messages WHERE sign = ? AND status <> 1"
-        " AND held IS NOT NULL ORDER BY memory, number",
+        f"SELECT messages.memory, messages.number, status, held, {HEARD} {OF_ROWS} WHERE messages.sign = ?"
+        " AND status <> 1 AND held IS NOT NULL ORDER BY messages.memory, messages.number",
         number,
     ):
         cells = json.loads(str(kept))

@@ -127,18 +127,38 @@ class Readings:
             self._run(f"UPDATE hearings SET number = floor WHERE sign IN ({places(signs)})", *signs)
 
     def numbers(self, signs: Sequence[int]) -> dict[int, int]:
-        """A request's number for each of the signs, below all that were taken; none where they are used up."""
+        """A request's number for each of the signs, below all that its readings had; none where they are used up."""
         if not signs:
             return {}
+        with self.database.transaction(is_lasting=False):
+            found = self._next(signs)
+        wanting = sorted({*signs} - {*found})
+        if wanting:
+            with self.database.transaction():
+                self._run(f"SELECT id FROM signs WHERE id IN ({places(wanting)}) ORDER BY id {{lock}}", *wanting)
+                found |= self._next(wanting)  # of what another one took meanwhile
+                found |= self._next_anew(sorted({*wanting} - {*found}))
+        return found
+
+    def _next(self, signs: Sequence[int]) -> dict[int, int]:
+        """The next number of each that has one which is taken."""
         rows = self._run(
-            f"WITH asked AS MATERIALIZED (SELECT id FROM signs WHERE id IN ({places(signs)})"
-            " AND reading_number > ? ORDER BY id {lock})"
-            " UPDATE signs SET reading_number = reading_number - 1 WHERE id IN (SELECT id FROM asked)"
-            " RETURNING id, reading_number",
+            f"WITH asked AS MATERIALIZED (SELECT sign FROM hearings WHERE sign IN ({places(signs)})"
+            " AND number > floor ORDER BY sign {lock})"
+            " UPDATE hearings SET number = number - 1 WHERE sign IN (SELECT sign FROM asked) RETURNING sign, number",
             *signs,
-            LEAST_NUMBER,
         )
-        return {whole(row): whole(number) for row, number in rows}
+        return {whole(sign): whole(number) for sign, number in rows}
+
+    def _next_anew(self, signs: Sequence[int]) -> dict[int, int]:
+        """The same for signs that want new numbers first."""
+        taken = self._taken(signs) if signs else []
+        self.database.run_all(
+            "INSERT INTO hearings (sign, number, floor) VALUES (?, ?, ?) ON CONFLICT (sign)"
+            " DO UPDATE SET number = excluded.number, floor = excluded.floor",
+            [(sign, before - 1, floor) for sign, before, floor in taken],
+        )
+        return {sign: before - 1 for sign, before, _ in taken}
 
     # ---- what was said
 

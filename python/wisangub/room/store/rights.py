@@ -86,21 +86,22 @@ def of_user(database: Database, name: str) -> Rights:
 
 
 def need(database: Database, who: str, sign: int, level: Level = Level.APPROVED) -> Level:
-    """What a user may on a sign; refused where it is less than this."""
+    """What a user may on a sign; refused where it is less than this. One that he may not see is not named."""
     found = of_user(database, who).level(sign)
     if found < level:
-        raise _refusal(database, who, sign, "do this")
+        raise _refusal(database, who, sign, "do this") if found else Refusal(f"a sign: {who} may not do this")
     return found
 
 
 def check(database: Database, who: str, lines: Iterable[tuple[int, str]]) -> None:
-    """Refuses commands for signs that a user may not give there."""
-    for refused in refusals(database, who, lines).values():
-        raise refused
+    """Refuses commands for signs that a user may not give there. A sign that he may not see is not named."""
+    rights = of_user(database, who)
+    for sign, refused in refusals(database, who, lines).items():
+        raise refused if rights.may_see(sign) else Refusal(f"a sign: {who} may not command it")
 
 
 def refusals(database: Database, who: str, lines: Iterable[tuple[int, str]]) -> dict[int, Refusal]:
-    """Why a user may not give a command to a sign, of those that he may not."""
+    """Why a user may not give a command to a sign, of those that he may not: the sign's name stands in it."""
     rights, found = of_user(database, who), {}
     for sign, line in lines:
         level = rights.level(sign)

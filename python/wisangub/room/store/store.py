@@ -4,6 +4,7 @@ from .addresses import Addresses
 from .alarms import Alarms
 from .commands import Commands
 from .connection import Database
+from .devices import Devices
 from .leases import Leases
 from .lines import Lines
 from .messages import Messages
@@ -24,5 +25,6 @@ class Store:
         self.commands = Commands(database)
         self.readings = Readings(database)
         self.messages = Messages(database)
+        self.devices = Devices(database)
         self.alarms = Alarms(database)
         self.plans = Plans(database)

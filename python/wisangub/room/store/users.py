@@ -83,7 +83,8 @@ def add(database: Database, name: str, role: Role, password: str, who: str) -> N
 
 
 def _change(database: Database, name: str, column: str, value: str | int, who: str, what: str) -> None:
-    """Changes a column of a user, and ends what he is logged in with. One administrator at least is left."""
+    """Changes a column of a user, and ends what he is logged in with and his tokens. One administrator at least is
+    left."""
     with database.transaction(is_alone=True):
         if not database.run(f"UPDATE users SET {column} = ? WHERE name = ? RETURNING name", value, name):
             raise Refusal(f"there is no user {name}")
@@ -92,6 +93,7 @@ def _change(database: Database, name: str, column: str, value: str | int, who: s
         ):
             raise Refusal("no administrator would be left")
         database.run("UPDATE logins SET ended = {clock} WHERE name = ? AND ended IS NULL", name)
+        database.run("UPDATE tokens SET ended_at = {clock} WHERE of_user = ? AND ended_at IS NULL", name)
         note(database, who, what)
 
 

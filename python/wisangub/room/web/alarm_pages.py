@@ -22,12 +22,20 @@ async def listed(request: web.Request) -> web.Response:
 
 
 async def acknowledge(request: web.Request) -> web.StreamResponse:
-    """Somebody has seen an alarm."""
+    """Somebody has seen an alarm; one of a sign that may not be seen is none."""
     service, visitor, number = service_of(request), visitor_of(request), int(request.match_info["alarm"])
+    may_see = rights_of(request).may_see
+
+    def done(database: Database) -> bool | None:
+        sign = alarms.sign_of(database, number)
+        return None if sign is None or not may_see(sign) else alarms.see(database, number, visitor.name)
+
     try:
-        is_done = await service.connections.run(lambda database: alarms.see(database, number, visitor.name))
+        is_done = await service.connections.run(done)
     except Refusal as refused:
         raise web.HTTPForbidden(text=f"Nothing was done: {refused}.") from None
+    if is_done is None:
+        raise web.HTTPNotFound(text="There is no such alarm.")
     if not is_done:
-        raise web.HTTPConflict(text="There is no such alarm, or somebody has acknowledged it before.")
+        raise web.HTTPConflict(text="Somebody has acknowledged this alarm before.")
     raise web.HTTPSeeOther("/alarms")

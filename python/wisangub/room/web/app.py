@@ -20,9 +20,12 @@ from wisangub.room.store.users import Role
 
 from . import (
     alarm_pages,
+    archive_pages,
     bodies,
     compose,
+    exports,
     group_pages,
+    health,
     library_pages,
     log_pages,
     people,
@@ -35,6 +38,7 @@ from . import (
     sign_pages,
     wall,
 )
+from .api import routes, stream
 from .events import Hub, events
 from .security import address_of, prepare
 from .service import HERE, SERVICE, Service, service_of
@@ -61,6 +65,7 @@ ROUTES = (
     Route("GET", "/account", people.account),
     Route("POST", "/account", people.own_password),
     Route("POST", "/account/factor", people.second_factor),
+    Route("POST", "/account/tokens", people.own_tokens),
     Route("POST", r"/logins/{login:[0-9a-f]{16}}/end", people.end_login),
     Route("GET", "/", wall.wall),
     Route("GET", "/events", events),
@@ -100,15 +105,26 @@ ROUTES = (
     Route("GET", "/users", people.users_page, _ADMINISTRATOR),
     Route("POST", "/users", people.change, _ADMINISTRATOR),
     Route("GET", "/audit", record_pages.audit, _ADMINISTRATOR),
+    Route("GET", "/history.csv", exports.history_csv),
+    Route("GET", "/audit.csv", exports.audit_csv, _ADMINISTRATOR),
+    Route("GET", "/archives", archive_pages.listed, _ADMINISTRATOR),
+    Route("GET", r"/archives/{name:[A-Za-z0-9][A-Za-z0-9._-]{0,99}}", archive_pages.archive, _ADMINISTRATOR),
+    Route("GET", "/health", health.health, None),
+    Route("GET", "/metrics", health.metrics_page, None),
 )
 
 
+_UNSAID = {
+    404: "There is no page at this address.",
+    405: "This address takes no request of this kind.",
+    413: "This request is too long.",
+}  # where nobody else says why
 _BY_THEMSELVES = (events, picture_pages.picture)  # that pages ask for though nobody is there
 
 
 def _refused(request: web.Request, status: int, words: str, keep_alive: bool | None = None) -> web.Response:
     """A page that says why there is no other."""
-    if request.path == "/look":
+    if request.path == "/look" or routes.is_of(request):
         made = web.json_response({"error": words}, status=status)
     else:
         made = service_of(request).page(request, "error.html", status=status, status_code=status, why=words)
@@ -138,7 +154,8 @@ async def _faults(request: web.Request, handler: _Handler) -> web.StreamResponse
     except web.HTTPRedirection:
         raise
     except web.HTTPException as fault:
-        words = fault.text if fault.text and not fault.text.startswith(str(fault.status)) else fault.reason
+        is_said = fault.text and not fault.text.startswith(str(fault.status))
+        words = fault.text if is_said and fault.text else _UNSAID.get(fault.status, f"{fault.reason}.")
         return _refused(request, fault.status, words, fault.keep_alive)
     except (Failed, Taken):
         return _refused(request, 503, "The database does not answer. What was asked for may not have been done.")
@@ -171,6 +188,7 @@ async def _guard(request: web.Request, handler: _Handler) -> web.StreamResponse:
             raise web.HTTPUnauthorized(text="You are not logged in, or your log-in has ended.")
         raise web.HTTPSeeOther(sign_in.address(request))
     request["visitor"], request["rights"] = visitor, may
+    request["again"] = lambda database: logins.find(database, visitor.login, idle)
     if visitor.role < role:
         await _note_refusal(request, visitor, f"it is for {role.word}s")
         raise web.HTTPForbidden(text=f"This is for {role.word}s: you are logged in as a {visitor.role.word}.")
@@ -212,11 +230,13 @@ async def _end_streams(app: web.Application) -> None:
 
 def application(service: Service) -> web.Application:
     """The pages of a service."""
-    app = web.Application(middlewares=[_limits, _faults, _guard], client_max_size=_MOST_BODY)
-    app[SERVICE], app["hub"] = service, Hub(service)
+    app = web.Application(middlewares=[_limits, health.measured, _faults, _guard], client_max_size=_MOST_BODY)
+    app[SERVICE], app["hub"] = service, Hub(service, stream.parts)
+    app["watch"] = health.watch_of(service)
     app["roles"] = {route.handler: route.role for route in ROUTES}
     for route in ROUTES:
         app.router.add_route(route.method, route.path, route.handler)
+    routes.add_to(app.router)
     app.router.add_static("/static", HERE / "static")
     app.on_response_prepare.append(prepare)
     app.on_shutdown.append(_end_streams)

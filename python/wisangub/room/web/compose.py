@@ -9,7 +9,7 @@ from typing import Any
 from aiohttp import web
 
 from wisangub.room.plain import forbidden_in, plain_of
-from wisangub.room.store import library, plans, queries, rules
+from wisangub.room.store import groups, library, plans, queries, rules
 from wisangub.room.store.database import Database
 from wisangub.room.store.library import Text
 from wisangub.room.store.plans import Plan
@@ -116,10 +116,11 @@ async def answer(request: web.Request, draft: Draft, status: int = 200) -> web.R
         raise web.HTTPForbidden(text="There is no sign that you may command.")
     found = await looks(service, draft.signs, draft.text) if draft.text and draft.signs else []
 
-    def held(database: Database) -> tuple[list[Purpose], list[Text], float]:
-        return rules.purposes(database), library.listed(database), queries.now(database)
+    def held(database: Database) -> tuple[list[Purpose], list[Text], dict[int, list[str]], float]:
+        names = groups.names_of_signs(database)
+        return rules.purposes(database), library.listed(database), names, queries.now(database)
 
-    purposes, texts, now = await service.connections.run(held)
+    purposes, texts, names, now = await service.connections.run(held)
     faces = [service.faces[sign_id] for sign_id in draft.signs] or list(may.values())
     chosen = [service.faces[sign_id] for sign_id in draft.signs]
     kinds = {face.key for face in chosen}
@@ -130,6 +131,7 @@ async def answer(request: web.Request, draft: Draft, status: int = 200) -> web.R
         draft=draft,
         looks=found,
         signs=[(service.signs[sign_id].name, sign_id) for sign_id in may],
+        places={sign_id: " ".join([service.signs[sign_id].place, *names.get(sign_id, [])]) for sign_id in may},
         now=now,
         purposes=purposes,
         purpose=next((one for one in purposes if draft.is_of(one, chosen)), None),
@@ -268,11 +270,11 @@ async def blank(request: web.Request) -> web.Response:
     draft = drafts.read(request.query, commanded(request), "blank")
     if "sign" in draft.faults:
         raise web.HTTPBadRequest(text=draft.faults["sign"])
-    shown = await service_of(request).connections.run(lambda database: _shown_priorities(database, draft.signs))
+    shown = await service_of(request).connections.run(lambda database: shown_priorities(database, draft.signs))
     return await confirmation(request, dataclasses.replace(draft, priority=max(shown)), b"")
 
 
-def _shown_priorities(database: Database, signs: tuple[int, ...]) -> list[int]:
+def shown_priorities(database: Database, signs: tuple[int, ...]) -> list[int]:
     """The priority of what each sign shows, which taking it away needs; of one that never said it, that of no purpose
     is above it."""
     found = [queries.sign(database, sign_id) for sign_id in signs]

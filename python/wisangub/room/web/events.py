@@ -8,8 +8,9 @@ from typing import Callable
 
 from aiohttp import web
 
-from wisangub.room.store import logins, queries, rights
+from wisangub.room.store import queries, rights
 from wisangub.room.store.database import Database, Failed, Taken
+from wisangub.room.store.logins import Visitor
 from wisangub.room.store.rights import Rights
 
 from . import send, sign_pages, wall
@@ -22,7 +23,8 @@ SILENCE = 15.0  # seconds after which a line says that the stream is there, and 
 AGES = 5.0  # seconds after which what was said may be too old, though nothing was written
 _JUMP = 2.0  # seconds by which the database's clock has to be elsewhere
 _MOST_WAITING = 20  # events that a browser has not taken; then it has to begin anew
-_Parts = dict[str, str]
+ALL = "all"  # the view of other systems
+Parts = dict[str, str]
 _Key = tuple[str, frozenset[int] | None]  # a view, and the signs that may be seen: all for none
 _OF = {"sign": sign_pages.parts, "table": sign_pages.table_parts}
 
@@ -32,21 +34,22 @@ class Stream:
 
     def __init__(self, view: str, request: web.Request) -> None:
         self.view, self.request, self.login = view, request, visitor_of(request).login
+        self.again: Callable[[Database], Visitor | None] = request["again"]  # whether it still stands
         self.seen = _seen(service_of(request), rights_of(request))
         self.looked = time.monotonic()  # when the log-in was found to stand
-        self.queue: asyncio.Queue[_Parts | None] = asyncio.Queue(_MOST_WAITING)
+        self.queue: asyncio.Queue[Parts | None] = asyncio.Queue(_MOST_WAITING)
 
     @property
     def key(self) -> _Key:
-        """What is made once for all that listen to it."""
-        return self.view, self.seen
+        """What is made once for all that listen to it; what other systems get is chosen for each of them."""
+        return self.view, None if self.view == ALL else self.seen
 
     @property
     def is_gone(self) -> bool:
         """Whether the browser has let go; what waits for an event does not know it yet."""
         return self.request.transport is None
 
-    def put(self, parts: _Parts | None) -> None:
+    def put(self, parts: Parts | None) -> None:
         """Hands an event over; a browser that takes none is let go."""
         if self.queue.full():
             while not self.queue.empty():
@@ -63,24 +66,27 @@ def _seen(service: Service, may: Rights) -> frozenset[int] | None:
 class Hub:
     """Looks for what has changed as long as somebody listens, once for all."""
 
-    def __init__(self, service: Service) -> None:
+    def __init__(self, service: Service, every: Callable[[Service, Database], Parts]) -> None:
         self.service = service
+        self.of_all = every
         self.streams: set[Stream] = set()
         self.connections = Connections(service.settings.database, 1)  # a mark is of one connection
-        self.last: dict[_Key, _Parts] = {}
+        self.last: dict[_Key, Parts] = {}
         self.mark, self.looked = "", 0.0
         self.every: list[wall.Card] | None = None
         self.clock: float | None = None  # the database's time, less this machine's since it was started
 
-    def made(self, key: _Key) -> Callable[[Database], _Parts]:
+    def made(self, key: _Key) -> Callable[[Database], Parts]:
         """How the parts of a view are made."""
         view, seen = key
+        if view == ALL:
+            return lambda database: self.of_all(self.service, database)
         found = _VIEW.fullmatch(view)
         assert found is not None
         if found[2] is None:
             signs = None if found[1] is None else set(map(int, filter(None, found[1].split(","))))
 
-            def made(database: Database) -> _Parts:
+            def made(database: Database) -> Parts:
                 return wall.parts(
                     self.service, [one for one in self.cards(database) if seen is None or one.sign.id in seen], signs
                 )
@@ -170,13 +176,18 @@ async def events(request: web.Request) -> web.StreamResponse:
     is_of_sign = found is not None and found[2] in ("sign", "table")
     if found is None or is_of_sign and not (int(found[3]) in service.signs and may_see(int(found[3]))):
         raise web.HTTPNotFound(text="There is no such view.")
-    stream = Stream(view, request)
+    return await streamed(request, view, lambda parts: f"data: {json.dumps(parts)}\n\n".encode())
+
+
+async def streamed(request: web.Request, view: str, spelled: Callable[[Parts], bytes]) -> web.StreamResponse:
+    """Parts of a view as they change, as long as who asks may."""
+    service, stream = service_of(request), Stream(view, request)
     _hub_of(request).enter(stream)
     answer = web.StreamResponse(headers={"Content-Type": "text/event-stream", "X-Accel-Buffering": "no"})
     try:
         await answer.prepare(request)
         await answer.write(b"retry: 3000\n\n")
-        while (words := await _told(service, stream)) is not None:
+        while (words := await _told(service, stream, spelled)) is not None:
             await answer.write(words)
     except (ConnectionError, Failed, Taken):
         pass  # where the database does not answer the stream ends: the browser asks for another one
@@ -185,24 +196,23 @@ async def events(request: web.Request) -> web.StreamResponse:
     return answer
 
 
-async def _told(service: Service, stream: Stream) -> bytes | None:
+async def _told(service: Service, stream: Stream, spelled: Callable[[Parts], bytes]) -> bytes | None:
     """The next event, or after a silence a line that says nothing; None where the stream ends. Whatever happens on the
     view, log-in and rights are looked at again before they were taken for granted for longer than a silence."""
     try:
         parts = await asyncio.wait_for(stream.queue.get(), SILENCE)
-        words = None if parts is None else f"data: {json.dumps(parts)}\n\n".encode()
+        words = None if parts is None else spelled(parts)
     except asyncio.TimeoutError:
         words = b": here\n\n"
     now = time.monotonic()
     if words is not None and now - stream.looked >= SILENCE:
-        idle = service.settings.idle
-        if not await service.connections.run(lambda database: _still_stands(service, database, stream, idle)):
+        if not await service.connections.run(lambda database: _still_stands(service, database, stream)):
             return None
         stream.looked = now
     return words
 
 
-def _still_stands(service: Service, database: Database, stream: Stream, idle: float) -> bool:
-    """Whether the log-in stands, and its user still sees the same signs."""
-    visitor = logins.find(database, stream.login, idle)
+def _still_stands(service: Service, database: Database, stream: Stream) -> bool:
+    """Whether the log-in or the token stands, and its user still sees the same signs."""
+    visitor = stream.again(database)
     return visitor is not None and _seen(service, rights.of_user(database, visitor.name)) == stream.seen

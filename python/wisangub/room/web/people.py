@@ -3,10 +3,11 @@
 from aiohttp import web
 
 from wisangub.refusal import Refusal
-from wisangub.room.store import factors, logins, queries, totp, users
+from wisangub.room.store import factors, logins, queries, tokens, totp, users
 from wisangub.room.store.database import Database
 from wisangub.room.store.logins import Login
-from wisangub.room.store.users import Role
+from wisangub.room.store.tokens import Token
+from wisangub.room.store.users import Role, User
 
 from . import sign_in
 from .security import address_of
@@ -15,8 +16,14 @@ from .service import service_of, visitor_of
 
 async def _shown(request: web.Request, said: str = "", status: int = 200) -> web.Response:
     service = service_of(request)
-    found = await service.connections.run(users.users)
-    return service.page(request, "users.html", status=status, users=found, roles=list(Role), said=said)
+
+    def found(database: Database) -> tuple[list[User], list[Token], float]:
+        return users.users(database), tokens.listed(database), queries.now(database)
+
+    every, standing, now = await service.connections.run(found)
+    return service.page(
+        request, "users.html", status=status, users=every, tokens=standing, roles=list(Role), said=said, now=now
+    )
 
 
 async def users_page(request: web.Request) -> web.Response:
@@ -42,6 +49,8 @@ async def change(request: web.Request) -> web.Response:
         if do == "one-factor":
             factors.remove(database, name, who)
             return f"{name} gives no code any more."
+        if do == "end-token":
+            return _ended(database, fields.get("token-number", ""), who)
         if do in ("disable", "enable"):
             users.disable(database, name, do == "disable", who)
             return f"{name} may {'no longer' if do == 'disable' else 'now'} log in."
@@ -53,14 +62,23 @@ async def change(request: web.Request) -> web.Response:
         return await _shown(request, f"Nothing was changed: {refused}.", 422)
 
 
-async def _account_page(request: web.Request, said: str = "", status: int = 200) -> web.Response:
+def _ended(database: Database, word: str, who: str, user: str | None = None) -> str:
+    """Ends a token, of a user or of anybody."""
+    is_number = word.isascii() and word.isdecimal() and len(word) < 10
+    if not is_number or not tokens.end(database, int(word), who, user):
+        raise Refusal("there is no such token any more")
+    return "The token is good for nothing any more."
+
+
+async def _account_page(request: web.Request, said: str = "", status: int = 200, token: str = "") -> web.Response:
     service, visitor = service_of(request), visitor_of(request)
 
-    def found(database: Database) -> tuple[list[Login], float | None, float]:
+    def found(database: Database) -> tuple[list[Login], list[Token], float | None, float]:
         standing = logins.standing(database, visitor, service.settings.idle)
-        return standing, factors.since(database, visitor.name), queries.now(database)
+        of_user = tokens.listed(database, visitor.name)
+        return standing, of_user, factors.since(database, visitor.name), queries.now(database)
 
-    standing, since, now = await service.connections.run(found)
+    standing, of_user, since, now = await service.connections.run(found)
     secret = totp.new_secret()
     return service.page(
         request,
@@ -68,6 +86,10 @@ async def _account_page(request: web.Request, said: str = "", status: int = 200)
         status=status,
         said=said,
         standing=standing,
+        tokens=of_user,
+        made=token,
+        days=tokens.DAYS,
+        most_days=tokens.MOST_DAYS,
         since=since,
         now=now,
         secret=secret,
@@ -114,19 +136,51 @@ async def end_login(request: web.Request) -> web.StreamResponse:
     raise web.HTTPSeeOther("/account")
 
 
+async def _not_him(request: web.Request, password: str) -> web.Response | None:
+    """The page that refuses who does not know the present password of who is logged in, or has to wait."""
+    service, visitor = service_of(request), visitor_of(request)
+    of = address_of(request, service.settings.is_behind_tls)
+    if seconds := await sign_in.to_wait(service, visitor.name, of):
+        return await _account_page(request, f"Nothing was changed: please try again in {seconds} s.", 429)
+    if not await sign_in.is_right(service, visitor.name, password):
+        what = "a wrong present password was given"
+        await service.connections.run(lambda database: logins.failed(database, visitor.name, of, what))
+        return await _account_page(request, "Nothing was changed: the present password is another one.", 403)
+    await service.connections.run(lambda database: logins.forgive(database, visitor.name, of))
+    return None
+
+
+async def own_tokens(request: web.Request) -> web.StreamResponse:
+    """Makes a token of who asks, which the answer shows once, or ends one."""
+    service, name = service_of(request), visitor_of(request).name
+    fields = {key: str(value) for key, value in (await request.post()).items()}
+    days = fields.get("days", "")
+    of = int(days) if days.isascii() and days.isdecimal() and len(days) < 6 else 0
+
+    def done(database: Database) -> tuple[str, str]:
+        if fields.get("do") == "end":
+            return _ended(database, fields.get("number", ""), name, name), ""
+        if fields.get("do") != "add":
+            raise Refusal("nothing was asked for")
+        made = tokens.add(database, fields.get("name", ""), name, fields.get("reads") == "1", of, name)
+        return "The token is shown this once: keep it where the other system has it.", made
+
+    if fields.get("do") == "add" and (page := await _not_him(request, fields.get("old", ""))) is not None:
+        return page
+    try:
+        said, made = await service.connections.run(done)
+    except Refusal as refused:
+        return await _account_page(request, f"Nothing was changed: {refused}.", 422)
+    return await _account_page(request, said, token=made)
+
+
 async def own_password(request: web.Request) -> web.StreamResponse:
     """Another password for who asks; he has to log in again."""
     service, visitor = service_of(request), visitor_of(request)
     fields = await request.post()
     old, new, again = (str(fields.get(key, "")) for key in ("old", "new", "again"))
-    of = address_of(request, service.settings.is_behind_tls)
-    if seconds := await sign_in.to_wait(service, visitor.name, of):
-        return await _account_page(request, f"Nothing was changed: please try again in {seconds} s.", 429)
-    if not await sign_in.is_right(service, visitor.name, old):
-        what = "a wrong present password was given"
-        await service.connections.run(lambda database: logins.failed(database, visitor.name, of, what))
-        return await _account_page(request, "Nothing was changed: the present password is another one.", 403)
-    await service.connections.run(lambda database: logins.forgive(database, visitor.name, of))
+    if (page := await _not_him(request, old)) is not None:
+        return page
     if new != again:
         return await _account_page(request, "Nothing was changed: the two new passwords differ.", 422)
     try:

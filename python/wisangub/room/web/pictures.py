@@ -7,6 +7,7 @@ import subprocess
 from dataclasses import dataclass
 
 from wisangub.endpoint.lack import FAULT, spelled
+from wisangub.endpoint.text_of_picture import with_text
 
 from .faces import Face
 
@@ -56,7 +57,7 @@ def drawn(program: str, face: Face, text: bytes, page: int | None) -> Picture:
     except (OSError, subprocess.TimeoutExpired) as fault:
         return Picture(None, f"signtool: {getattr(fault, 'strerror', None) or 'no picture in time'}")
     if ended.returncode == 0:
-        return Picture(gzip.compress(ended.stdout, 6))
+        return Picture(gzip.compress(with_text(ended.stdout, text), 6))
     said = ended.stdout.decode("latin-1")
     found = FAULT.search(said)
     if found is None or len(word) > _MOST_TEXT:

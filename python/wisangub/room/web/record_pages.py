@@ -1,17 +1,25 @@
 """What was: commands, the ledger, what a sign showed, the audit."""
 
+import datetime
+from dataclasses import dataclass, replace
+from urllib.parse import urlencode
+
 from aiohttp import web
 
 from wisangub.endpoint.texts import ended
+from wisangub.room.plain import plain_of
 from wisangub.room.store import history, queries
 from wisangub.room.store.database import Database
-from wisangub.room.store.queries import SignView, Wanted
+from wisangub.room.store.history import Activation, AuditWanted, Entry
+from wisangub.room.store.queries import CommandView, SignView, Wanted
+from wisangub.room.store.search import search
 
 from . import words
 from .service import Service, rights_of, service_of, sign_of
 
 _OUTCOMES = ("accepted", "failed", "open")
-_MOST = 50
+_MOST, _MOST_LINES = 50, 100
+_MOST_FIND = 100
 
 
 def number_of(request: web.Request, key: str) -> int | None:
@@ -20,25 +28,106 @@ def number_of(request: web.Request, key: str) -> int | None:
     return int(word) if word.isascii() and word.isdecimal() and len(word) < 12 else None
 
 
-async def history_page(request: web.Request) -> web.Response:
-    service = service_of(request)
-    rights = rights_of(request)
-    seen = rights.seen(service.signs)
-    outcome, who = request.query.get("outcome", ""), request.query.get("who", "")
-    wanted = Wanted(
+@dataclass(frozen=True)
+class Asked:
+    """What is looked for: words, who, and days from one to another, which count; with the query that says so."""
+
+    find: str
+    who: str
+    first: str
+    last: str
+    since: float | None
+    until: float | None
+
+    @staticmethod
+    def of(request: web.Request) -> "Asked":
+        """The query of a page; one that names no day is refused."""
+        clock, query = service_of(request).clock, request.query
+        days: dict[str, datetime.date] = {}
+        for key in ("first", "last"):
+            if word := query.get(key, ""):
+                try:
+                    days[key] = datetime.date.fromisoformat(word)
+                    clock.begins(days[key] + _DAY)
+                except (ValueError, OverflowError, OSError):
+                    raise web.HTTPBadRequest(text="A day is written as 2026-11-28.") from None
+        who, first, last = query.get("who", ""), days.get("first"), days.get("last")
+        return Asked(
+            query.get("find", "").strip()[:_MOST_FIND],
+            who if who.isprintable() else "",
+            str(first or ""),
+            str(last or ""),
+            None if first is None else clock.begins(first),
+            None if last is None else clock.begins(last + _DAY),
+        )
+
+    def query(self, **more: str | int | None) -> str:
+        """The address of this, with more."""
+        named: dict[str, str | int | None] = {
+            "find": self.find,
+            "who": self.who,
+            "first": self.first,
+            "last": self.last,
+        }
+        named.update(more)
+        return urlencode({key: value for key, value in named.items() if value})
+
+    def takes(self, *said: str) -> bool:
+        """Whether the words stand in what is said."""
+        return self.find.lower() in " ".join(said).lower()
+
+    def takes_command(self, command: CommandView) -> bool:
+        line = words.asked(command.line)
+        text = words.text_of(line.text)
+        return not self.find or self.takes(command.sign_name, text, plain_of(line.text), line.what, command.how or "")
+
+    def takes_entry(self, entry: Entry) -> bool:
+        return not self.find or self.takes(words.audit_words(entry[3]))
+
+
+_DAY = datetime.timedelta(days=1)
+
+
+def _number_of_command(command: CommandView) -> int:
+    return command.id
+
+
+def _number_of_entry(entry: Entry) -> int:
+    return entry[0]
+
+
+def wanted_of(request: web.Request, asked: Asked) -> Wanted:
+    """The commands that the query names, of the signs that who asks may see."""
+    rights, outcome = rights_of(request), request.query.get("outcome", "")
+    return Wanted(
         number_of(request, "sign"),
-        who if who.isprintable() else "",
+        asked.who,
         outcome if outcome in _OUTCOMES else "",
         number_of(request, "before"),
         _MOST,
-        None if rights.sees_all else seen,
+        None if rights.sees_all else rights.seen(service_of(request).signs),
+        asked.since,
+        asked.until,
     )
 
-    def found(database: Database) -> tuple[list[queries.CommandView], list[str], float]:
-        return queries.commands(database, wanted), history.people(database), queries.now(database)
 
-    rows, people, now = await service.connections.run(found)
-    signs = sorted((service.signs[sign_id].name, sign_id) for sign_id in seen)
+async def history_page(request: web.Request) -> web.Response:
+    service, asked = service_of(request), Asked.of(request)
+    wanted = wanted_of(request, asked)
+
+    def found(database: Database) -> tuple[list[CommandView], int | None, list[str], float]:
+        rows, before = search(
+            lambda before, most: queries.commands(database, replace(wanted, before=before, most=most)),
+            _number_of_command,
+            asked.takes_command,
+            wanted.before,
+            _MOST,
+        )
+        return rows, before, history.people(database), queries.now(database)
+
+    rows, before, people, now = await service.connections.run(found)
+    signs = sorted((service.signs[sign_id].name, sign_id) for sign_id in rights_of(request).seen(service.signs))
+    of = {"sign": wanted.sign, "outcome": wanted.outcome}
     return service.page(
         request,
         "history.html",
@@ -46,8 +135,10 @@ async def history_page(request: web.Request) -> web.Response:
         people=people,
         now=now,
         wanted=wanted,
+        asked_for=asked,
         signs=signs,
-        is_last=len(rows) < _MOST,
+        earlier=None if before is None else asked.query(**of, before=before),
+        query=asked.query(**of),
     )
 
 
@@ -67,14 +158,32 @@ def _outcome_word(service: Service, outcome: str) -> str:
     return ended(service.mib, f"ledger 0 - {outcome}").removeprefix("ledger 0 - ")
 
 
+@dataclass(frozen=True)
+class Activated:
+    """An entry of the ledger in words."""
+
+    number: int
+    code: dict[str, str]
+    outcome: str
+    at: float
+    who: str
+    text: str
+
+
+def _activated(service: Service, one: Activation) -> Activated:
+    text = words.text_of(words.asked(one.line).text) if one.line else ""
+    outcome = _outcome_word(service, one.outcome)
+    return Activated(one.number, _code_words(one.code), outcome, one.at, one.who or "", text)
+
+
 async def ledger(request: web.Request) -> web.Response:
     service, sign_id = service_of(request), sign_of(request)
 
-    def found(database: Database) -> tuple[SignView | None, list[tuple[int, str, str, float]], float]:
+    def found(database: Database) -> tuple[SignView | None, list[Activation], float]:
         return queries.sign(database, sign_id), history.ledger(database, sign_id), queries.now(database)
 
     sign, rows, now = await service.connections.run(found)
-    entries = [(number, _code_words(code), _outcome_word(service, outcome), at) for number, code, outcome, at in rows]
+    entries = [_activated(service, one) for one in rows]
     return service.page(request, "ledger.html", sign=sign, entries=entries, now=now, tab="ledger")
 
 
@@ -90,11 +199,28 @@ async def shown(request: web.Request) -> web.Response:
 
 
 async def audit(request: web.Request) -> web.Response:
-    service, before = service_of(request), number_of(request, "before")
+    service, asked = service_of(request), Asked.of(request)
+    wanted = AuditWanted(asked.who, asked.since, asked.until)
 
-    def found(database: Database) -> tuple[list[tuple[int, float, str, str]], float]:
-        return history.audit(database, before), queries.now(database)
+    def found(database: Database) -> tuple[list[Entry], int | None, list[str], float]:
+        lines, before = search(
+            lambda before, most: history.audited(database, replace(wanted, before=before, most=most)),
+            _number_of_entry,
+            asked.takes_entry,
+            number_of(request, "before"),
+            _MOST_LINES,
+        )
+        return lines, before, history.audit_people(database), queries.now(database)
 
-    rows, now = await service.connections.run(found)
+    rows, before, people, now = await service.connections.run(found)
     lines = [(number, at, who, words.audit_words(what)) for number, at, who, what in rows]
-    return service.page(request, "audit.html", lines=lines, now=now)
+    return service.page(
+        request,
+        "audit.html",
+        lines=lines,
+        people=people,
+        now=now,
+        asked_for=asked,
+        earlier=None if before is None else asked.query(before=before),
+        query=asked.query(),
+    )

@@ -21,6 +21,7 @@ from .service import Service, commanded, rights_of, service_of, visitor_of
 from .words import asked
 
 _NOWHERE = "0.0.0.0"
+_NOTHING = "Nothing of this number was asked for."
 
 
 def _own_address(sign: Sign) -> str:
@@ -121,7 +122,7 @@ async def batch(request: web.Request) -> web.Response:
     may_see = rights_of(request).may_see
     found, made, now = await service.connections.run(lambda database: _parts_of(service, database, number, may_see))
     if found is None:
-        raise web.HTTPNotFound(text="Nothing of this number was asked for.")
+        raise web.HTTPNotFound(text=_NOTHING)
     return service.page(request, "batch.html", batch=found, parts=made, now=now, view=f"batch/{number}")
 
 
@@ -134,13 +135,21 @@ def parts(service: Service, database: Database, number: int, may_see: _Seen) -> 
 
 
 async def withdraw(request: web.Request) -> web.StreamResponse:
-    """Ends a command that waits for its turn; one that was begun goes on."""
+    """Ends a command that waits for its turn; one that was begun goes on, and one of a sign that may not be seen is
+    none."""
     service, visitor, number = service_of(request), visitor_of(request), int(request.match_info["command"])
+    may_see = rights_of(request).may_see
+
+    def done(database: Database) -> bool | None:
+        found = queries.command(database, number)
+        return Commands(database).withdraw(number, visitor.name) if found and may_see(found.sign) else None
 
     try:
-        is_done = await service.connections.run(lambda database: Commands(database).withdraw(number, visitor.name))
+        is_done = await service.connections.run(done)
     except Refusal as refused:
         raise web.HTTPForbidden(text=f"Nothing was done: {refused}.") from None
+    if is_done is None:
+        raise web.HTTPNotFound(text=_NOTHING)
     if not is_done:
         raise web.HTTPConflict(text="This command was begun, or has ended: it cannot be withdrawn.")
     raise web.HTTPSeeOther("/history?outcome=open")

@@ -10,14 +10,14 @@ from markupsafe import Markup
 
 from wisangub.endpoint.endings import with_step
 from wisangub.room.fleet import Sign
-from wisangub.room.plain import plain_of
+from wisangub.room.plain import counted, plain_of
 from wisangub.room.store.keys import key_of
 from wisangub.room.store.logins import Visitor
 from wisangub.room.store.rights import Rights
 from wisangub.room.store.store import Store
 from wisangub.snmp.mib import Mib
 
-from . import words
+from . import device_words, words
 from .connections import Connections
 from .faces import Face, faces_of
 from .limits import Limits
@@ -65,11 +65,13 @@ class Service:
             clock=self.clock,
             words=words,
             plain_of=plain_of,
+            counted=counted,
             text_of=words.text_of,
             asked=words.asked,
             states=states,
             because=because,
             with_step=with_step,
+            device_facts=device_words.facts,
         )
         return made
 

@@ -15,9 +15,9 @@ from .limits import Patience
 class Settings:
     """`is_behind_tls`: a proxy on this machine ends TLS, so cookies are Secure and the client's address is the one that
     the proxy tells. `zone`: the one that times are shown in; else the machine's. `look`: seconds between two looks into
-    the database for what has changed. `idle`: seconds after which a log-in
-    ends by which nothing is asked for. `access_log`: the file
-    that gets a line for each request. `patience`: how long, and for how many, connections are waited for."""
+    the database for what has changed. `idle`: seconds after which a log-in ends by which nothing is asked for.
+    `access_log`: the file that gets a line for each request. `archives`: the folder of archives that pages show.
+    `patience`: how long, and for how many, connections are waited for."""
 
     database: str
     program: str = str(SIGNTOOL)
@@ -27,6 +27,7 @@ class Settings:
     threads: int = 4
     idle: float = IDLE
     access_log: str | None = None
+    archives: str | None = None
     patience: Patience = Patience()
 
 

@@ -4,9 +4,10 @@ from dataclasses import dataclass
 
 from aiohttp import web
 
-from wisangub.room.store import alarms, queries
+from wisangub.room.store import alarms, devices, queries
 from wisangub.room.store.alarms import Alarm
 from wisangub.room.store.database import Database
+from wisangub.room.store.devices import DeviceView
 from wisangub.room.store.messages import Messages
 from wisangub.room.store.queries import CommandView, SignView, TableView, Wanted
 
@@ -24,6 +25,7 @@ class Overview:
     is_stale: bool
     commands: list[CommandView]
     alarms: list[Alarm]
+    device: DeviceView | None
     now: float
 
 
@@ -33,7 +35,8 @@ def _overviewed(service: Service, database: Database, sign_id: int) -> Overview:
     now = queries.now(database)
     commands = queries.commands(database, Wanted(sign=sign_id, most=_FEW))
     picture = service.picture(sign_id, sign.shown.text) if sign.shown else None
-    return Overview(sign, picture, sign.is_stale(now), commands, alarms.listed(database, sign_id), now)
+    stands, device = alarms.listed(database, sign_id), devices.view(database, sign_id)
+    return Overview(sign, picture, sign.is_stale(now), commands, stands, device, now)
 
 
 async def overview(request: web.Request) -> web.Response:
@@ -58,6 +61,7 @@ def parts(service: Service, database: Database, sign_id: int) -> dict[str, str]:
     return {
         "shown": service.part("parts.html", "shown", found),
         "commands": service.part("parts.html", "commands", found),
+        "device": service.part("parts.html", "device", found),
     }
 
 

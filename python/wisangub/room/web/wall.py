@@ -15,7 +15,7 @@ from .service import Service, rights_of, service_of
 
 _WIDE = 160  # columns of a matrix that takes two places
 PAGE = 100  # signs of a page
-_STATES = ("lit", "blank", "busy", "silent")
+STATES = ("lit", "blank", "busy", "silent")
 
 
 @dataclass(frozen=True)
@@ -78,7 +78,7 @@ class Wanted:
         page, show = request.query.get("page", "1"), request.query.get("show", "")
         if not page.isascii() or not page.isdigit() or len(page) > 6:
             raise web.HTTPBadRequest(text="A page is a number.")
-        return Wanted(request.query.get("find", "").strip()[:100], show if show in _STATES else "", int(page))
+        return Wanted(request.query.get("find", "").strip()[:100], show if show in STATES else "", int(page))
 
     def takes(self, card: Card, groups_of: list[str]) -> bool:
         text = plain_of(card.sign.shown.text) if card.sign.shown else ""

@@ -8,7 +8,13 @@ from wisangub.snmp.names import Memory, RowStatus
 
 NO_END = 65535
 STATUSES = {status.value: status.name.lower().replace("_", " ") for status in RowStatus if status <= RowStatus.ERROR}
-ALARMS = {"silent": "silent", "error": "in error", "other": "not ours", "failed": "command failed"}
+ALARMS = {
+    "silent": "silent",
+    "error": "in error",
+    "other": "not ours",
+    "failed": "command failed",
+    "device": "device fault",
+}
 _MEMORIES: dict[int, str] = {
     Memory.PERMANENT: "permanent",
     Memory.CHANGEABLE: "changeable",
@@ -165,6 +171,11 @@ class Clock:
         held = self.moment(at)
         is_today = held.date() == self.moment(now).date()
         return held.strftime("%H:%M:%S %Z" if is_today else "%Y-%m-%d %H:%M:%S %Z")
+
+    def begins(self, day: datetime.date) -> float:
+        """When a day begins."""
+        midnight = datetime.datetime.combine(day, datetime.time())
+        return (midnight.astimezone() if self.zone is None else midnight.replace(tzinfo=self.zone)).timestamp()
 
     def iso(self, at: float) -> str:
         return self.moment(at).isoformat(timespec="seconds")

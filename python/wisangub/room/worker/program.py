@@ -34,6 +34,8 @@ def _arguments() -> argparse.ArgumentParser:
         metavar="SECONDS",
         help="after which another worker goes on where this one fell silent",
     )
+    words = f"lines of a centre after which an idle sign gets a new one; else {Pace.lines}"
+    parser.add_argument("--centre-lines", type=int, default=Pace.lines, metavar="NUMBER", help=words)
     return parser
 
 
@@ -78,7 +80,7 @@ def main() -> int:
     options.need("wisangub.room.worker.program", asked.database)
     signs, waiting = fleet.read(asked.fleet), Waiting()
     fleet.tell_open(signs)
-    pace, words = Pace(asked.tick, asked.lease), f"a worker of {len(signs)} signs"
+    pace, words = Pace(asked.tick, asked.lease, lines=asked.centre_lines), f"a worker of {len(signs)} signs"
     _work(asked.database, asked.create, asked.signtool, signs, waiting, asked.alarms, pace, words)
     return 0
 

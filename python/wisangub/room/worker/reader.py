@@ -1,4 +1,5 @@
-"""What a worker reads: what signs show, their tables, and what they found wrong with a message; alarms, and plans.
+"""What a worker reads: what signs show, their tables, what they say of themselves, and what they found wrong with a
+message; alarms, and plans.
 
 In a thread of its own, over a connection of its own, so that lines do not wait for it. A worker without one has it do
 its work between two rounds.
@@ -16,6 +17,7 @@ from wisangub.room.store.database import Failed, Taken
 from wisangub.room.store.store import Store
 from wisangub.snmp.mib import Mib
 
+from .devices import Devices
 from .gets import Gets
 from .readings import Readings
 from .tables import Tables
@@ -32,6 +34,7 @@ class Reader:
         self.gets = Gets()
         self.readings = Readings(store, signs, self.gets, most)
         self.tables = Tables(store, signs, self.gets)
+        self.devices = Devices(store, signs, self.gets)
         self.verdicts = Verdicts(store, signs, self.gets, mib, program)
         self.next_look, self.next_alarms, self.next_plans = 0.0, time.monotonic() + EVERY, 0.0
         self.failing: float | None = None  # since when
@@ -82,9 +85,11 @@ class Reader:
         """Keeps what was said, and asks for what is due."""
         self.readings.keep()
         self.tables.keep()
+        self.devices.keep()
         self.verdicts.keep()
         self.readings.begin()
         self.tables.begin()
+        self.devices.begin()
         self.verdicts.begin()
         self.gets.again()
         if time.monotonic() >= self.next_alarms:

@@ -17,7 +17,7 @@ from wisangub.snmp.mib import Mib
 
 from .carry import Offer, carry
 from .reader import Reader
-from .session import Left, Lost, Session
+from .session import MOST_LINES, Left, Lost, Session
 from .where import Where
 
 _BEGUN_AT_ONCE = 16  # sessions that are begun in one round, so that those that stand are not kept waiting
@@ -26,13 +26,14 @@ _BEGUN_AT_ONCE = 16  # sessions that are begun in one round, so that those that 
 @dataclass(frozen=True)
 class Pace:
     """Seconds from tick to tick, of a lease, from one look for work to the next; signs driven at once, and readings;
-    seconds from one lookup of a name to the next."""
+    seconds from one lookup of a name to the next; lines of a centre after which an idle sign gets a new one."""
 
     tick: float = 1.0
     lease: float = 10.0
     look: float = 0.2
     most: int = 200
     again: float = AGAIN
+    lines: int = MOST_LINES
 
 
 class Worker:
@@ -197,6 +198,7 @@ class Worker:
         ends."""
         try:
             session = Session(self.store, sign_id, self.signs[sign_id], self.name, self.program, self.mib, left)
+            session.most_lines = self.pace.lines
             self.sessions[sign_id], self.ticks[sign_id] = session, time.monotonic() + self.pace.tick
             self.reader.verdicts.want(sign_id, session.taken_in_error())
         except Lost:

@@ -67,6 +67,7 @@ class Session:
     command: Command | None = None
     out: bytes | None = None
     is_busy = is_ticked = False
+    most_lines = MOST_LINES
     in_error: Command | None = None  # that ended since the sign found its row in error
 
     def __init__(
@@ -162,7 +163,7 @@ class Session:
             command = self.store.commands.next(self.sign_id)
         if command is None:
             return None
-        if self.count >= MOST_LINES:
+        if self.count >= self.most_lines:
             head = dataclasses.replace(self.head, first=above(self.head, self.count))
             return Line(self.sign_id, self.number, head.line(), is_first=True)
         for _ in range(_MOST_LATE):  # what comes while no job is under way answers nothing
@@ -198,7 +199,8 @@ class Session:
         """What is new in the ledger, and how a command ended: from the answer to a `status` that was handed over."""
         is_busy, last, *ledger = [line.decode("latin-1") for line in self.process.until(b"ok")]
         self.is_busy = is_busy == "busy"
-        news = News(self.sign_id, [line for line in ledger if line not in self.ledger])
+        of = None if self.command is None else self.command.id
+        news = News(self.sign_id, [line for line in ledger if line not in self.ledger], of)
         self.ledger = set(ledger)
         if self.command is not None and not self.is_busy:
             is_refused = answer.split(" ")[0] in ("refused", "bad")

@@ -133,6 +133,21 @@ purpose.addEventListener("change", () => {
 for (const field of byHand) field.addEventListener("input", () => { purpose.value = ""; });
 document.getElementById("minutes").addEventListener("input", () => { document.getElementById("lasts").checked = true; });
 document.getElementById("tools").hidden = false;
+const narrow = document.getElementById("narrow"); // among many signs: those that are chosen stay to be seen
+const choice = [...document.querySelectorAll("#choice li")];
+function narrowed() {
+  const words = narrow.value.trim().toLowerCase();
+  let count = 0;
+  for (const one of choice) {
+    const isLike = one.dataset.words.toLowerCase().includes(words);
+    one.hidden = !isLike && !one.querySelector("input").checked;
+    count += isLike;
+  }
+  document.getElementById("found").textContent = words ? count + " of " + choice.length + " signs" : "";
+}
+document.getElementById("narrowing").hidden = choice.length < 12;
+narrow.addEventListener("input", narrowed);
+narrow.addEventListener("keydown", (event) => { if (event.key === "Enter") event.preventDefault(); });
 for (const button of document.querySelectorAll("[data-put]")) button.addEventListener("click", () => insert(button));
 for (const button of document.querySelectorAll("[data-text]")) {
   button.addEventListener("click", () => { text.value = button.dataset.text; text.focus(); soon(); });

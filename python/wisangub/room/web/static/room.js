@@ -70,11 +70,22 @@ function replace(name, html) {
   const fresh = made.content.firstElementChild;
   if (!old || !fresh) return;
   hold(fresh);
+  label(fresh.parentNode);
   const had = old.contains(document.activeElement) ? nameOf(document.activeElement) : "";
   become(old, fresh);
   if (had && document.activeElement === body) {
     const again = [...document.getElementById(name).querySelectorAll("a")].find((one) => nameOf(one) === had);
     if (again) again.focus();
+  }
+}
+
+// On a small screen a row of a table is a list: each cell says what it is of.
+function label(within) {
+  for (const table of within.querySelectorAll("table")) {
+    const names = [...table.querySelectorAll("thead th")].map((one) => one.querySelector(".hidden") ? "" : one.textContent.trim());
+    for (const row of table.querySelectorAll("tbody tr")) {
+      [...row.children].forEach((cell, at) => { if (names[at] && cell.colSpan === 1) cell.dataset.label = names[at]; });
+    }
   }
 }
 
@@ -150,6 +161,12 @@ if (find) {
   document.addEventListener("keydown", (event) => {
     const isWriting = event.target.matches("input, textarea, select");
     if (event.key === "/" && !isWriting) { event.preventDefault(); find.focus(); }
+    // Enter on the box of a sign composes for the chosen; it would look for signs, whose button is the form's first
+    const send = find.form.querySelector("button.main");
+    if (event.key === "Enter" && event.target.name === "sign" && send) {
+      event.preventDefault();
+      find.form.requestSubmit(send);
+    }
   });
   const all = document.getElementById("all");
   if (all) {
@@ -171,6 +188,7 @@ if (still) {
   try { kept = localStorage.getItem("still"); } catch (fault) { /* a browser may keep nothing */ }
   if (kept) setStill(true);
 }
+label(document);
 tellAges();
 setInterval(tellAges, 1000);
 if (body.dataset.view) listen(body.dataset.view);

@@ -1,0 +1,73 @@
+"""Pages of archives: what was in the database once, for administrators."""
+
+import pathlib
+
+from . import needs
+
+needs.modules("aiohttp", "jinja2")
+
+from wisangub.room.store import retention
+
+from .test_pages import MARKUP, filled
+from .visits import READER, WRITER, Bench, Visitors, run
+
+AGO = 500.0 * 86_400
+
+
+def archived(bench: Bench, folder: pathlib.Path) -> None:
+    """An archive of a room in which much has happened, with markup wherever it may be."""
+    filled(bench)
+    held = bench.store.database
+    held.run("UPDATE commands SET outcome = 'accepted', ended = {clock}")
+    bench.store.commands.end(bench.store.commands.ask(bench.one, "operator", "blank 1 65535 255 192.0.2.1"), "accepted")
+    bench.read(bench.one, -7, text=b"LATER".hex())
+    for table, column in (("audit", "at"), ("commands", "ended"), ("readings", "heard"), ("readings", "at")):
+        held.run(f"UPDATE {table} SET {column} = {column} - ?", AGO)
+    folder.mkdir()
+    retention.write(held, folder / "old.gz", 400 * 86_400)
+    retention.take_out(held, folder / "old.gz", "a test")
+    (folder / "none.gz").write_bytes(b"nothing")
+    (folder / "other.txt").write_text("other")
+
+
+def test_what_an_archive_has(tmp_path: pathlib.Path, where: str) -> None:
+    folder = tmp_path / "archives"
+
+    async def act(bench: Bench, visitor: Visitors) -> None:
+        archived(bench, folder)
+        one = await bench.logged_in(visitor, "administrator")
+        text = (await one.get("/archives"))[1]
+        assert 'href="/archives/old.gz"' in text and "none.gz is damaged, or no archive" in text and "other" not in text
+        pages = {kind: (await one.get(f"/archives/old.gz?kind={kind}"))[1] for kind in ("command", "audit", "reading")}
+        for text in pages.values():
+            assert "<script>alert" not in text and "<b>two" not in text
+            assert not any(word in text for word in (READER, WRITER, READER.encode().hex(), WRITER.encode().hex()))
+        assert "&lt;script&gt;" in pages["command"] and "accepted" in pages["command"]
+        assert "is added" in pages["audit"] and "&lt;script&gt;" in pages["reading"]
+        for query, is_there in (
+            (f"kind=command&sign={bench.one}", True),
+            (f"kind=command&sign={bench.two}", False),
+            ("kind=command&find=ALERT", True),
+            ("kind=reading&find=alert", True),
+            ("kind=command&find=nowhere", False),
+            ("kind=command&after=1", False),
+        ):
+            text = (await one.get(f"/archives/old.gz?{query}"))[1]
+            assert ("&lt;script&gt;" in text) == is_there and ("Nothing is like this" in text) != is_there, query
+        for wrong in ("old.gz?kind=line", "other", "..%2fdatabase", ".hidden", "other.txt?kind=x"):
+            assert (await one.get(f"/archives/{wrong}"))[0] == 404, wrong
+        assert (await one.get("/archives/none.gz"))[0] == 422
+        assert "archives</a>" in (await one.get("/history"))[1] and "taken out" in (await one.get("/audit"))[1]
+        reader = await bench.logged_in(visitor, "operator")
+        assert (await reader.get("/archives/old.gz"))[0] == 403 and MARKUP not in (await reader.get("/history"))[1]
+
+    run(tmp_path, where, act, archives=str(folder))
+
+
+def test_without_a_folder(tmp_path: pathlib.Path) -> None:
+    async def act(bench: Bench, visitor: Visitors) -> None:
+        one = await bench.logged_in(visitor, "administrator")
+        assert "without --archives" in (await one.get("/archives"))[1]
+        assert (await one.get("/archives/old.gz"))[0] == 404 and "archives" not in (await one.get("/history"))[1]
+
+    run(tmp_path, str(tmp_path / "database"), act)

@@ -1,0 +1,91 @@
+"""History and audit as CSV (RFC 4180, in UTF-8): all that a page of them looks for, however much it is."""
+
+import csv
+import io
+from dataclasses import replace
+from typing import Any, Callable, Sequence
+
+from aiohttp import web
+
+from wisangub.room.store import history, queries
+from wisangub.room.store.audit import note
+from wisangub.room.store.database import Database
+from wisangub.room.store.history import AuditWanted, Entry
+from wisangub.room.store.queries import CommandView
+from wisangub.room.store.search import SLICE
+
+from . import words
+from .progress import because
+from .record_pages import Asked, wanted_of
+from .service import Service, service_of, visitor_of
+
+_COMMANDS = ("number", "asked", "sign", "who", "what", "text", "how", "outcome", "why", "ended")
+_ENTRIES = ("number", "at", "who", "what")
+_Slice = Callable[[Database, int | None], tuple[list[Sequence[Any]], int | None]]
+
+
+def _cell(value: Any) -> str:
+    """A cell. A word that a spreadsheet would take for a formula has an apostrophe before it."""
+    word = "" if value is None else str(value)
+    return f"'{word}" if word[:1] in ("=", "+", "-", "@", "\t", "\r") else word
+
+
+def _lines(rows: Sequence[Sequence[Any]]) -> bytes:
+    made = io.StringIO()
+    csv.writer(made).writerows([list(map(_cell, row)) for row in rows])
+    return made.getvalue().encode()
+
+
+def _command(service: Service, one: CommandView) -> Sequence[Any]:
+    line, time = words.asked(one.line), service.clock.iso
+    ended = None if one.ended is None else time(one.ended)
+    text = words.text_of(line.text)
+    how, why = one.how or "", because(one) if one.how else ""
+    return one.id, time(one.at), one.sign_name, one.who, line.what, text, line.how, how, why, ended
+
+
+async def _exported(request: web.Request, name: str, columns: tuple[str, ...], slice_of: _Slice) -> web.StreamResponse:
+    """Slice after slice, each in a thread; that somebody took it stands in the audit."""
+    service, visitor, query = service_of(request), visitor_of(request), request.query_string[:200]
+    what = f"exported the {name}" + (f", {query}" if query else "")
+    await service.connections.run(lambda database: note(database, visitor.name, what))
+    answer = web.StreamResponse(headers={"Content-Type": "text/csv; charset=utf-8"})
+    answer.headers["Content-Disposition"] = f'attachment; filename="{name}.csv"'
+    await answer.prepare(request)
+    await answer.write(_lines([columns]))
+    before: int | None = None
+    while True:
+        after = before
+        rows, before = await service.connections.run(lambda database: slice_of(database, after))
+        await answer.write(_lines(rows))
+        if before is None:
+            return answer
+
+
+async def history_csv(request: web.Request) -> web.StreamResponse:
+    """The commands that the history looks for."""
+    service, asked = service_of(request), Asked.of(request)
+    wanted = replace(wanted_of(request, asked), most=SLICE)
+
+    def slice_of(database: Database, before: int | None) -> tuple[list[Sequence[Any]], int | None]:
+        found = queries.commands(database, replace(wanted, before=before))
+        rows = [_command(service, one) for one in found if asked.takes_command(one)]
+        return rows, found[-1].id if len(found) == SLICE else None
+
+    return await _exported(request, "history", _COMMANDS, slice_of)
+
+
+async def audit_csv(request: web.Request) -> web.StreamResponse:
+    """The lines that the page of the audit looks for."""
+    service, asked = service_of(request), Asked.of(request)
+    wanted = AuditWanted(asked.who, asked.since, asked.until, most=SLICE)
+
+    def row(entry: Entry) -> Sequence[Any]:
+        number, at, who, what = entry
+        return number, service.clock.iso(at), who, words.audit_words(what)
+
+    def slice_of(database: Database, before: int | None) -> tuple[list[Sequence[Any]], int | None]:
+        found = history.audited(database, replace(wanted, before=before))
+        return [row(one) for one in found if asked.takes_entry(one)], found[-1][0] if len(found) == SLICE else None
+
+    return await _exported(request, "audit", _ENTRIES, slice_of)
