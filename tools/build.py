@@ -20,9 +20,9 @@ from __future__ import annotations
 
 import argparse
 import os
-import signal
 import sys
 
+from building.ending import end_at_sigterm, raise_where_ended
 from building.libraries import give_all
 from building.plan import Plan
 from building.proofs import Proofs, proofs
@@ -56,6 +56,7 @@ def _give_rt(proofs: Proofs) -> None:
         busy = give_all(kit_program(proofs.kit), proofs)
         why = f"another one works in {busy}" if busy else ""
     except (Exception, SystemExit) as fault:  # another kit may have other names for all of this
+        raise_where_ended(fault)
         why = str(fault)
     if why:
         print(f"rt check does not begin over this: {why}", file=sys.stderr, flush=True)
@@ -67,7 +68,7 @@ def main() -> int:
     parser.add_argument("--processors", type=int, default=processors, help="how many are taken; else all")
     parser.add_argument("words", nargs="*", metavar="WORD", help="after --: what the program is run with")
     asked = parser.parse_args()
-    signal.signal(signal.SIGTERM, lambda *_: sys.exit(143))
+    end_at_sigterm()
     plan = Plan()
     status = _built(plan, max(1, asked.processors))
     if status == 0:

@@ -1,16 +1,29 @@
 #!/usr/bin/env python3
 """Which definitions a reader must believe: the files that each crate's specs/Lib.antt names first, and their lines.
 
-Without arguments it prints the table of docs/PROVED.md; with --check it fails where that has another."""
+Without arguments it prints the table of docs/PROVED.md; with --check it fails where that has another, and with --files
+it prints a line a crate: its name, its lines and its files."""
 import argparse
 import pathlib
+import re
 import sys
 from collections.abc import Iterator
+from typing import NamedTuple
 
 TOP = pathlib.Path(__file__).resolve().parent.parent
+_GROUP = re.compile(r"## ([a-z][a-z ]*): ")
 
 
-def _believed(crate: pathlib.Path) -> list[str]:
+class Believed(NamedTuple):
+    """The definitions of a crate."""
+
+    group: str
+    crate: str
+    files: list[str]
+    lines: int
+
+
+def _files(crate: pathlib.Path) -> list[str]:
     """The files under the first comment of Lib.antt, which says that a reader must believe them."""
     files: list[str] = []
     for line in (crate / "specs" / "Lib.antt").read_text().splitlines():
@@ -22,29 +35,45 @@ def _believed(crate: pathlib.Path) -> list[str]:
     return files
 
 
-def rows() -> Iterator[str]:
+def believed() -> Iterator[Believed]:
+    """The crates of crates.txt that have such definitions."""
+    group = ""
     for line in (TOP / "crates.txt").read_text().splitlines():
+        found = _GROUP.match(line)
+        group = found[1] if found else group
         name = line.split(":")[0].split()
         if not name or name[0].startswith("#"):
             continue
         crate = TOP / "crates" / name[0]
-        if not (crate / "specs" / "Lib.antt").is_file():
-            continue
-        files = _believed(crate)
-        if not files:
-            continue
-        lines = sum(len((crate / "specs" / f"{file}.antt").read_text().splitlines()) for file in files)
-        yield f"| {name[0]} | {', '.join(files)} | {lines} |"
+        files = _files(crate) if (crate / "specs" / "Lib.antt").is_file() else []
+        if files:
+            lines = sum(len((crate / "specs" / f"{file}.antt").read_text().splitlines()) for file in files)
+            yield Believed(group, name[0], files, lines)
+
+
+def table(crates: list[Believed]) -> str:
+    """A row a group, and one for all."""
+    rows = ["| group | its crates, each with its lines | lines |", "|---|---|---|"]
+    for group in dict.fromkeys(one.group for one in crates):
+        own = [one for one in crates if one.group == group]
+        words = ", ".join(f"{one.crate} {one.lines}" for one in own)
+        rows.append(f"| {group} | {words} | {sum(one.lines for one in own):,} |")
+    return "\n".join([*rows, f"| all | | {sum(one.lines for one in crates):,} |"])
 
 
 def main() -> None:
-    parser = argparse.ArgumentParser(description=__doc__)
-    parser.add_argument("--check", action="store_true", help="fails where docs/PROVED.md has another table")
-    only_checks = parser.parse_args().check
-    table = "\n".join(["| crate | files of specs/ | lines |", "|---|---|---|", *rows()])
-    if not only_checks:
-        print(table)
-    elif table not in (TOP / "docs/PROVED.md").read_text():
+    parser = argparse.ArgumentParser(description=__doc__, formatter_class=argparse.RawDescriptionHelpFormatter)
+    which = parser.add_mutually_exclusive_group()
+    which.add_argument("--check", action="store_true", help="fails where docs/PROVED.md has another table")
+    which.add_argument("--files", action="store_true", help="prints a line a crate, with its files")
+    asked = parser.parse_args()
+    crates = list(believed())
+    if asked.files:
+        for one in crates:
+            print(one.crate, one.lines, ", ".join(one.files))
+    elif not asked.check:
+        print(table(crates))
+    elif table(crates) not in (TOP / "docs/PROVED.md").read_text():
         sys.exit("docs/PROVED.md has another table of definitions; run tools/definitions.py")
 
 

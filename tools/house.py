@@ -3,6 +3,7 @@
 
     tools/house.py [--check | --all] [--top FOLDER] [BAR ..]
     tools/house.py --draw                                       draws docs/pictures/houses.svg by crates.txt
+    tools/house.py --links                                      has docs/MAP.md link to the lines of its names
 
 A bar is a name of tools/upkeep/bars.py, such as "links"; without names all of BARS are looked at. What is below a bar
 is printed with its file and line. With --all what is left for later is printed too, and fails. That no measure takes
@@ -13,7 +14,7 @@ import argparse
 import pathlib
 import sys
 
-from upkeep import drawing
+from upkeep import drawing, map_page
 from upkeep.bars import BARS, NOT_YET
 from upkeep.tree import Tree
 
@@ -32,6 +33,7 @@ def main() -> int:
     which.add_argument(
         "--draw", action="store_true", help="draws the houses, which wants Graphviz, and looks at nothing"
     )
+    which.add_argument("--links", action="store_true", help="writes the links of docs/MAP.md, and looks at nothing")
     parser.add_argument("--top", type=pathlib.Path, default=TOP, metavar="FOLDER", help="another repository")
     parser.add_argument("bars", nargs="*", metavar="BAR", help=f"one of: {', '.join(bar.name for bar in known)}")
     asked = parser.parse_args()
@@ -41,6 +43,9 @@ def main() -> int:
     tree = Tree(asked.top)
     if asked.draw:
         drawing.draw(tree)
+    if asked.links:
+        map_page.write(tree)
+    if asked.draw or asked.links:
         return 0
     failed = 0
     bars = [bar for bar in known if bar.name in asked.bars] or (known if asked.all else BARS)

@@ -11,7 +11,7 @@ import json
 import pathlib
 import sys
 
-from vector_cases import codes, datagrams, requests, scripts, texts
+from vector_cases import agents, codes, datagrams, requests, scripts, texts
 
 FOLDER = pathlib.Path(__file__).resolve().parent.parent / "vectors"
 _VERSION = 1  # of the form of the cases, which vectors/schema.json says
@@ -21,6 +21,7 @@ _FILES = {
     "codes": codes.cases,
     "requests": requests.cases,
     "scripts": scripts.cases,
+    "agents": agents.cases,
 }
 
 

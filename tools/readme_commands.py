@@ -6,8 +6,10 @@ Each block of `sh` that begins with `./signtool` or `cp` is run at a copy of sig
 where they are installed, and else skipped, which is said; with --short it is left out. With --signtool, another
 program that answers the lines of front ends, such as model/signtool, it is the one block that is run. A block without a
 language right after it is what its last command, or the whole block, prints. The two commands that prove,
-`tools/build.py` and the gate, are left to the gate. With --rattle nothing of this is run but the block of `rust`, which
-`rt try` compiles and runs in a crate of a copy, in some minutes; where no kit is here it is skipped.
+`tools/build.py` and the gate, are left to the gate. The contract that README shows has to stand in the sources as it
+is shown, its wrong line in the edit, and the clause that is left open in the contract. With --rattle nothing of this is
+run but the block of `rust` that a user would write, which `rt try` compiles and runs in a crate of a copy, in some
+minutes; where no kit is here it is skipped.
 """
 
 import argparse
@@ -49,8 +51,7 @@ def _with_snmp_tools(block: str, after: str, program: str, folder: str) -> bool:
     for name in ("bin", "mibs", "model", "python"):
         pathlib.Path(folder, name).symlink_to(TOP / name)
     whole = block.split("\n", 1)[1].replace("model/signtool", str(pathlib.Path(program).resolve()))
-    words = ["bash", "-c", f"shopt -s expand_aliases\n{whole}"]
-    ended = subprocess.run(words, cwd=folder, capture_output=True, text=True, timeout=120, check=False)
+    ended = subprocess.run(["bash", "-c", whole], cwd=folder, capture_output=True, text=True, timeout=120, check=False)
     well = ended.stdout == after
     if not well:
         print(f"{block}exit {ended.returncode}\n{ended.stdout}{ended.stderr}")
@@ -68,6 +69,35 @@ def _runs(block: str, after: str, folder: str) -> Iterator[bool]:
         if not well:
             print(f"{command}exit {ended.returncode}\n{ended.stdout}{ended.stderr}")
         yield bool(well)
+
+
+_CONTRACT = re.compile(
+    r"stands in (\S+)\. .*?```rust\n(.*?)```.*? as (\S+\.edit) does .*?"
+    r"```\n *(.*?)\nnote: (\S+?):(\d+):.*?`returns-in-Some-clause-(\w+)`",
+    re.DOTALL,
+)
+
+
+def _is_in_sources(text: str) -> bool:
+    """Whether the contract that README shows, and its wrong body, are those of the sources."""
+    found = _CONTRACT.search(text)
+    if not found:
+        print("README shows no contract")
+        return False
+    source, contract, edit, line, named, number, clause = found.groups()
+    lines = (TOP / source).read_text(encoding="utf-8").splitlines()
+    edited = (TOP / edit).read_text(encoding="utf-8").splitlines()
+    well = (
+        contract in "\n".join((*lines, ""))
+        and contract.splitlines()[0] in lines[int(number) - 1 : int(number) + 1]  # its attribute, or itself
+        and f"new: {line}" in edited
+        and f"file: {named}" in edited
+        and source.endswith(named)
+        and f"ensures {clause} " in contract
+    )
+    if not well:
+        print(f"README's contract or its wrong body differs from {source}, {edit}")
+    return well
 
 
 PROGRAM = """//! README's block.
@@ -135,7 +165,7 @@ def main() -> int:
         return 0 if all(results) else 1
     if not asked.program and not asked.signtool:
         parser.error(f"no program at {SIGNTOOL}: tools/build.py builds it")
-    results = []
+    results = [_is_in_sources(text)]
     with tempfile.TemporaryDirectory() as folder:
         if not asked.signtool:
             shutil.copy(asked.program, f"{folder}/signtool")

@@ -19,11 +19,11 @@ import contextlib
 import os
 import pathlib
 import shutil
-import signal
 import sys
 import tempfile
 from collections.abc import Iterator
 
+from building.ending import end_at_sigterm
 from building.kit import Kit
 from building.plan import Plan
 from building.proofs import Proofs, proofs
@@ -99,7 +99,7 @@ def main() -> int:
     asked, plan = parser.parse_args(), whole_plan()
     if asked.crate not in plan.crates:
         parser.error(f"crates.txt has no {asked.crate}")
-    signal.signal(signal.SIGTERM, lambda *_: sys.exit(143))
+    end_at_sigterm()
     return over_what_stands(plan, asked) if shutil.which("rt") else without_kit(plan, asked)
 
 

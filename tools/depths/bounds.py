@@ -82,14 +82,6 @@ BOUNDS = (
         ),
     ),
     Bound(
-        ("dms_sign_text::reasons::head_cause",),
-        8,
-        "a call for each line with which a description begins",
-        "crates/dms_sign_text/src/reasons.rt",
-        r"const HEAD: \[DescriptionLine; (\d+)\] =",
-        guards=(("crates/dms_sign_text/src/reasons.rt", "head_cause(&HEAD, Lines::of(octets))"),),
-    ),
-    Bound(
         ("dms_text_forms::form::fault_from",),
         12,
         "a call for each word that the form of a line has; publish, of the events of a script, has most",

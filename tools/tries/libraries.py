@@ -14,6 +14,7 @@ import tempfile
 from collections.abc import Iterable, Iterator
 from types import ModuleType
 
+from building.ending import raise_where_ended
 from building.kit import Kit
 from building.libraries import link_or_copy
 from building.plan import TOP, Plan
@@ -90,6 +91,7 @@ def gathered(plan: Plan, proofs: Proofs, room: pathlib.Path, wanted: set[str]) -
     try:
         count = of_gate(plan, proofs, wanted)
     except (Exception, SystemExit) as fault:  # another kit may have other names for all of this
+        raise_where_ended(fault)
         count = 0
         print(f"what `rt ci` kept cannot be read: {fault}", file=sys.stderr)
     if count < len(wanted):

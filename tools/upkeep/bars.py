@@ -3,7 +3,7 @@
 from collections.abc import Callable
 from dataclasses import dataclass
 
-from . import code, counts, crates, documents, drawing, families, rows, shipped, tools, words, wrong
+from . import code, counts, crates, documents, drawing, families, map_page, rows, shipped, tools, words, wrong
 from .tree import Tree
 
 
@@ -26,6 +26,7 @@ BARS = (
     Bar("rows of tables", documents.wide_rows),
     Bar("lengths of pages", documents.long_pages),
     Bar("links", documents.links),
+    Bar("links of the map", map_page.stale),
     Bar("crates are named", crates.named),
     Bar("houses are in one order", crates.ordered),
     Bar("families of crates", families.kept),
@@ -38,11 +39,11 @@ BARS = (
     Bar("a wrong body of each crate", wrong.owed),
     Bar("wrong bodies apply", wrong.applied),
     Bar("the drawing of the houses", drawing.drawn),
-    Bar("what stands on what", drawing.told),
     Bar("files that octets pass", drawing.passed),
     Bar("the list of tools", tools.in_list),
     Bar("tools can be called", tools.executable),
     Bar("tools have a help", tools.has_help),
+    Bar("options have a help", tools.has_words),
     Bar("rows of hexadecimal", rows.without_words),
     Bar("numbers of the page on tests", counts.stale),
     Bar("nothing is put off", words.put_off),

@@ -6,8 +6,9 @@ from collections.abc import Iterator
 from .tree import Tree
 
 WIDTH, ROW = 120, 200
-LONGEST = {"README.md": 180, "docs/MAP.md": 200}
+LONGEST = {"README.md": 200, "docs/MAP.md": 200}
 LINK = re.compile(r"\]\(([^)\s]+)\)")
+_SHOWN = re.compile(r"\[([^\]]*)\]\([^)\s]+\)")
 FENCE = "```"
 
 
@@ -39,12 +40,15 @@ def wide_lines(tree: Tree) -> list[str]:
 
 
 def wide_rows(tree: Tree) -> list[str]:
-    """Rows of tables of more than 200 columns."""
-    return [
-        f"{name}:{number}: a row of {len(line)} columns, {ROW} at most"
+    """Rows of tables of more than 200 columns, without the addresses of links."""
+    rows = (
+        (name, number, len(_SHOWN.sub(r"\1", line)))
         for name in tree.documents()
         for number, line in prose(tree, name)
-        if is_row(line) and len(line) > ROW
+        if is_row(line)
+    )
+    return [
+        f"{name}:{number}: a row of {columns} columns, {ROW} at most" for name, number, columns in rows if columns > ROW
     ]
 
 

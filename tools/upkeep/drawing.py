@@ -75,16 +75,6 @@ def drawn(tree: Tree) -> list[str]:
     return [f"{line} (tools/house.py --draw)" for line in found]
 
 
-def told(tree: Tree) -> list[str]:
-    """Rows of the page's table of crates that name other crates than those a crate stands on, nearest ones alone."""
-    rows = dict(re.findall(r"(?m)^\| (\w+) \| [^|\n]+ \| ([^|\n]*?) ?\|", tree.text(PAGE)))
-    return [
-        f"{PAGE}: {crate} stands on {', '.join(sorted(lowers)) or 'none'}"
-        for crate, lowers in nearest(tree).items()
-        if crate in rows and set(re.findall(r"\w+", rows[crate])) != lowers
-    ]
-
-
 def passed(tree: Tree) -> list[str]:
     """Files that the page says octets pass, and that are gone: of Rattle in the crate before them, or of Python."""
     _, _, section = tree.text(PAGE).partition(f"\n{BY_FILE}\n")

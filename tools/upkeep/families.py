@@ -1,14 +1,12 @@
-"""A bar of the crates' families: what crates.txt says of each crate, its name, and the page on the crates agree."""
+"""A bar of the crates' families: what crates.txt says of each crate, and its name."""
 
 import re
 
 from . import crates
 from .tree import Tree
 
-PAGE = "docs/ARCHITECTURE.md"
 _MOST_WORDS = 10
 _SAID = re.compile(r"# (?P<what>[^\[\]]+?)(?: \[(?P<apart>[^\[\]]+)\])?")
-_ROW = re.compile(r"(?m)^\| (?P<crate>\w+) \|[^|\n]*\|[^|\n]*\|(?P<apart>[^|\n]*)\|$")
 
 
 def families(tree: Tree) -> dict[str, list[str]]:
@@ -34,11 +32,6 @@ def said(tree: Tree) -> dict[str, tuple[str, str]]:
     return found
 
 
-def told(tree: Tree) -> dict[str, str]:
-    """Why each crate is apart, as the page's table has it."""
-    return {row["crate"]: row["apart"].strip() for row in _ROW.finditer(tree.text(PAGE))}
-
-
 def _of_names(tree: Tree) -> list[str]:
     """Crates whose name is that of no family of their house, and families without a crate of their name."""
     by_house, houses = families(tree), crates.houses(tree)
@@ -52,9 +45,8 @@ def _of_names(tree: Tree) -> list[str]:
 
 
 def _of_words(tree: Tree) -> list[str]:
-    """Crates of which crates.txt says nothing or too much, or not why they are apart, or another reason than the
-    page."""
-    known, reasons = [name for names in families(tree).values() for name in names], told(tree)
+    """Crates of which crates.txt says nothing or too much, or not why they are apart."""
+    known = [name for names in families(tree).values() for name in names]
     found = []
     for crate, (what, apart) in said(tree).items():
         is_part = crate not in known and not crates.is_tests(crate)
@@ -62,8 +54,6 @@ def _of_words(tree: Tree) -> list[str]:
             found.append(f"{crates.LIST}: what {crate} is, in one to {_MOST_WORDS} words, does not stand above it")
         if is_part and not apart:
             found.append(f"{crates.LIST}: why {crate} is apart does not stand above it, in brackets")
-        if reasons.get(crate) != apart:
-            found.append(f"{PAGE}: {crate} is apart for '{reasons.get(crate, '')}'; in {crates.LIST} for '{apart}'")
     return found
 
 

@@ -7,7 +7,7 @@ from collections.abc import Iterator
 from .tree import Tree
 
 FOLDER = "python/wisangub/"
-_PACKAGES = {"aiohttp", "jinja2", "markupsafe", "psycopg", "rich"}
+_PACKAGES = {"aiohttp", "jinja2", "markupsafe", "prometheus_client", "psycopg", "rich"}
 _KNOWN = set(sys.stdlib_module_names) | _PACKAGES | {"wisangub"}
 
 

@@ -1,6 +1,8 @@
 """Bars of the tools: each is in the one list, can be called, and says what it is."""
 
+import ast
 import re
+from collections.abc import Iterator
 
 from .tree import Tree
 
@@ -45,6 +47,25 @@ def has_help(tree: Tree) -> list[str]:
             r"ArgumentParser\(|--help|from \.cli import main|import main\b|import run\b|def run\(", tree.text(name)
         )
         and "options(__doc__" not in tree.text(name)
+    ]
+
+
+def _wordless(text: str) -> Iterator[tuple[int, str]]:
+    """The arguments of a program of Python that have no help, each with its line."""
+    for call in ast.walk(ast.parse(text)):
+        if isinstance(call, ast.Call) and isinstance(call.func, ast.Attribute) and call.func.attr == "add_argument":
+            names = [word.value for word in call.args if isinstance(word, ast.Constant)]
+            if names and all(keyword.arg != "help" for keyword in call.keywords):
+                yield call.lineno, str(names[0])
+
+
+def has_words(tree: Tree) -> list[str]:
+    """Options of programs of Python of which their help says nothing."""
+    return [
+        f"{name}:{line}: {option} has no help"
+        for name in tree.names
+        if name.endswith(".py") and ".add_argument(" in tree.text(name)
+        for line, option in _wordless(tree.text(name))
     ]
 
 

@@ -7,12 +7,12 @@ import sys
 from collections.abc import Iterator
 
 TOP = pathlib.Path(__file__).resolve().parents[3]
-SCRIPT = (TOP / "tools/release.sh").read_text(encoding="utf-8")
+SCRIPT = (TOP / "tools/release/trees.sh").read_text(encoding="utf-8")
 PACKAGES = ["python/wisangub"]
 
 
 def files() -> list[pathlib.Path]:
-    """The Python of a release, as tools/release.sh copies it."""
+    """The Python of a release, as tools/release/trees.sh copies it."""
     found = []
     for package in PACKAGES:
         assert f'"$source"/{package} ' in SCRIPT, package

@@ -55,5 +55,5 @@ def test_nothing_else_of_the_kit_is_linked() -> None:
 
 
 def test_a_release_has_them() -> None:
-    assert '"$source"/licences' in (TOP / "tools/release.sh").read_text(encoding="utf-8")
+    assert '"$source"/licences' in (TOP / "tools/release/trees.sh").read_text(encoding="utf-8")
     assert "../licences/" in (TOP / "examples/Makefile").read_text(encoding="utf-8")

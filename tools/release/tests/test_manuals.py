@@ -14,6 +14,7 @@ PYTHON = [sys.executable]
 COMMANDS = {
     "wisangub-sign": [[*PYTHON, "bin/wisangub-sign"]],
     "wisangub-centre": [[*PYTHON, "bin/wisangub-centre"]],
+    "wisangub-objects": [[*PYTHON, "bin/wisangub-objects"]],
     "wisangub-conform": [[*PYTHON, "bin/wisangub-conform"]],
     "wisangub-control": [[*PYTHON, "bin/wisangub-control"]],
 }
@@ -40,7 +41,8 @@ def in_manual(name: str) -> set[str]:
 @pytest.mark.parametrize("name", COMMANDS)
 def test_options(name: str) -> None:
     wanted = set().union(*(options(said(words)) for words in COMMANDS[name]))
-    more = {"port", "seconds", "characters", "by-texts"} if name == "wisangub-conform" else set()  # those of its parts
+    parts = {"port", "seconds", "characters", "by-texts", "into", "jobs"}  # those of the parts of wisangub-conform
+    more = parts if name == "wisangub-conform" else set()
     assert wanted == in_manual(name) - more
 
 

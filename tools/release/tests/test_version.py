@@ -2,6 +2,7 @@
 
 import pathlib
 import re
+import subprocess
 import sys
 
 import pytest
@@ -34,6 +35,17 @@ def test_the_header_for_c_is_of_this_version() -> None:
     assert set(re.findall(r"wisangub_[0-9]\w+", rust)) == set(names)
     python = (TOP / "examples/from_python.py").read_text(encoding="utf-8")
     assert re.findall(r'(?m)^VERSION = "(.*?)"', python) == [version()]
+
+
+@pytest.mark.parametrize(("command", "folder"), [("wisangub-conform", "tester"), ("wisangub-control", "room")])
+def test_each_part_of_a_command_says_it(command: str, folder: str) -> None:
+    text = (TOP / f"python/wisangub/{folder}/__main__.py").read_text(encoding="utf-8")
+    parts = re.findall(r'(?m)^    "(\w+)": "wisangub\.', text)
+    assert len(parts) > 4
+    for part in parts:
+        call = [sys.executable, str(TOP / "bin" / command), part, "--version"]
+        ended = subprocess.run(call, capture_output=True, text=True, timeout=60, check=True)
+        assert ended.stdout == f"{command} {part} {version()}\n"
 
 
 def test_one_place(tmp_path: pathlib.Path) -> None:

@@ -40,8 +40,8 @@ def test_rows(made: MakesTree) -> None:
 
 
 def test_lengths(made: MakesTree) -> None:
-    tree = made(README_md="a\n" * 181, docs__MAP_md="a\n" * 200)
-    assert documents.long_pages(tree) == ["README.md: 181 lines, 180 at most"]
+    tree = made(README_md="a\n" * 201, docs__MAP_md="a\n" * 200)
+    assert documents.long_pages(tree) == ["README.md: 201 lines, 200 at most"]
 
 
 def test_links(made: MakesTree) -> None:
@@ -141,12 +141,6 @@ def test_drawing(made: MakesTree) -> None:
     ]
 
 
-def test_stands_on(made: MakesTree) -> None:
-    rows = "| **Low** | | |\n| first | does this | |\n| second | does that | third |\n| third | more | second |\n"
-    tree = made(crates_txt=LISTED, docs__ARCHITECTURE_md=rows)
-    assert drawing.told(tree) == ["docs/ARCHITECTURE.md: second stands on first"]
-
-
 def test_passed(made: MakesTree) -> None:
     passed = "- room/send.py -> first way.rt and\n  far/end.rt -> second gone.rt\n"
     page = f"### File by file\n\n{passed}\n## More\n\nother.rt\n"
@@ -159,6 +153,12 @@ def test_passed(made: MakesTree) -> None:
     assert drawing.passed(made(docs__ARCHITECTURE_md="# Crates\n")) == [
         "docs/ARCHITECTURE.md: no section `### File by file`"
     ]
+
+
+def test_options(made: MakesTree) -> None:
+    lines = ('parser.add_argument("--told", help="what it does")', 'parser.add_argument(\n    "--port", type=int)')
+    tree = made(tools__one_py="\n".join(lines) + "\n", tools__other_py="pass\n")
+    assert tools.has_words(tree) == ["tools/one.py:2: --port has no help"]
 
 
 def test_tools(made: MakesTree, tmp_path: pathlib.Path) -> None:

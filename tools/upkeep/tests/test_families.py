@@ -1,4 +1,4 @@
-"""Families of crates: names, what crates.txt says of each, and the page's column."""
+"""Families of crates: names, and what crates.txt says of each."""
 
 import pathlib
 
@@ -25,23 +25,10 @@ sign_access: wire
 # the controller
 sign: sign_access
 """
-PAGE = """| crate | does | stands on | why apart |
-|---|---|---|---|
-| **Octets** | | | |
-| wire_ber | elements | | clock |
-| wire | messages | wire_ber | |
-| codes | numbers | | |
-| wire_tests | tests | codes, wire | |
-| **Sign** | | | |
-| sign_access | what can be set | wire | a centre sets nothing |
-| sign | the controller | sign_access | |
-"""
 
 
-def made(top: pathlib.Path, listed: str = LISTED, page: str = PAGE) -> Tree:
-    (top / "docs").mkdir(exist_ok=True)
+def made(top: pathlib.Path, listed: str = LISTED) -> Tree:
     (top / "crates.txt").write_text(listed, encoding="utf-8")
-    (top / families.PAGE).write_text(page, encoding="utf-8")
     return Tree(top)
 
 
@@ -60,9 +47,8 @@ def test_what_agrees_is_kept(tmp_path: pathlib.Path) -> None:
 def test_a_name_begins_with_a_family_of_its_house(tmp_path: pathlib.Path) -> None:
     assert families.family("sign_text_tests", ["sign", "sign_text", "sign_te"]) == "sign_text"
     assert families.family("signtool", ["sign"]) is None
-    page = PAGE.replace("wire_ber", "ber").replace("sign_access", "wire_access")
     listed = LISTED.replace("wire_ber", "ber").replace("sign_access", "wire_access")
-    assert families.kept(made(tmp_path, listed, page)) == [
+    assert families.kept(made(tmp_path, listed)) == [
         "crates.txt: ber begins with none of wire, codes",
         "crates.txt: wire_access begins with none of sign",
     ]
@@ -79,12 +65,8 @@ def test_each_crate_is_said_in_ten_words(tmp_path: pathlib.Path) -> None:
     assert changed(tmp_path, "# messages\n", f"# {'word ' * 9}word\n") == []
 
 
-def test_what_is_apart_says_why_and_the_page_too(tmp_path: pathlib.Path) -> None:
+def test_what_is_apart_says_why(tmp_path: pathlib.Path) -> None:
     assert changed(tmp_path, " [clock]", "") == [
-        "crates.txt: why wire_ber is apart does not stand above it, in brackets",
-        "docs/ARCHITECTURE.md: wire_ber is apart for 'clock'; in crates.txt for ''",
+        "crates.txt: why wire_ber is apart does not stand above it, in brackets"
     ]
-    other = "docs/ARCHITECTURE.md: wire_ber is apart for 'clock'; in crates.txt for 'no reason'"
-    assert changed(tmp_path, "[clock]", "[no reason]") == [other]
-    gone = families.kept(made(tmp_path, page=PAGE.replace("| wire_ber | elements | | clock |\n", "")))
-    assert gone == ["docs/ARCHITECTURE.md: wire_ber is apart for ''; in crates.txt for 'clock'"]
+    assert changed(tmp_path, "[clock]", "[no reason]") == []
