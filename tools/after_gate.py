@@ -7,7 +7,12 @@
 A step is a row of STEPS: its name, its command, the seconds after which it is stopped and counted as failed, and what
 it needs beside bash, Python and a C compiler. Steps run side by side, one a processor. A step that lacks something is
 skipped, and so is what a step says that it skipped, in a line `skipped NAME: why`. Of a step that fails the output is
-shown. The last two lines are `N skipped: names` and `N passed, N failed`; the exit status is 0 where nothing failed.
+shown. One that goes by a clock and fails beside the others runs once more, alone, and that counts: both are shown, and
+a line `alone: names` says which steps passed alone only.
+
+The last two lines are `N skipped: names` and `N passed, N failed`; a line `failed: names` stands before them where a
+step failed. The exit status is 0 where nothing failed, 9 where what ran before did or there is no program, and else 10
+and the place of the first step that failed, from 1 in the order of --list: a log that was cut still tells which.
 """
 
 from __future__ import annotations
@@ -16,7 +21,7 @@ import argparse
 import os
 import sys
 
-from steps.step import COUNTS, TOP, Outcome, Step, totals
+from steps.step import COUNTS, TOP, Outcome, Step, run, totals
 from steps.together import adopt_orphans, end_children, ended
 
 STEPS = (
@@ -46,15 +51,36 @@ STEPS = (
     Step("worked rows", "tools/worked_rows.py --check", 60),
     Step("vectors as made", "tools/make_vectors.py --check", 120),
 )
+BY_THE_CLOCK = ("README's commands", "lasting", "conformance", "library for C", "control room", "tests of tools, types")
+_BEFORE, _FIRST = 9, 11  # the exit status where what ran before failed, or the first step
 
 
-def _outcomes(steps: list[Step], program: str) -> list[Outcome]:
-    """Runs the steps, those that may take longest first, and says of each how it went once it has ended."""
-    found = []
-    for _, outcome in ended(steps, program, len(os.sched_getaffinity(0))):
-        found.append(outcome)
+def _outcomes(steps: list[Step], program: str) -> dict[str, Outcome]:
+    """Runs the steps, those that may take longest first, and says of each how it went once it has ended; then those
+    that go by a clock and failed, alone."""
+    found = {}
+    for step, outcome in ended(steps, program, len(os.sched_getaffinity(0))):
+        found[step.name] = outcome
         print(outcome.said, flush=True)
+    again = [step for step in steps if found[step.name].failed and step.name in BY_THE_CLOCK]
+    for step in again:
+        found[step.name] = run(step, program)
+        print(f"alone, {found[step.name].said}", flush=True)
+    passed = [step.name for step in again if not found[step.name].failed]
+    if passed:
+        print(f"alone: {', '.join(passed)}")
     return found
+
+
+def _told(before: list[Outcome], found: dict[str, Outcome]) -> int:
+    """Says which steps failed, and the counts of all; the exit status."""
+    names = [step.name for step in STEPS]
+    failed = [name for name in names if name in found and found[name].failed]
+    if failed:
+        print(f"failed: {', '.join(failed)}")
+    if not totals([*before, *found.values()]):
+        return 0
+    return _FIRST + names.index(failed[0]) if failed else _BEFORE
 
 
 def main() -> int:
@@ -77,16 +103,17 @@ def main() -> int:
     if len(steps) < len(set(asked.steps)):
         parser.error("there is no such step: --list names all")
     adopt_orphans()
-    before = [COUNTS.search(line) for line in asked.gate]
+    lines = [COUNTS.search(line) for line in asked.gate]
     # what printed no counts did not come to its end
-    found = [Outcome(int(counts[1]), int(counts[2])) if counts else Outcome(failed=1) for counts in before]
+    before = [Outcome(int(counts[1]), int(counts[2])) if counts else Outcome(failed=1) for counts in lines]
+    found = {}
     if os.access(asked.program, os.X_OK):
-        found += _outcomes(steps, os.path.abspath(asked.program))
+        found = _outcomes(steps, os.path.abspath(asked.program))
     else:
-        found.append(Outcome(failed=1))
+        before.append(Outcome(failed=1))
         print(f"there is no program at {asked.program}: `rt ci` leaves it there, and so does tools/build.py")
     end_children()
-    return totals(found)
+    return _told(before, found)
 
 
 if __name__ == "__main__":

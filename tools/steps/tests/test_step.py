@@ -94,7 +94,7 @@ def test_totals_are_the_last_two_lines(capsys: pytest.CaptureFixture[str]) -> No
 def test_the_gate_counts_what_ran_before_and_needs_a_program() -> None:
     words = [sys.executable, "tools/after_gate.py", "--gate", "464 passed, 0 failed", "--gate", "killed"]
     call = subprocess.run([*words, "--program", "/no/program"], cwd=TOP, capture_output=True, text=True, check=False)
-    assert call.returncode == 1
+    assert call.returncode == 9
     assert call.stdout.splitlines()[-2:] == ["0 skipped: none", "464 passed, 2 failed"]
 
 
