@@ -103,7 +103,7 @@ def with_ports(words: str, ports: dict[str, str]) -> str:
 
 
 def test_the_lines_of_install(tmp_path: pathlib.Path) -> None:
-    first, second = blocks("\n## Install\n", "\n| option | means |")
+    first, second = blocks("\n## Install\n", "\n**A fleet**")
     fleet = (TOP / "signs/fleet.toml").read_text(encoding="utf-8").replace('"roadside', '"signs/roadside')
     with shell(tmp_path) as at:
         (tmp_path / "FLEET.toml").write_text(fleet.replace('"gantry', '"signs/gantry'), encoding="utf-8")
