@@ -1,8 +1,8 @@
 #!/usr/bin/env python3
 """Which definitions a reader must believe: the files that each crate's specs/Lib.antt names first, and their lines.
 
-Without arguments it prints the table of docs/PROVED.md; with --check it fails where that has another, and with --files
-it prints a line a crate: its name, its lines and its files."""
+Without arguments it prints a table of them, and their counts as docs/PROVED.md has them; with --check it fails where
+that has others, and with --files it prints a line a crate: its name, its lines and its files."""
 import argparse
 import pathlib
 import re
@@ -61,10 +61,17 @@ def table(crates: list[Believed]) -> str:
     return "\n".join([*rows, f"| all | | {sum(one.lines for one in crates):,} |"])
 
 
+def counts(crates: list[Believed]) -> str:
+    """The lines of each group, and of all, in the words of the page."""
+    groups = dict.fromkeys(one.group for one in crates)
+    lines = (f"{group} {sum(one.lines for one in crates if one.group == group):,}" for group in groups)
+    return f"{', '.join(lines)}; in all {sum(one.lines for one in crates):,}."
+
+
 def main() -> None:
     parser = argparse.ArgumentParser(description=__doc__, formatter_class=argparse.RawDescriptionHelpFormatter)
     which = parser.add_mutually_exclusive_group()
-    which.add_argument("--check", action="store_true", help="fails where docs/PROVED.md has another table")
+    which.add_argument("--check", action="store_true", help="fails where docs/PROVED.md has other counts")
     which.add_argument("--files", action="store_true", help="prints a line a crate, with its files")
     asked = parser.parse_args()
     crates = list(believed())
@@ -73,8 +80,9 @@ def main() -> None:
             print(one.crate, one.lines, ", ".join(one.files))
     elif not asked.check:
         print(table(crates))
-    elif table(crates) not in (TOP / "docs/PROVED.md").read_text():
-        sys.exit("docs/PROVED.md has another table of definitions; run tools/definitions.py")
+        print(counts(crates))
+    elif counts(crates) not in " ".join((TOP / "docs/PROVED.md").read_text().split()):
+        sys.exit("docs/PROVED.md has other counts of definitions; run tools/definitions.py")
 
 
 main()
