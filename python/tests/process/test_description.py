@@ -29,13 +29,10 @@ def test_a_description_ends_with_its_line_end_and_a_newline() -> None:
     assert description.BENCH == BENCH and description.digest(None) == "bench"
 
 
-def test_the_bench_sign_is_the_programs_own_and_that_of_the_profile() -> None:
+def test_the_bench_sign_is_the_programs_own() -> None:
     source = (TOP / "crates/dms_sign_text/src/bench_sign.rt").read_bytes()
     found = re.search(rb'pub const BENCH: &str = "([^"]*)";', source)
     assert found and found[1] == BENCH
-    page = (TOP / "docs/PROFILE.md").read_text(encoding="utf-8").split("## The bench sign\n")[1]
-    lines = re.findall(r"(?m)^    (.*)$", page.split("\n## ")[0])
-    assert "".join(line + "\n" for line in lines).encode() == BENCH
 
 
 def test_what_is_no_description_is_refused_by_its_line() -> None:
