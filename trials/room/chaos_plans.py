@@ -27,6 +27,7 @@ class Plans:
         self.rows, self.chance = rows, chance
         self.numbers: list[int] = []
         self.asked = 0  # times that a plan was begun by hand
+        self.schedules = 0
         self.ends = 0.0  # when the last schedule does
 
     def line(self, at: int) -> str:
@@ -46,17 +47,21 @@ class Plans:
             lines = [(sign, self.line(at)) for sign in signs]
             self.numbers.append(plans.keep(store.database, f"plan {at}", lines, NAME))
         for at, plan in enumerate(self.numbers[:SCHEDULES]):
-            self.ends = now + FIRST + EVERY * at + LASTS
-            begins, ends = (_utc(self.ends - more) for more in (LASTS, 0))
-            store.database.run(  # in seconds, where a form has minutes
-                "INSERT INTO schedules (code, plan, author, first_day, last_day, days, begins, ends, zone)"
-                " VALUES (?, ?, ?, ?, ?, '', ?, ?, 'UTC')",
-                secrets.token_hex(8),
-                plan,
-                NAME,
-                *(begins.date().isoformat(), ends.date().isoformat()),
-                *(one.time().isoformat("seconds") for one in (begins, ends)),
-            )
+            self._put_schedule(store, plan, now + FIRST + EVERY * at, LASTS)
+
+    def _put_schedule(self, store: Store, plan: int, at: float, lasts: float) -> None:
+        """A plan is on from then for so many seconds, where a form has minutes."""
+        self.schedules, self.ends = self.schedules + 1, at + lasts
+        begins, ends = _utc(at), _utc(self.ends)
+        store.database.run(
+            "INSERT INTO schedules (code, plan, author, first_day, last_day, days, begins, ends, zone)"
+            " VALUES (?, ?, ?, ?, ?, '', ?, ?, 'UTC')",
+            secrets.token_hex(8),
+            plan,
+            NAME,
+            *(begins.date().isoformat(), ends.date().isoformat()),
+            *(one.time().isoformat("seconds") for one in (begins, ends)),
+        )
 
     def step(self, store: Store) -> None:
         """The last plan is begun or ended by hand, now and then."""
@@ -64,10 +69,15 @@ class Plans:
             self._turn(store, may_begin=True)
 
     def is_over(self, store: Store) -> bool:
-        """Whether each schedule has had its time, and no plan is on; the one by hand is ended for that."""
+        """Whether each schedule has had its time, and no plan is on; the one by hand is ended for that. Where none was
+        begun, since the machine or its disk stood still for so long, there is one more, twice as long each time."""
         self._turn(store, may_begin=not self.asked)
-        standing = store.database.run("SELECT count(*) FROM plan_runs WHERE ended IS NULL")
-        return queries.now(store.database) > self.ends and not whole(standing[0][0])
+        now, count = queries.now(store.database), "SELECT count(*) FROM plan_runs WHERE"
+        begun = whole(store.database.run(f"{count} occurrence NOT LIKE 'by hand %'")[0][0])
+        if now > self.ends and not begun:
+            self._put_schedule(store, self.numbers[0], now, LASTS * 2 ** (self.schedules - SCHEDULES + 1))
+        standing = whole(store.database.run(f"{count} ended IS NULL")[0][0])
+        return now > self.ends and not standing
 
     def _turn(self, store: Store, may_begin: bool) -> None:
         """The plan by hand is ended where it is on, else begun. What was asked for as the server went away may have
@@ -93,7 +103,7 @@ def look_at_plans(found: Outcome, store: Store, held: Plans) -> str:
     occurrences = Counter(str(occurrence) for _, occurrence, _, _ in runs)
     scheduled = [count for word, count in occurrences.items() if not word.startswith("by hand ")]
     found.holds("each time of a schedule was begun once", scheduled == [1] * len(scheduled))  # where a worker ran then
-    found.holds("plans were begun by schedules", 1 <= len(scheduled) <= SCHEDULES)
+    found.holds("plans were begun by schedules", 1 <= len(scheduled) <= held.schedules)
     found.holds("the plan was begun by hand", len(occurrences) - len(scheduled) >= min(1, held.asked))
     found.holds("every plan has ended", all(ended is not None for _, _, ended, _ in runs))
     found.holds("no sign was left out of a plan", not any(said for _, _, _, said in runs))

@@ -56,6 +56,21 @@ def test_what_does_not_hold_of_plans_is_found(
             assert is_broken or not found.failed
 
 
+def test_where_no_schedule_was_begun_there_is_a_longer_one(
+    tmp_path: pathlib.Path, monkeypatch: pytest.MonkeyPatch
+) -> None:
+    monkeypatch.setattr(chaos_plans, "FIRST", -100.0)  # all are over
+    with bench(tmp_path, str(tmp_path / "database")) as at:
+        person(at.store.database, NAME)
+        held = Plans([at.sign_id], random.Random(1))
+        held.enter(at.store)
+        assert not held.is_over(at.store) and held.schedules == chaos_plans.SCHEDULES + 1
+        plans.Plans(at.store.database).look()
+        plan, ends = plans.found(at.store.database, held.numbers[0]), held.ends
+        assert plan is not None and plan.is_on
+        assert not held.is_over(at.store) and held.ends == ends
+
+
 def test_what_does_not_hold_of_alarms_is_found(tmp_path: pathlib.Path) -> None:
     target = Target(1)
     target.chance = random.Random(3)
