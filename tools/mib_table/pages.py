@@ -87,11 +87,6 @@ def _row_of_page(entry: Object) -> str:
     return "|" + "|".join(f" {cell} " if cell else " " for cell in cells) + "|"
 
 
-def _words_of_page(entry: Object) -> str:
-    words = ", ".join(f"{word}\0{number}" for word, number in entry.words)
-    return _wrapped(f"{words}.", f"- {entry.name}: ", 2).replace("\0", " ")
-
-
 def mib_objects(objects: list[Object]) -> str:
     """Each object, and the message table before its columns."""
     columns = [entry for entry in objects if entry.is_column]
@@ -108,8 +103,7 @@ def profile_objects(objects: list[Object]) -> str:
 
 
 def profile_columns(objects: list[Object]) -> str:
-    """The rows of columns, and the words of numbers."""
+    """The rows of columns."""
     rows = [_row_of_page(entry) for entry in objects if entry.is_column]
-    words = [_words_of_page(entry) for entry in objects if entry.words]
     head = ["| column | object | range | | value |", "|---|---|---|---|---|"]
-    return "\n".join([*head, *rows, "", "Numbers that stand for words:", "", *words])
+    return "\n".join([*head, *rows])
