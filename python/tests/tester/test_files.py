@@ -1,14 +1,20 @@
-"""A capture of what was sent, and the report as a PDF."""
+"""A capture of what was sent, the report as a PDF, and files that are whole at every moment."""
 
 import io
+import os
 import pathlib
 import shutil
 import struct
+import subprocess
+import sys
 import tempfile
+import time
 
+from wisangub.process.places import TOP, environment
 from wisangub.refusal import Refusal
 from wisangub.tester.report import pdf
 from wisangub.tester.sign.capture import Capture, packet_of
+from wisangub.whole import WholeFile
 
 from .skipping import skip
 
@@ -67,3 +73,69 @@ def test_no_report_is_printed_by_a_program_that_makes_none() -> None:
             assert "Chromium printed no report" in str(refused)
         else:
             raise AssertionError
+
+
+def test_a_file_is_written_anew_under_its_name() -> None:
+    with tempfile.TemporaryDirectory() as folder:
+        path, link = pathlib.Path(folder) / "report.json", pathlib.Path(folder) / "link.json"
+        path.write_text("of last week", encoding="utf-8")
+        path.chmod(0o640)
+        link.symlink_to(path)
+        file = WholeFile(link)
+        assert path.read_text(encoding="utf-8") == "of last week"
+        for held in ("nothing yet", "all"):
+            file.write(held)
+            assert path.read_text(encoding="utf-8") == held and link.is_symlink()
+        assert path.stat().st_mode & 0o777 == 0o640 and sorted(os.listdir(folder)) == ["link.json", "report.json"]
+        (path.parent / "report.json.new").mkdir()
+        try:
+            file.write("more")
+        except OSError:
+            assert path.read_text(encoding="utf-8") == "all"
+        else:
+            raise AssertionError
+
+
+def test_a_pipe_has_one_text_after_the_other() -> None:
+    read, write = os.pipe()
+    file = WholeFile(pathlib.Path(f"/proc/self/fd/{write}"))
+    os.close(write)
+    file.write("one ")
+    file.write("two")
+    file.close()
+    with open(read, encoding="utf-8") as held:
+        assert held.read() == "one two"
+
+
+def test_no_file_is_begun_where_none_can_be_written() -> None:
+    with tempfile.TemporaryDirectory() as folder:
+        for path in (pathlib.Path(folder), pathlib.Path(folder) / "none" / "report.json", pathlib.Path("/proc/report")):
+            try:
+                WholeFile(path)
+            except OSError:
+                assert not os.listdir(folder)
+            else:
+                raise AssertionError(path)
+
+
+_WRITING = """
+import itertools, pathlib, sys
+from wisangub.whole import WholeFile
+file = WholeFile(pathlib.Path(sys.argv[1]))
+for number in itertools.count():
+    file.write(str(number % 10) * 2_000_000)
+    print(number, flush=True)
+"""
+
+
+def test_who_is_killed_leaves_a_whole_file() -> None:
+    with tempfile.TemporaryDirectory() as folder:
+        path = pathlib.Path(folder) / "report.json"
+        for delay in (0.0, 0.001, 0.002, 0.004):
+            call = [sys.executable, "-c", _WRITING, str(path)]
+            with subprocess.Popen(call, cwd=TOP, env=environment(), stdout=subprocess.PIPE) as writing:
+                assert writing.stdout is not None and writing.stdout.readline() == b"0\n"
+                time.sleep(delay)
+                writing.kill()
+            held = path.read_text(encoding="utf-8")
+            assert held == held[0] * 2_000_000, (delay, len(held))

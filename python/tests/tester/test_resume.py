@@ -1,5 +1,6 @@
 """A test that ended before its last case is taken up by the report that it wrote."""
 
+import json
 import pathlib
 import tempfile
 from dataclasses import replace
@@ -100,6 +101,44 @@ def test_what_was_read_first_is_put_back_by_the_test_that_goes_on() -> None:
         results = made.run(chapters_of(CHAPTERS, False))
     assert results.is_set_back and sign.state.defaults[7] == 99
     assert results.set_back == [("defaultPageOnTime.0", "30", "99")]
+
+
+class Killed(BaseException):
+    """The end of a test that has no say in it."""
+
+
+class Killing(Quiet):
+    """A report is written after the first chapter, as the command does it, and the test is killed."""
+
+    def __init__(self, path: pathlib.Path) -> None:
+        self.path = path
+
+    def ended(self, result: ChapterResult) -> None:
+        self.path.write_text(files.as_json(self.session.results, ABOUT, []), encoding="utf-8")
+        raise Killed
+
+    def test(self, sign: SomeSign) -> None:
+        """A test of the sign, up to the kill."""
+        self.session = bench.session(text.BENCH, sign, requests=0, watcher=self)
+        try:
+            self.session.run(chapters_of(CHAPTERS, False))
+        except Killed:
+            return
+        raise AssertionError
+
+
+def test_what_a_killed_test_read_first_is_put_back_by_the_test_that_goes_on() -> None:
+    with tempfile.TemporaryDirectory() as folder:
+        path, sign = pathlib.Path(folder) / "report.json", Sign(text.bench())
+        sign.state.defaults[7] = 99
+        Killing(path).test(sign)
+        held = json.loads(path.read_text(encoding="utf-8"))
+        assert held["verdict"] == "not judged" and not held["is_set_back"] and sign.state.defaults[7] == 30
+        made = session(sign, watcher := Interrupting(False))
+        Earlier.read(path, ABOUT, COMMUNITIES).put_into(made.results, made.pair.port.way)
+        results = made.run(chapters_of(CHAPTERS, False))
+    assert watcher.names == ["set", "priorities"] and results.verdict() is Verdict.CONFORMS, results.unjudged()
+    assert results.is_set_back and sign.state.defaults[7] == 99
 
 
 def test_a_report_of_another_test_is_not_taken_up() -> None:

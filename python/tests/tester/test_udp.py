@@ -9,6 +9,7 @@ import subprocess
 import sys
 import tempfile
 import threading
+import xml.etree.ElementTree as ET
 
 from model import text
 from wisangub.process.places import TOP
@@ -67,7 +68,11 @@ def test_a_wrong_command_is_a_word() -> None:
             (["--repeat", ""], b"a sequence is octets"),
             (["--to", "no.such.host.invalid:161"], b"no.such.host.invalid"),
             (["--to", "127.0.0.1"], b"--to wants HOST:PORT"),
-            (["--html", f"{folder}/none/report.html"], b"the report cannot be written"),
+            *[
+                ([f"--{kind}", f"{folder}/none/it"], b"the report cannot be written")
+                for kind in ("html", "junit", "json")
+            ],
+            (["--json", folder], b"the report cannot be written"),
             (["--sign", f"{folder}/none.sign"], b"none.sign"),
             (["--signtool", "/bin/true"], b"/bin/true"),
         ]
@@ -98,6 +103,29 @@ def test_interrupts_put_the_sign_back_and_write_the_report() -> None:
                 assert tester.wait(60) == 3 and b"interrupted" in said, said
             held = json.loads(report.read_text(encoding="utf-8"))
             assert held["verdict"] == "not judged" and not any("brought back" in line for line in held["way"]), held
+
+
+def test_a_test_that_is_killed_leaves_whole_reports_of_what_was_judged() -> None:
+    with tempfile.TemporaryDirectory() as name:
+        folder, port = pathlib.Path(name), free_port()
+        described, page, junit, report = (folder / held for held in ("bench.sign", "it.html", "it.xml", "it.json"))
+        described.write_bytes(text.BENCH)
+        right = ("bin/wisangub-sign", "--signtool", str(TOP / "model/signtool"))
+        call = [sys.executable, "-m", "wisangub.tester", "--to", f"127.0.0.1:{port}", "--sign", str(described)]
+        call += ["--signtool", "model", "--json", str(report), "--junit", str(junit), "--html", str(page)]
+        with in_real_time(), front_end(*right, "--port", str(port), "--sign", str(described)):
+            for judged, line in enumerate((b"without --slow", b"BER forms")):
+                with subprocess.Popen([*call, "--wait", "5"], cwd=TOP, stdout=subprocess.PIPE) as tester:
+                    assert tester.stdout is not None and any(line in said for said in tester.stdout)
+                    tester.kill()
+                held = json.loads(report.read_text(encoding="utf-8"))
+                whole = [one["name"] for one in held["chapters"] if one["cases"] == one["wanted"] > 0]
+                assert whole == ["ber"][:judged] and held["is_set_back"] is not bool(judged), held["chapters"]
+                suite = ET.fromstring(junit.read_text(encoding="utf-8"))
+                assert suite.get("errors") == "1" and int(suite.get("tests") or 0) > 10
+                shown = page.read_text(encoding="utf-8")
+                assert held["verdict"] == "not judged" and "had not come to its end" in held["not_judged"][0], held
+                assert held["not_judged"][0] in shown and shown.endswith("</html>\n")
 
 
 def test_a_port_that_closes_ends_the_test() -> None:

@@ -253,12 +253,12 @@ def _tested(asked: argparse.Namespace, session: Session, watcher: terminal.Plain
     outputs = Outputs(asked, about, lambda results: words.not_tested(context, results, ALL))
     program = printer() if asked.pdf else ""
     try:
+        chapters = session.prepare(chapters_of(asked.only, asked.slow))
+        outputs.write(session.results)
         print("\n".join(line for line in (words.head(about), taken_up) if line), flush=True)
-        if taken_up:
-            outputs.write(session.results)
         watcher.after = lambda: outputs.write(session.results)
         try:
-            results = session.run(chapters_of(asked.only, asked.slow))
+            results = session.run(chapters)
         finally:
             watcher.close()
         for difference in results.differences():

@@ -70,14 +70,7 @@ class Session:
     def run(self, chapters: Sequence[Chapter]) -> Results:
         """These chapters. A sign that falls silent, time that is over and an interrupt end them; then the sign is put
         back as far as it can be."""
-        chapters = [chapter for chapter in chapters if not chapter.is_of_claims or self.context.claims.device]
-        self.results.asked, self.results.is_slow = chapters, self.context.is_slow
-        self.results.way = self.pair.port.way
-        self.results.person = None if self.person is None else []
-        self.results.texts_known = len(known(self.context)) if self.context.rows else 0
-        claims, trace = self.context.claims, self.results.trace
-        trace.missing, trace.ranges = claims.missing | {f"[{tag}]" for tag in claims.tags}, dict(claims.ranges)
-        trace.claim_device(claims.device)
+        chapters = self.prepare(chapters)
         try:
             self._run(chapters)
         except Stopped as why:
@@ -85,7 +78,21 @@ class Session:
         except KeyboardInterrupt:
             self.results.stopped = "it was interrupted"
         self.put_back()
+        self.results.is_going_on = False
         return self.results
+
+    def prepare(self, chapters: Sequence[Chapter]) -> list[Chapter]:
+        """What is to be asked stands in the results, before anything is sent: those of the chapters that are run."""
+        chapters = [chapter for chapter in chapters if not chapter.is_of_claims or self.context.claims.device]
+        self.results.is_going_on = True
+        self.results.asked, self.results.is_slow = chapters, self.context.is_slow
+        self.results.way = self.pair.port.way
+        self.results.person = None if self.person is None else []
+        self.results.texts_known = len(known(self.context)) if self.context.rows else 0
+        claims, trace = self.context.claims, self.results.trace
+        trace.missing, trace.ranges = claims.missing | {f"[{tag}]" for tag in claims.tags}, dict(claims.ranges)
+        trace.claim_device(claims.device)
+        return chapters
 
     def _run(self, chapters: Sequence[Chapter]) -> None:
         is_heard = self.preflight.begin(self.is_anyway)
@@ -133,6 +140,7 @@ class Session:
                     self.watcher.went_on(result, result.blocks)
                     if self.is_enough() or self.pair.clock.now() - begun >= 3600 * hours:
                         return
+                self.watcher.went_round()
         finally:
             result.seconds = self.pair.clock.now() - begun
             self._judge_left(result)

@@ -61,6 +61,9 @@ class Watcher(Protocol):
     def went_on(self, result: ChapterResult, at: int) -> None:
         ...
 
+    def went_round(self) -> None:
+        """A round is over of what is asked for hours."""
+
     def ended(self, result: ChapterResult) -> None:
         ...
 
@@ -79,6 +82,7 @@ class Results:
     asked: Sequence[Chapter] = ()  # the chapters that were asked for
     is_slow: bool = False
     lossy: float = LOSSY  # percent
+    is_going_on: bool = False  # whether the test has not come to its end, be it that it was killed
     stopped: str = ""  # why the test ended before its last case
     is_set_back: bool = True
     first: dict[Name, Value] = field(default_factory=dict)  # the sign's own settings, as they were read first
@@ -117,7 +121,8 @@ class Results:
 
     def unjudged(self) -> list[str]:
         """Why it cannot be said that the sign conforms, a sentence each."""
-        found = [f"the test was stopped: {self.stopped}"] if self.stopped else []
+        found = ["the test had not come to its end when this was written"] if self.is_going_on else []
+        found += [f"the test was stopped: {self.stopped}"] if self.stopped else []
         found += [line for chapter in self.asked if (line := self._unjudged_of(chapter))]
         if self.person is not None and (line := self._unanswered(self.person)):
             found.append(line)
@@ -170,6 +175,9 @@ class Quiet:
         ...
 
     def went_on(self, result: ChapterResult, at: int) -> None:
+        ...
+
+    def went_round(self) -> None:
         ...
 
     def ended(self, result: ChapterResult) -> None:

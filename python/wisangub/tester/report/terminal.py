@@ -1,6 +1,7 @@
 """The report on a terminal: with rich where it can be imported, in plain lines else."""
 
 import sys
+import time
 from typing import Any, Callable, TextIO
 
 from wisangub.tester.chapters import Chapter
@@ -29,6 +30,7 @@ except ImportError:
     Console = None  # type: ignore[assignment,misc]
 
 MOST_LINES, MOST_OCTETS = 12, 200
+MOST_SECONDS = 60.0  # between two reports of what is asked for hours
 
 
 def _shortened(octets: str) -> str:
@@ -81,7 +83,8 @@ class Plain:
 
     def __init__(self, out: TextIO = sys.stdout) -> None:
         self.out = out
-        self.after: Callable[[], None] = lambda: None  # what is to be done at the end of each chapter
+        self.after: Callable[[], None] = lambda: None  # what is to be done as more is known
+        self._last = 0.0
 
     def _print(self, line: str) -> None:
         print(line, file=self.out, flush=True)
@@ -92,11 +95,17 @@ class Plain:
     def went_on(self, result: ChapterResult, at: int) -> None:
         ...
 
+    def went_round(self) -> None:
+        if time.monotonic() - self._last >= MOST_SECONDS:
+            self._last = time.monotonic()
+            self.after()
+
     def ended(self, result: ChapterResult) -> None:
         self.after()
         self._print(_chapter_line(result))
 
     def found(self, difference: Difference) -> None:
+        self.after()
         self._print(f"  {difference.rule.chapter}: {difference.title} ({difference.rule.heading})")
 
     def close(self) -> None:

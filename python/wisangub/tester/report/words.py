@@ -170,7 +170,8 @@ def load_words(results: Results) -> list[str]:
 
 def set_back_words(results: Results) -> list[str]:
     """What of a sign's own was set to what, a line each."""
-    back = ", and back at the end" if results.is_set_back else ", and could not be set back"
+    not_back = ", and not back yet" if results.is_going_on else ", and could not be set back"
+    back = ", and back at the end" if results.is_set_back else not_back
     found = [f"set: {name} from {read} to {tested}{back}" for name, tested, read in results.set_back]
     return found + [f"emptied: {name} was {read}" for name, read in results.emptied]
 
@@ -178,7 +179,7 @@ def set_back_words(results: Results) -> list[str]:
 def way_words(results: Results) -> list[str]:
     """What was lost, late, doubled or garbled on the way, and how the sign was left."""
     found = results.way.words() if results.way is not None else []
-    if not results.is_set_back:
+    if not results.is_set_back and not results.is_going_on:
         found.append("the sign could not be brought back to the state that it was in, but for its rows")
     return found
 

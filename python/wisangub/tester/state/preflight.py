@@ -100,7 +100,7 @@ class Preflight:
     def reach_first(self) -> None:
         """The known state for the first time; what cannot be brought there is told, and left out from here on."""
         self.pair.touched.update(self.context.rows)
-        self.reset.is_entered = True
+        self.reset.is_entered, self.results.is_set_back = True, False
         for _ in range(3):
             unreached = self.reset.reach(observe=True)
             if unreached:
