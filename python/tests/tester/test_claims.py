@@ -19,6 +19,7 @@ from wisangub.tester.requests.steps import get, get_next, put
 from wisangub.tester.requests.texts import tags_of
 from wisangub.tester.session import Session
 from wisangub.tester.sign.claimed import ClaimedOracle
+from wisangub.tester.sign.claimed_device import DeviceOracle
 from wisangub.tester.sign.claims import Claims, claims_of
 from wisangub.tester.sign.described import described
 
@@ -96,6 +97,39 @@ def test_ours_answers_no_more_than_is_claimed() -> None:
     assert [name for name, _ in reply.bindings] == [off, off] and reply.bindings[0][1] != NULL
     last = scalar("dmsMultiSyntaxErrorPosition")
     assert status(get_next(off, last).octets(8, WRITER)) == (wire.NO_SUCH_NAME, 2)
+
+
+class Recording(bench.ModelOracle):
+    """Keeps what else it is asked than datagrams."""
+
+    def __init__(self) -> None:
+        self.asked: list[str] = []
+        super().__init__(text.BENCH)
+        self.asked.clear()
+
+    def restart(self) -> None:
+        self.asked.append("restart")
+        super().restart()
+
+    def tick(self) -> None:
+        self.asked.append("tick")
+
+    def power(self, seconds: int) -> None:
+        self.asked.append(f"power {seconds}")
+
+    def end(self) -> None:
+        self.asked.append("end")
+
+
+def test_what_is_no_datagram_is_handed_on() -> None:
+    behind = Recording()
+    for oracle in (ClaimedOracle(behind, LESS), DeviceOracle(behind, WRITER[1])):
+        oracle.restart()
+        oracle.tick()
+        oracle.power(7)
+        oracle.end()
+        assert behind.asked == ["restart", "tick", "power 7", "end"]
+        behind.asked.clear()
 
 
 def test_cases_say_what_they_show() -> None:

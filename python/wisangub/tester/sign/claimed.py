@@ -8,25 +8,15 @@ from wisangub.tester.requests.objects import NULL, Binding, Name
 
 from .claims import Claims
 from .oracle import Oracle
+from .wrapper import Wrapper, answer
 
 
-class ClaimedOracle:
+class ClaimedOracle(Wrapper):
     """Another oracle behind claims: what is not claimed is no instance, and numbers that are not are bad values."""
 
     def __init__(self, oracle: Oracle, claims: Claims) -> None:
-        self._oracle, self._claims = oracle, claims
-
-    def restart(self) -> None:
-        self._oracle.restart()
-
-    def tick(self) -> None:
-        self._oracle.tick()
-
-    def power(self, seconds: int) -> None:
-        self._oracle.power(seconds)
-
-    def end(self) -> None:
-        self._oracle.end()
+        super().__init__(oracle)
+        self._claims = claims
 
     def datagram(self, octets: bytes) -> bytes | None:
         message = spelled(octets)
@@ -68,8 +58,7 @@ class ClaimedOracle:
         for at, (name, _) in enumerate(message.bindings, 1):
             after = self._after(message, name)
             if after is None:
-                refused = replace(reply, status=wire.NO_SUCH_NAME, index=at, bindings=message.bindings)
-                return wire.written(refused)
+                return answer(reply, wire.NO_SUCH_NAME, at, message.bindings)
             found.append(after)
         return wire.written(replace(reply, bindings=found))
 

@@ -1,39 +1,27 @@
 """Our sign with the objects that a sign claims to have beside the profile's, once their values are known."""
 
-from dataclasses import replace
-
 from wisangub.snmp import wire
 from wisangub.tester.requests.messages import spelled
-from wisangub.tester.requests.objects import Binding, Name, Value
+from wisangub.tester.requests.objects import Name, Value
 
 from .device_claims import DeviceClaim
 from .oracle import Oracle
+from .wrapper import Wrapper, answer
 
 
-class DeviceOracle:
-    """Another oracle, and objects beside it. Until it learns their values, and after it forgot them, it has none."""
+class DeviceOracle(Wrapper):
+    """Another oracle, and objects beside it. Until it learns their values, and after it forgot them, it has none. What
+    a manager set is firmware's to keep: where the other begins anew the objects stay as they are."""
 
     def __init__(self, oracle: Oracle, writer: bytes) -> None:
-        self._oracle, self._writer = oracle, writer
+        super().__init__(oracle)
+        self._writer = writer
         self._claims: dict[Name, DeviceClaim] = {}
         self._held: dict[Name, Value] = {}
 
     def learn(self, claims: tuple[DeviceClaim, ...], held: dict[Name, Value]) -> None:
         """From here on it has these objects, with these values."""
         self._claims, self._held = {claim.name: claim for claim in claims}, dict(held)
-
-    def restart(self) -> None:
-        """What a manager set is firmware's to keep: the objects stay as they are."""
-        self._oracle.restart()
-
-    def tick(self) -> None:
-        self._oracle.tick()
-
-    def power(self, seconds: int) -> None:
-        self._oracle.power(seconds)
-
-    def end(self) -> None:
-        self._oracle.end()
 
     def datagram(self, octets: bytes) -> bytes | None:
         octets_of_ours, message = self._oracle.datagram(octets), spelled(octets)
@@ -45,20 +33,20 @@ class DeviceOracle:
         if not message.bindings or not all(name in self._held for name, _ in message.bindings):
             return octets_of_ours
         if message.kind == wire.GET:
-            return _written(reply, 0, 0, [(name, self._held[name]) for name, _ in message.bindings])
+            return answer(reply, 0, 0, [(name, self._held[name]) for name, _ in message.bindings])
         return self._set(message, reply)
 
     def _set(self, message: wire.Message, reply: wire.Message) -> bytes:
         """All is assigned, or nothing; the first cause of a refusal counts."""
         for at, (name, value) in enumerate(message.bindings, 1):
             if message.community != self._writer or self._claims[name].ends is None:
-                return _written(reply, wire.NO_SUCH_NAME, at, message.bindings)
+                return answer(reply, wire.NO_SUCH_NAME, at, message.bindings)
             if not self._claims[name].is_right(value):
-                return _written(reply, wire.BAD_VALUE, at, message.bindings)
+                return answer(reply, wire.BAD_VALUE, at, message.bindings)
             if name in (earlier for earlier, _ in message.bindings[: at - 1]):
-                return _written(reply, wire.GENERAL, at, message.bindings)
+                return answer(reply, wire.GENERAL, at, message.bindings)
         self._held |= dict(message.bindings)
-        return _written(reply, 0, 0, message.bindings)
+        return answer(reply, 0, 0, message.bindings)
 
     def _next(self, message: wire.Message, reply: wire.Message) -> bytes:
         """The earlier of what comes next of both; of one name, as the chapter asks it."""
@@ -68,9 +56,4 @@ class DeviceOracle:
         after = min((name for name in self._held if name > asked), default=None)
         if after is None or not reply.status and reply.bindings[0][0] <= after:
             return wire.written(reply)
-        return _written(reply, 0, 0, [(after, self._held[after])])
-
-
-def _written(reply: wire.Message, status: int, index: int, bindings: list[Binding]) -> bytes:
-    """The reply with other contents."""
-    return wire.written(replace(reply, status=status, index=index, bindings=bindings))
+        return answer(reply, 0, 0, [(after, self._held[after])])
