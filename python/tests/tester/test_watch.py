@@ -1,5 +1,6 @@
 """The sign that watches a central system."""
 
+import json
 import pathlib
 import signal
 import socket
@@ -14,6 +15,7 @@ from trials.wrong_signs.bench import ModelJudge, ModelOracle
 from wisangub.process.places import TOP
 from wisangub.snmp import wire
 from wisangub.snmp.names import Memory, RowStatus, scalar
+from wisangub.tester.centre.program import Report
 from wisangub.tester.centre.watch import Habit, Watch
 from wisangub.tester.context import ADDRESS, Context, activate
 from wisangub.tester.findings.results import Verdict
@@ -233,3 +235,28 @@ def test_it_answers_on_a_port_and_tells_at_its_end() -> None:
                 assert sign.wait(10) == 1 and "used again for another request: 1" in said, said
             finally:
                 sign.kill()
+
+
+def test_a_report_is_written_anew_each_minute() -> None:
+    with tempfile.TemporaryDirectory() as folder:
+        path, watch = pathlib.Path(folder) / "report.json", Watch(b"public")
+        report = Report(path, watch)
+        watch.heard(0.0, b"", None)
+        for _ in range(59):
+            report.ticked()
+        assert not path.exists()
+        report.ticked()
+        assert json.loads(path.read_text(encoding="utf-8"))["dropped"] == 1
+        Report(None, watch).write()
+
+
+def test_who_is_killed_leaves_a_whole_report() -> None:
+    with tempfile.TemporaryDirectory() as folder:
+        described, path = pathlib.Path(folder) / "bench.sign", pathlib.Path(folder) / "report.json"
+        described.write_bytes(text.BENCH)
+        call = [sys.executable, "-m", "wisangub.tester.centre.program", "--port", "0", "--sign", str(described)]
+        call += ["--signtool", "model", "--json", str(path)]
+        with subprocess.Popen(call, cwd=TOP, stdout=subprocess.PIPE) as sign:
+            assert sign.stdout is not None and sign.stdout.readline()
+            sign.kill()
+        assert json.loads(path.read_text(encoding="utf-8"))["verdict"] == "not judged"

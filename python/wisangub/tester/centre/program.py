@@ -16,7 +16,7 @@ import signal
 import socket
 import sys
 from types import FrameType
-from typing import Protocol
+from typing import Callable, Protocol
 
 from wisangub.process.places import SIGNTOOL, add_version, called
 from wisangub.refusal import Refusal
@@ -27,10 +27,12 @@ from wisangub.tester.requests.steps import get
 from wisangub.tester.sign.clock import Clock, RealClock
 from wisangub.tester.sign.described import Bad, cause, described
 from wisangub.tester.sign.oracle import made
+from wisangub.whole import WholeFile
 
 from .watch import Habit, Watch
 
 _MOST_RECEIVED = 65_535
+_MINUTE = 60  # ticks
 
 
 class Answering(Protocol):
@@ -47,8 +49,16 @@ class Stopped(Exception):
     """It is time to tell what was seen."""
 
 
-def serve(udp_socket: socket.socket, sign: Answering, clock: Clock, watch: Watch, seconds: float | None) -> None:
-    """Answers until it is stopped or so many seconds are over; the sign ticks also under many datagrams."""
+def serve(
+    udp_socket: socket.socket,
+    sign: Answering,
+    clock: Clock,
+    watch: Watch,
+    seconds: float | None,
+    ticked: Callable[[], None] = lambda: None,
+) -> None:
+    """Answers until it is stopped or so many seconds are over; the sign ticks also under many datagrams. `ticked` is
+    called after each tick."""
     begun = clock.now()
     due = begun + 1
     while seconds is None or clock.now() - begun < seconds:
@@ -56,6 +66,7 @@ def serve(udp_socket: socket.socket, sign: Answering, clock: Clock, watch: Watch
         if left <= 0:
             sign.tick()
             watch.ticked()
+            ticked()
             due += 1
         elif select.select([udp_socket], [], [], left)[0]:
             try:
@@ -101,6 +112,23 @@ def _as_json(watch: Watch) -> str:
     return json.dumps(whole, indent=1) + "\n"
 
 
+class Report:
+    """The file of --json, if any: whole from the beginning on, and written anew each minute. Raises OSError where it
+    cannot be written."""
+
+    def __init__(self, path: pathlib.Path | None, watch: Watch) -> None:
+        self._file, self._watch, self._ticks = WholeFile(path) if path else None, watch, 0
+
+    def write(self) -> None:
+        if self._file is not None:
+            self._file.write(_as_json(self._watch))
+
+    def ticked(self) -> None:
+        self._ticks += 1
+        if self._ticks % _MINUTE == 0:
+            self.write()
+
+
 def _arguments() -> argparse.ArgumentParser:
     parser = argparse.ArgumentParser(
         prog=called("wisangub-conform centre"),
@@ -129,20 +157,20 @@ def main() -> int:
     try:
         description = asked.sign.read_bytes()
         sign, reader = made(asked.signtool, description), described(description).reader
-        report = asked.json.open("w", encoding="utf-8") if asked.json else None
+        report = Report(asked.json, watch := Watch(reader))
     except (OSError, Bad, Refusal) as fault:
         where = f"{asked.sign}: {fault}{cause(asked.sign, fault)}" if isinstance(fault, Bad) else ""
         print(where or fault, file=sys.stderr)
         return 2
-    watch = Watch(reader)
     for number in (signal.SIGINT, signal.SIGTERM):
         signal.signal(number, stop)
     family = socket.AF_INET6 if ":" in asked.host else socket.AF_INET
     try:
         with socket.socket(family, socket.SOCK_DGRAM) as udp_socket:
             udp_socket.bind((asked.host, asked.port))
+            report.write()
             print(f"a sign that watches at {asked.host}:{udp_socket.getsockname()[1]}", flush=True)
-            serve(udp_socket, sign, RealClock(), watch, asked.seconds)
+            serve(udp_socket, sign, RealClock(), watch, asked.seconds, report.ticked)
     except Stopped:
         pass
     except OSError as fault:
@@ -153,9 +181,7 @@ def main() -> int:
             signal.signal(number, signal.SIG_IGN)
         sign.end()
     print("\n".join(watch.lines()), flush=True)
-    if report is not None:
-        with report:
-            report.write(_as_json(watch))
+    report.write()
     return watch.verdict().status
 
 
