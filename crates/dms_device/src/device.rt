@@ -1,6 +1,6 @@
 //! A device: the objects that firmware publishes.
 
-ghost use Rattle.std.specs.Prelude.{◌≡◌, ◌≤◌, true, [], drop, map, length, slice_get, option_map, OnOk, OnErr};
+ghost use Rattle.std.specs.Prelude.{◌≡◌, ◌≤◌, true, false, [], drop, map, length, slice_get, option_map, OnOk, OnErr};
 ghost use Rattle.std.specs.List.{list_any};
 ghost use Rattle.dms_wire.specs.Limits.{most_bindings};
 ghost use Rattle.dms_wire.specs.View.{var_bind};
@@ -80,11 +80,12 @@ impl Device {
         }
     }
 
-    /// Publishes an object, in place of the one that has its name: then also what a manager set is gone. Where there is
-    /// no memory for it, nothing changes.
+    /// Publishes an object, in place of the one that has its name: then also what a manager set is gone, and no memory
+    /// is needed. Where there is none for an object of a new name, nothing changes.
     pub fn publish(&mut self, object: Object) -> Result<(), AllocError>
         ensures done { OnOk result (self.new ≡ published self.old object) }
         ensures kept { OnErr result (self.new ≡ self.old) }
+        ensures memory { OnErr result (list_any (has_name object.name) self.old ≡ false) }
     {
         put_object(&mut self.objects, object)
     }

@@ -58,6 +58,7 @@ pub(crate) fn put_object(objects: &mut Vec<Object>, object: Object) -> Result<()
     requires { rises objects.old.items ≡ true }
     ensures done { OnOk result (objects.new.items ≡ published objects.old.items object) }
     ensures kept { OnErr result (objects.new.items ≡ objects.old.items) }
+    ensures memory { OnErr result (list_any (has_name object.name) objects.old.items ≡ false) }
     ensures rises { rises objects.new.items ≡ true }
 {
     match place_of(objects.as_slice(), &object.name()) {
