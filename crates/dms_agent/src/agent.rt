@@ -1,6 +1,6 @@
 //! An agent: a sign, and the objects that firmware publishes beside it.
 
-ghost use Rattle.std.specs.Prelude.{◌≡◌, [], None, map, Err, IsSome, OnOk, OnErr};
+ghost use Rattle.std.specs.Prelude.{◌≡◌, false, [], None, map, Err, IsSome, OnOk, OnErr};
 ghost use Rattle.std.specs.Borrow.{sem, follows};
 ghost use Rattle.std.specs.List.{list_any};
 ghost use Rattle.dms_sign.specs.Values.{value_of};
@@ -9,7 +9,7 @@ ghost use Rattle.dms_sign.specs.contracts.sign.Sign.{the_row as sign_row};
 ghost use Rattle.dms_agent.specs.contracts.agent.Agent.{the_row as agent_row};
 ghost use Rattle.dms_device.specs.Objects.{has_name};
 ghost use Rattle.dms_device.specs.Publishing.{published, withdrawn};
-ghost use Rattle.dms_agent.specs.declared.agent.PublishFault.TheVariants.{OfTheSign};
+ghost use Rattle.dms_agent.specs.declared.agent.PublishFault.TheVariants.{OfTheSign, OutOfMemory};
 ghost use Rattle.dms_device.specs.Taken.{told, told_first};
 
 use dms_device::{Device, Object};
@@ -69,12 +69,14 @@ impl Agent {
     }
 
     /// Publishes an object, in place of the one that has its name, unless the sign has an object of that name. Where it
-    /// is refused, or there is no memory for it, nothing changes.
+    /// is refused, or there is no memory for it, nothing changes. It runs out of memory only for a new name.
     pub fn publish(&mut self, object: Object) -> Result<(), PublishFault>
         ensures done { OnOk result (self.new ≡ record self.old { device = published self.old.device object }) }
         ensures beside { OnOk result (value_of self.old.sign object.name ≡ None) }
         ensures kept { OnErr result (self.new ≡ self.old) }
         ensures of_the_sign { result ≡ Err OfTheSign → IsSome (value_of self.old.sign object.name) }
+        ensures memory { result ≡ Err OutOfMemory → value_of self.old.sign object.name ≡ None }
+        ensures memory_new { result ≡ Err OutOfMemory → list_any (has_name object.name) self.old.device ≡ false }
     {
         if self.sign.value(&object.name()).is_some() {
             return Err(PublishFault::OfTheSign);
