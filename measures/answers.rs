@@ -1,6 +1,7 @@
 //! What the calls by hand answer, each octet of it in one number: the same as `dms_answers_..` of the crate dms_measures.
 
 use crate::peer::{Bind, MessageParts, Out, Value, read, write};
+use crate::peer_agent::{self, Agent, agent_of, steps};
 use crate::peer_centre::{Ended, REQUESTS, new_centre, publication, replies_to};
 use crate::peer_replay;
 use crate::peer_sign::{Sign, syntax_number};
@@ -106,6 +107,35 @@ fn played(sign: &mut Sign, script: &[u8], before: u64, out: &mut Out) -> u64 {
 pub fn answered(mut sign: Sign, before: &[u8], script: &[u8]) -> u64 {
     let mut out = Out::new();
     [before, script, script].into_iter().fold(0, |sum, script| played(&mut sign, script, sum, &mut out))
+}
+
+fn objects_noted(sum: u64, agent: &Agent) -> u64 {
+    agent.objects().iter().fold(noted(sum, agent.objects().len() as u64), |sum, object| {
+        let (name, value, is_set) = object.parts();
+        noted(value_noted(octets_noted(sum, name), &value), is_set.into())
+    })
+}
+
+pub fn agent_answered(sign: Sign, names: &[u8], script: &[u8]) -> u64 {
+    let mut agent = agent_of(sign, names);
+    let mut out = Out::new();
+    let mut sum = 0;
+    for datagram in steps(script).chain(steps(script)) {
+        let replied = agent.receive(datagram, &mut out);
+        sum = octets_noted(noted(sum, replied.into()), out.as_slice());
+    }
+    objects_noted(sum, &agent)
+}
+
+pub fn objects_published(sign: Sign, names: &[u8], name: &[u8]) -> u64 {
+    let mut agent = agent_of(sign, names);
+    let mut sum = 0;
+    for number in [1, 2] {
+        let done = peer_agent::publish(&mut agent, name, number);
+        sum = objects_noted(noted(sum, done.into()), &agent);
+    }
+    let found = agent.withdraw(name);
+    objects_noted(noted(sum, found.into()), &agent)
 }
 
 pub fn published(text: &[u8]) -> u64 {

@@ -14,6 +14,7 @@ PLACES = {
     "sign with 16, 64 and 16 rows": ("The sign", ""),
     "sign with 1, 2 and 1 rows": ("The sign", "with 1, 2 and 1 rows: "),
     "growth of the sign with 1, 2 and 1 rows": ("The sign", "with 1, 2 and 1 rows: "),
+    "agent with 1,000 objects": ("The agent", ""),
     "centre": ("The central system", ""),
     "scripts": ("Scripts", ""),
 }

@@ -10,9 +10,11 @@
 //! after both answered the same.
 
 mod answers;
+mod measure_agent;
 mod measure_replay;
 mod measure_sign;
 mod peer;
+mod peer_agent;
 mod peer_centre;
 mod peer_replay;
 mod peer_sign;
@@ -395,7 +397,7 @@ fn centre() -> Vec<Measure> {
 /// A topic, and what is measured of it.
 type Topic = (&'static str, fn() -> Vec<Measure>);
 
-const TOPICS: [Topic; 10] = [
+const TOPICS: [Topic; 11] = [
     ("datagrams", datagrams),
     ("checksum", checksums),
     ("check", checks),
@@ -406,6 +408,7 @@ const TOPICS: [Topic; 10] = [
     ("growth of the sign with 1, 2 and 1 rows", || {
         measure_sign::growth(&fonts(), &[1, 2, 4, 8].map(|pieces| text_of(pieces).into_bytes()))
     }),
+    ("agent with 1,000 objects", || measure_agent::measures(&fonts())),
     ("centre", centre),
     ("scripts", || measure_replay::scripts(&fonts())),
 ];

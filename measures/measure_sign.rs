@@ -11,7 +11,7 @@ const PERMANENT_TEXT: &[u8] = b"ROAD CLOSED";
 
 /// The numbers of permanent, changeable and volatile rows of the two signs.
 const FEW: (usize, usize, usize) = (1, 2, 1);
-const MOST: (usize, usize, usize) = (16, 64, 16);
+pub const MOST: (usize, usize, usize) = (16, 64, 16);
 
 #[link(name = "dms_measures", kind = "static")]
 unsafe extern "C" {
@@ -39,7 +39,7 @@ unsafe extern "C" {
 }
 
 /// The first row of changeable memory, which the measures write.
-const ROW: (u8, u8) = (3, 1);
+pub const ROW: (u8, u8) = (3, 1);
 
 /// What the columns of a row are, from 1 on.
 const COLUMNS: [&str; 9] = [
@@ -47,7 +47,7 @@ const COLUMNS: [&str; 9] = [
 ];
 
 const TEXT: u8 = 3;
-const STATUS: u8 = 9;
+pub const STATUS: u8 = 9;
 
 /// A second in a script.
 const TICK: Vec<u8> = Vec::new();
@@ -56,7 +56,7 @@ fn object(group: u8, number: u8) -> Vec<u8> {
     vec![43, 6, 1, 4, 1, 137, 54, 4, 2, 3, group, number, 0]
 }
 
-fn cell(column: u8, (memory, number): (u8, u8)) -> Vec<u8> {
+pub fn cell(column: u8, (memory, number): (u8, u8)) -> Vec<u8> {
     let mut name = vec![43, 6, 1, 4, 1, 137, 54, 4, 2, 3, 5, 8, 1, column, memory];
     match number {
         0..128 => name.push(number),
@@ -73,12 +73,12 @@ fn datagram(kind: Kind, community: &[u8], bindings: &[(Vec<u8>, Value<'_>)]) -> 
     out.as_slice().to_vec()
 }
 
-fn asking(kind: Kind, names: &[Vec<u8>]) -> Vec<u8> {
+pub fn asking(kind: Kind, names: &[Vec<u8>]) -> Vec<u8> {
     let bindings: Vec<_> = names.iter().map(|name| (name.clone(), Value::Null)).collect();
     datagram(kind, b"public", &bindings)
 }
 
-fn setting(bindings: &[(Vec<u8>, Value<'_>)]) -> Vec<u8> {
+pub fn setting(bindings: &[(Vec<u8>, Value<'_>)]) -> Vec<u8> {
     datagram(Kind::Set, b"admin", bindings)
 }
 
@@ -195,11 +195,11 @@ fn measures(text: &[u8], most: bool, sign: &mut Sign) -> Vec<Measure> {
 }
 
 /// A script's octets: the size of each datagram in two octets, and the datagram.
-fn script_of(datagrams: &[Vec<u8>]) -> Vec<u8> {
+pub fn script_of(datagrams: &[Vec<u8>]) -> Vec<u8> {
     datagrams.iter().flat_map(|datagram| [&(datagram.len() as u16).to_be_bytes()[..], datagram].concat()).collect()
 }
 
-fn sign_of(fonts: &str, (permanent, changeable, volatile): (usize, usize, usize)) -> Sign {
+pub fn sign_of(fonts: &str, (permanent, changeable, volatile): (usize, usize, usize)) -> Sign {
     let face = Face::largest(fonts).expect("fonts");
     Sign::new(face, PERMANENT_TEXT, permanent, changeable, volatile)
 }

@@ -5,7 +5,7 @@
 
 pub use measures::{read_times, walk_times, write_times};
 pub use message::{Bind, Binds, Kind, MAX_DATAGRAM, Message, MessageParts, Oid, Value};
-pub use reading::read;
+pub use reading::{is_name, read};
 pub use writing::{Out, size_of_element, size_of_number, write};
 
 mod message {
@@ -270,7 +270,7 @@ mod reading {
     }
 
     #[inline(always)]
-    fn is_name(octets: &[u8]) -> bool {
+    pub fn is_name(octets: &[u8]) -> bool {
         let count = match octets.strip_prefix(&DMS) {
             Some(rest) => sub_identifiers(rest).map(|count| count + 9),
             None => sub_identifiers(octets),

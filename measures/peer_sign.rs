@@ -55,7 +55,7 @@ impl Status {
 }
 
 #[derive(Clone, Copy, PartialEq)]
-struct RowId {
+pub struct RowId {
     memory: u8,
     number: u8,
 }
@@ -130,20 +130,20 @@ impl Rows {
 }
 
 #[derive(Clone, Copy)]
-enum Instance {
+pub enum Instance {
     Object(u8, u8),
     Cell(u8, RowId),
 }
 
 /// A name's content octets.
-struct Name {
+pub struct Name {
     octets: [u8; 17],
     len: usize,
 }
 
 impl Name {
     #[inline]
-    fn of(instance: Instance) -> Name {
+    pub fn of(instance: Instance) -> Name {
         let [a, b, c, d, e, f, g, h, i, j] = DMS;
         let (octets, len) = match instance {
             Instance::Object(group, number) => ([a, b, c, d, e, f, g, h, i, j, group, number, 0, 0, 0, 0, 0], 13),
@@ -157,7 +157,7 @@ impl Name {
         Name { octets, len }
     }
 
-    fn content(&self) -> &[u8] {
+    pub fn content(&self) -> &[u8] {
         &self.octets[..self.len]
     }
 }
@@ -345,9 +345,9 @@ enum Change<'a> {
 }
 
 /// A SET is refused at a binding with an error status.
-struct Refusal {
-    index: i64,
-    status: i64,
+pub struct Refusal {
+    pub index: i64,
+    pub status: i64,
 }
 
 /// A bit for each instance that can be set: eight for a row, in the order of the rows, and those of the objects.
@@ -371,12 +371,12 @@ impl Marks {
 }
 
 /// The tag of a Response.
-const RESPONSE: u8 = 162;
+pub const RESPONSE: u8 = 162;
 
-const TOO_BIG: i64 = 1;
-const NO_SUCH_NAME: i64 = 2;
-const BAD_VALUE: i64 = 3;
-const GEN_ERR: i64 = 5;
+pub const TOO_BIG: i64 = 1;
+pub const NO_SUCH_NAME: i64 = 2;
+pub const BAD_VALUE: i64 = 3;
+pub const GEN_ERR: i64 = 5;
 
 fn number_in(low: u16, high: u16, value: &Value<'_>) -> Option<u16> {
     match *value {
@@ -457,12 +457,29 @@ const fn remainders() -> [u16; 256] {
     table
 }
 
-const REMAINDERS: [u16; 256] = remainders();
+/// For each octet the remainder of its bits, followed by so many octets of zeros more.
+const REMAINDERS: [[u16; 256]; 8] = {
+    let mut tables = [remainders(); 8];
+    let mut at = 256;
+    while at < 2048 {
+        let before = tables[at / 256 - 1][at % 256];
+        tables[at / 256][at % 256] = tables[0][(before & 255) as usize] ^ before >> 8;
+        at += 1;
+    }
+    tables
+};
 
-/// The checksum of a message (ISO/IEC 3309).
+/// The checksum of a message (ISO/IEC 3309), of its text by eight octets.
 pub fn crc(text: &[u8], beacon: u8, pixel: u8) -> u16 {
-    let after = |register: u16, octet: &u8| REMAINDERS[usize::from(register as u8 ^ octet)] ^ register >> 8;
-    !text.iter().chain([&beacon, &pixel]).fold(u16::MAX, after)
+    let after = |register: u16, octet: &u8| REMAINDERS[0][usize::from(register as u8 ^ octet)] ^ register >> 8;
+    let after_eight = |register: u16, [a, b, c, d, e, f, g, h]: &[u8; 8]| {
+        let [low, high] = register.to_le_bytes();
+        let octets = [low ^ a, high ^ b, *c, *d, *e, *f, *g, *h];
+        (0..8).fold(0, |sum, at| sum ^ REMAINDERS[7 - at][usize::from(octets[at])])
+    };
+    let (eights, rest) = text.as_chunks::<8>();
+    let register = eights.iter().fold(u16::MAX, after_eight);
+    !rest.iter().chain([&beacon, &pixel]).fold(register, after)
 }
 
 /// The number of a fault in dmsMultiSyntaxError.
@@ -560,7 +577,7 @@ impl Sign {
     }
 
     #[inline]
-    fn value(&self, instance: Instance) -> Option<Value<'_>> {
+    pub fn value(&self, instance: Instance) -> Option<Value<'_>> {
         match instance {
             Instance::Object(group, number) => self.object(group, number),
             Instance::Cell(column, id) => self.cell(column, id),
@@ -612,16 +629,32 @@ impl Sign {
         self.newly_accepted.take()
     }
 
+    /// What a name reads.
+    #[inline]
+    pub fn reads(&self, name: &[u8]) -> Option<Value<'_>> {
+        self.value(self.counts.named(name)?)
+    }
+
+    /// The instance that comes after a name.
+    #[inline]
+    pub fn next(&self, name: &[u8]) -> Option<Instance> {
+        self.counts.next(name)
+    }
+
+    /// A request was answered.
+    pub fn was_heard(&mut self) {
+        self.silent = 0;
+    }
+
     /// Handles a datagram; whether there is a reply, in `out`.
     pub fn receive(&mut self, datagram: &[u8], out: &mut Out) -> bool {
         out.clear();
         let Ok(message) = read(datagram) else {
             return false;
         };
-        let may_write = message.community == b"admin";
-        if !may_write && message.community != b"public" {
+        let Some(may_write) = may_write(&message) else {
             return false;
-        }
+        };
         match message.kind {
             Kind::Response => return false,
             Kind::Get => self.read_values(&message, false, out),
@@ -674,7 +707,7 @@ impl Sign {
         Ok(change)
     }
 
-    fn set(&mut self, may_write: bool, message: &Message<'_>) -> Result<(), Refusal> {
+    pub fn set(&mut self, may_write: bool, message: &Message<'_>) -> Result<(), Refusal> {
         let mut command = None;
         let mut only = None;
         let mut marks = Marks([0; 11]);
@@ -952,7 +985,7 @@ fn replace(octets: &mut Vec<u8>, by: &[u8]) {
 
 /// The octets of a response to this before its bindings, where these are many.
 #[inline]
-fn room_before(message: &Message<'_>) -> usize {
+pub fn room_before(message: &Message<'_>) -> usize {
     4 + 3 + size_of_element(message.community.len()) + 4 + size_of_element(size_of_number(message.request)) + 6 + 4
 }
 
@@ -969,11 +1002,21 @@ fn put_bindings(message: &Message<'_>, out: &mut Out) {
 }
 
 /// A reply with the request's bindings.
-fn repeat(message: &Message<'_>, status: i64, index: i64, out: &mut Out) {
+pub fn repeat(message: &Message<'_>, status: i64, index: i64, out: &mut Out) {
     put_bindings(message, out);
     if !out.finish(message.community, RESPONSE, message.request, status, index) {
         put_bindings(message, out);
         out.finish(message.community, RESPONSE, message.request, TOO_BIG, 0);
+    }
+}
+
+/// Whether a message's community may write; none where the message is not for the sign.
+#[inline]
+pub fn may_write(message: &Message<'_>) -> Option<bool> {
+    match message.community {
+        b"admin" => Some(true),
+        b"public" => Some(false),
+        _ => None,
     }
 }
 

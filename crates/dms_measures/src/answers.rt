@@ -3,12 +3,15 @@
 
 ghost use Rattle.std.specs.Prelude.{◌<◌};
 
+use crate::agent::{agent_of, publish, withdraw};
 use crate::centre::{REQUESTS, SETTINGS, publication, replies_to};
 use crate::face_of;
 use crate::sign::{sign_of, step};
 use arrayvec::ArrayVec;
+use dms_agent::Agent;
 use dms_centre::{Centre, Ended};
 use dms_codes::Order;
+use dms_device::Object;
 use dms_face::{Cell, check};
 use dms_face_pages::{Page, pages};
 use dms_multi::Lead;
@@ -193,6 +196,69 @@ pub extern "C" fn dms_answers_sign(
     let prepared = answered(&mut sign, before, 0, &mut out);
     let once = answered(&mut sign, script, prepared, &mut out);
     answered(&mut sign, script, once, &mut out)
+}
+
+/// Hands the agent a script, as it is measured, and notes each reply and what came of each datagram.
+fn agent_answered(agent: &mut Agent, script: &[u8], before: u64, out: &mut Out) -> u64 {
+    let mut sum = before;
+    let mut left = script;
+    'steps: while let Some((datagram, rest)) = step(left) {
+        let receipt = agent.receive(datagram, out);
+        sum = octets_noted(receipt_noted(sum, receipt), out.as_slice());
+        left = rest;
+    }
+    sum
+}
+
+/// Each reply of a new agent with objects of these names that is handed the script twice.
+#[unsafe(no_mangle)]
+pub extern "C" fn dms_answers_agent(
+    alloc: Global,
+    fonts: &[u8],
+    names: &[u8],
+    script: &[u8],
+) -> u64 {
+    let Some(mut agent) = agent_of(alloc, fonts, names) else {
+        return 0;
+    };
+    let mut out = Out::new();
+    let once = agent_answered(&mut agent, script, 0, &mut out);
+    objects_noted(agent_answered(&mut agent, script, once, &mut out), &agent)
+}
+
+/// With the name and the value of each object.
+fn objects_noted(before: u64, agent: &Agent) -> u64 {
+    let mut sum = noted(before, agent.device().objects().len() as u64);
+    for object in agent.device().objects() {
+        sum = object_noted(sum, object);
+    }
+    sum
+}
+
+/// With an object's name, its value, and whether a manager set it.
+fn object_noted(before: u64, object: &Object) -> u64 {
+    let sum = octets_noted(before, object.name().content());
+    noted(value_noted(sum, &object.value()), u64::from(object.is_set()))
+}
+
+/// The objects of an agent in which one is published and published again, and then without it.
+#[unsafe(no_mangle)]
+pub extern "C" fn dms_answers_publish(
+    alloc: Global,
+    fonts: &[u8],
+    names: &[u8],
+    name: &[u8],
+) -> u64 {
+    let Some(mut agent) = agent_of(alloc, fonts, names) else {
+        return 0;
+    };
+    let mut sum = 0_u64;
+    for number in [1, 2] {
+        let done = publish(alloc, &mut agent, name, number);
+        sum = objects_noted(noted(sum, u64::from(done)), &agent);
+    }
+    let found = withdraw(&mut agent, name);
+    objects_noted(noted(sum, u64::from(found)), &agent)
 }
 
 /// Each request of a new central system that publishes the text, and whether the text was accepted.

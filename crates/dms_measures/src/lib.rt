@@ -6,6 +6,7 @@
 //! ```
 #![tactic(auto)]
 
+pub mod agent;
 pub mod answers;
 pub mod centre;
 pub mod scripts;
