@@ -238,7 +238,10 @@ fn objects_noted(before: u64, agent: &Agent) -> u64 {
 /// With an object's name, its value, and whether a manager set it.
 fn object_noted(before: u64, object: &Object) -> u64 {
     let sum = octets_noted(before, object.name().content());
-    noted(value_noted(sum, &object.value()), u64::from(object.is_set()))
+    noted(
+        value_noted(sum, &object.value()),
+        u64::from(object.is_set()),
+    )
 }
 
 /// The objects of an agent in which one is published and published again, and then without it.
