@@ -4,9 +4,7 @@
 #![forbid(unsafe_code)]
 
 use crate::peer::{Kind, MAX_DATAGRAM, Message, Oid, Out, Value, is_name, read};
-use crate::peer_sign::{
-    BAD_VALUE, GEN_ERR, NO_SUCH_NAME, Name, RESPONSE, Refusal, Sign, TOO_BIG, may_write, repeat, room_before,
-};
+use crate::peer_sign::{BAD_VALUE, GEN_ERR, NO_SUCH_NAME, Name, RESPONSE, Refusal, Sign, TOO_BIG, repeat, room_before};
 use std::cmp::Ordering;
 use std::hint::black_box;
 
@@ -127,6 +125,16 @@ fn order(one: &[u8], other: &[u8]) -> Ordering {
             let size = |octets: &[u8]| octets.iter().position(|octet| *octet < 128);
             size(rest).cmp(&size(others)).then_with(|| rest[0].cmp(&others[0]))
         }
+    }
+}
+
+/// Whether a message's community may write; none where the message is not for the sign.
+#[inline]
+fn may_write(message: &Message<'_>) -> Option<bool> {
+    match message.community {
+        b"admin" => Some(true),
+        b"public" => Some(false),
+        _ => None,
     }
 }
 

@@ -200,7 +200,7 @@ impl Counts {
     }
 
     /// The instance of this name.
-    #[inline]
+    #[inline(always)]
     fn named(&self, content: &[u8]) -> Option<Instance> {
         match *content.strip_prefix(&DMS)? {
             [5, 8, 1, column, memory, number @ ..128] => self.cell(column, memory, number),
@@ -576,7 +576,7 @@ impl Sign {
         }
     }
 
-    #[inline]
+    #[inline(always)]
     pub fn value(&self, instance: Instance) -> Option<Value<'_>> {
         match instance {
             Instance::Object(group, number) => self.object(group, number),
@@ -652,9 +652,10 @@ impl Sign {
         let Ok(message) = read(datagram) else {
             return false;
         };
-        let Some(may_write) = may_write(&message) else {
+        let may_write = message.community == b"admin";
+        if !may_write && message.community != b"public" {
             return false;
-        };
+        }
         match message.kind {
             Kind::Response => return false,
             Kind::Get => self.read_values(&message, false, out),
@@ -668,6 +669,7 @@ impl Sign {
         true
     }
 
+    #[inline(always)]
     fn read_values(&self, message: &Message<'_>, next: bool, out: &mut Out) {
         let most = MAX_DATAGRAM.saturating_sub(room_before(message));
         let mut fits = true;
@@ -1007,16 +1009,6 @@ pub fn repeat(message: &Message<'_>, status: i64, index: i64, out: &mut Out) {
     if !out.finish(message.community, RESPONSE, message.request, status, index) {
         put_bindings(message, out);
         out.finish(message.community, RESPONSE, message.request, TOO_BIG, 0);
-    }
-}
-
-/// Whether a message's community may write; none where the message is not for the sign.
-#[inline]
-pub fn may_write(message: &Message<'_>) -> Option<bool> {
-    match message.community {
-        b"admin" => Some(true),
-        b"public" => Some(false),
-        _ => None,
     }
 }
 
