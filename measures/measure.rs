@@ -424,7 +424,7 @@ fn count_instructions(topic: &str, measure: &Measure) {
     measure.compare(3);
     print!("{topic}\t{}", measure.name);
     for call in [&measure.proved, &measure.by_hand] {
-        let times = calls_of_a_pass(call, PASS_COUNTED_NANOSECONDS, 0.0);
+        let times = calls_of_a_pass(call, PASS_COUNTED_NANOSECONDS, TIMES_WHAT_IS_DONE_ONCE);
         for times in [0, times] {
             let name = CString::new(format!("{topic}/{}/{times}", measure.name)).expect("a name");
             unsafe { count_from_here() };
