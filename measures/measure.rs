@@ -96,7 +96,7 @@ fn calls_of_a_pass(call: &Call, nanoseconds: f64, times_once: f64) -> u32 {
     let mut times = 4;
     loop {
         let took = least(times) - once;
-        if took >= wanted / 8.0 {
+        if took >= wanted / 2.0 {
             return (f64::from(times) * wanted / took).ceil() as u32;
         }
         times *= 4;
