@@ -7,8 +7,7 @@
 A step is a row of STEPS: its name, its command, the seconds after which it is stopped and counted as failed, and what
 it needs beside bash, Python and a C compiler. Steps run side by side, one a processor. A step that lacks something is
 skipped, and so is what a step says that it skipped, in a line `skipped NAME: why`. Of a step that fails the output is
-shown. One that goes by a clock and fails beside the others runs once more, alone, and that counts: both are shown, and
-a line `alone: names` says which steps passed alone only.
+shown.
 
 The last two lines are `N skipped: names` and `N passed, N failed`; a line `failed: names` stands before them where a
 step failed. The exit status is 0 where nothing failed, 9 where what ran before did or there is no program, and else 10
@@ -21,7 +20,7 @@ import argparse
 import os
 import sys
 
-from steps.step import COUNTS, TOP, Outcome, Step, run, totals
+from steps.step import COUNTS, TOP, Outcome, Step, totals
 from steps.together import adopt_orphans, end_children, ended
 
 STEPS = (
@@ -51,24 +50,15 @@ STEPS = (
     Step("worked rows", "tools/worked_rows.py --check", 60),
     Step("vectors as made", "tools/make_vectors.py --check", 120),
 )
-BY_THE_CLOCK = ("README's commands", "lasting", "conformance", "library for C", "control room", "tests of tools, types")
 _BEFORE, _FIRST = 9, 11  # the exit status where what ran before failed, or the first step
 
 
 def _outcomes(steps: list[Step], program: str) -> dict[str, Outcome]:
-    """Runs the steps, those that may take longest first, and says of each how it went once it has ended; then those
-    that go by a clock and failed, alone."""
+    """Runs the steps, those that may take longest first, and says of each how it went once it has ended."""
     found = {}
     for step, outcome in ended(steps, program, len(os.sched_getaffinity(0))):
         found[step.name] = outcome
         print(outcome.said, flush=True)
-    again = [step for step in steps if found[step.name].failed and step.name in BY_THE_CLOCK]
-    for step in again:
-        found[step.name] = run(step, program)
-        print(f"alone, {found[step.name].said}", flush=True)
-    passed = [step.name for step in again if not found[step.name].failed]
-    if passed:
-        print(f"alone: {', '.join(passed)}")
     return found
 
 
