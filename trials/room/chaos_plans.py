@@ -70,7 +70,7 @@ class Plans:
 
     def is_over(self, store: Store) -> bool:
         """Whether each schedule has had its time, and no plan is on; the one by hand is ended for that. Where none was
-        begun, since the machine or its disk stood still for so long, there is one more, twice as long each time."""
+        begun, there is one more, twice as long each time, as long as the run may take; that is said."""
         self._turn(store, may_begin=not self.asked)
         now, count = queries.now(store.database), "SELECT count(*) FROM plan_runs WHERE"
         begun = whole(store.database.run(f"{count} occurrence NOT LIKE 'by hand %'")[0][0])
@@ -122,4 +122,6 @@ def look_at_plans(found: Outcome, store: Store, held: Plans) -> str:
             )
             stays = [str(line) for line, outcome in rows if outcome == "accepted"] == [held.line(at)]
             found.holds(f"the text of plan {at} does not stay on sign {sign}", not stays)
-    return f"{len(runs)} times that plans were on, {len(scheduled)} of them by schedules"
+    more = held.schedules - SCHEDULES
+    words = f"{len(runs)} times that plans were on, {len(scheduled)} of them by schedules"
+    return words + (f", though all {SCHEDULES} were missed and {more} more wanted" if more else "")
