@@ -5,3 +5,4 @@ pub mod FontLaws
 pub mod Promises
 pub mod GlyphSearch
 pub mod Limits
+pub mod Bitmaps

@@ -1,6 +1,7 @@
 -- The rows that octets are, and the octets that rows are.
 use Rattle.std.proofs.Common.{◌≡◌, ℕ, zero, suc, ◌+◌, ◌*◌, ◌/◌, ◌≤◌, Bool, true, List, [], ◌∷◌, ◌++◌, length, take, drop, refl, sym, ap, ◌∙◌, arith, append_assoc, length-append, length-take, length-drop}
 use Rattle.std.specs.List.{AllByRecursion}
+use Rattle.std.proofs.Math.Seq.{take-add}
 use Rattle.std.proofs.lemmas.Bool.{eqb-true, eq-eqb}
 use Rattle.std.proofs.lemmas.List.{take-append-drop, drop-drop, take_at, drop_at}
 use Rattle.dms_face_font.specs.Glyph.{octet_bits, bits_of, joined, rows_of, SpellsRows}
@@ -15,6 +16,12 @@ length-bits_of (octet ∷ octets) = omega (arith, length-append (octet_bits octe
 rows_and_rest : (width height : ℕ) (bits : List Bool) → bits ≡ joined (rows_of width height bits) ++ drop (height * width) bits
 rows_and_rest width zero bits = ap (λ k. drop k bits) (let e : 0 ≡ 0 * width = omega arith in e)
 rows_and_rest width (suc height) bits = grind (arith, drop-drop, take-append-drop, append_assoc, rows_and_rest width height (drop width bits))
+
+pub joined_rows : (width height : ℕ) (bits : List Bool) → joined (rows_of width height bits) ≡ take (height * width) bits
+joined_rows width zero bits = ap (λ k. take k bits) (let e : 0 ≡ 0 * width = omega arith in e)
+joined_rows width (suc height) bits =
+    ap (λ rest. take width bits ++ rest) (joined_rows width height (drop width bits)) ∙ sym (take-add width (height * width) bits)
+    ∙ ap (λ k. take k bits) (let e : width + height * width ≡ suc height * width = omega arith in e)
 
 pub widths_of : (width height : ℕ) (bits : List Bool) → height * width ≤ length bits → AllByRecursion (λ row. length row ≡ width) (rows_of width height bits)
 widths_of width zero bits room = tt

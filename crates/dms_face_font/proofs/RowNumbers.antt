@@ -8,9 +8,9 @@ use Rattle.std.proofs.lemmas.Nat.{pow_pos}
 use Rattle.std.proofs.lemmas.Nat.Bits.{bit_at-zero, bit_at-suc, bit_at_above}
 use Rattle.std.proofs.lemmas.List.{length-map, get_or-map, get_or_past, take_more, take_more_set, take_all, map_more}
 use Rattle.std.proofs.lemmas.List.FromFn.{length-map-range_with_len, get_or-map-range_with_len}
-use Rattle.dms_face_font.specs.Glyph.{GlyphModel, lit_at, is_bit, row_bits, row_number, glyph_of_rows, glyph_from, bits_of, rows_of, AreRows, IsPicture}
+use Rattle.dms_face_font.specs.Glyph.{GlyphModel, lit_at, is_bit, row_bits, row_number, glyph_of_rows, glyph_from, bits_of, rows_of, bitmap_octets, octets_holding, AreRows, IsPicture}
 use Rattle.dms_face_font.proofs.Pictures.{length-rows_of, row_at}
-use Rattle.dms_face_font.proofs.RowLaws.{length-bits_of, widths_of}
+use Rattle.dms_face_font.proofs.RowLaws.{length-bits_of, widths_of, joined_rows}
 
 -- ---- one row
 
@@ -82,9 +82,9 @@ pub all_rows : (width height row : ℕ) (bits : List Bool) (rows : List ℕ) →
 all_rows width height row bits rows is so_far = grind (arith, take_all, length-rows_of)
 
 -- a row of numbers has a bit where its number has it
-pub lit_in_rows : (character width height : ℕ) (rows : List ℕ) (column row : ℕ) → AreRows character width height rows
+pub lit_in_rows : (character width height : ℕ) (rows bitmap : List ℕ) (column row : ℕ) → AreRows character width height rows bitmap
     → is_bit (get_or rows row 0) column ≡ lit_at (glyph_of_rows character width rows) column row
-lit_in_rows character width height rows column row are = grind (arith, cases_lt, get_or, get_or-map, get_or_past, length-map, bit_at-zero, get_or-map-range_with_len, bit_at_above, length-map-range_with_len)
+lit_in_rows character width height rows bitmap column row are = grind (arith, cases_lt, get_or, get_or-map, get_or_past, length-map, bit_at-zero, get_or-map-range_with_len, bit_at_above, length-map-range_with_len)
 
 -- where there is a bit
 pub lit_within : (character width : ℕ) (rows : List ℕ) (column row : ℕ) → lit_at (glyph_of_rows character width rows) column row ≡ true → column < width × row < length rows
@@ -127,11 +127,13 @@ rows_are_picture character width height octets rows is are =
     let GlyphOf : List (List Bool) → GlyphModel = λ rows. record { character = character; width = width; rows = rows } in
     ap (λ numbers. GlyphOf (map (row_bits width) numbers)) are ∙ ap GlyphOf (rows_again width cut (all_wide character width height octets is))
 
-pub rows_are_rows : (character width height : ℕ) (octets rows : List ℕ) → IsPicture character width height octets → rows ≡ map row_number (rows_of width height (bits_of octets))
-    → AreRows character width height rows
-rows_are_rows character width height octets rows is are =
-    let cut = rows_of width height (bits_of octets) in
-    let count : length rows ≡ height = ap length are ∙ length-map cut row_number ∙ length-rows_of width height (bits_of octets) in
+pub rows_are_rows : (character width height : ℕ) (octets rows bitmap : List ℕ) → IsPicture character width height octets → rows ≡ map row_number (rows_of width height (bits_of octets))
+    → bitmap ≡ octets_holding (take (width * height) (bits_of octets)) → AreRows character width height rows bitmap
+rows_are_rows character width height octets rows bitmap is are holds =
+    let bits = bits_of octets in
+    let cut = rows_of width height bits in
+    let count : length rows ≡ height = ap length are ∙ length-map cut row_number ∙ length-rows_of width height bits in
+    let area : width * height ≡ height * width = omega arith in
     record {
       least_character = is.least_character;
       least_width = is.least_width;
@@ -140,4 +142,6 @@ rows_are_rows character width height octets rows is are =
       greatest_height = is.greatest_height;
       height_is = count;
       within = λ row. subst (λ numbers. get_or numbers row 0 < 2 ^ width) (sym are) (numbers_within width cut (all_wide character width height octets is) row);
+      bitmap_is = holds ∙ ap (λ n. octets_holding (take n bits)) area ∙ ap octets_holding (sym (joined_rows width height bits))
+          ∙ sym (ap bitmap_octets (rows_are_picture character width height octets rows is are));
     }

@@ -39,14 +39,28 @@ abbrev pub rows_of : ℕ → ℕ → List Bool → List (List Bool)
 rows_of width zero bits = []
 rows_of width (suc height) bits = take width bits ∷ rows_of width height (drop width bits)
 
+-- an octet of these bits, the high one first; those that it lacks are zeros
+abbrev pub octet_from : ℕ → List Bool → ℕ
+octet_from zero bits = 0
+octet_from (suc places) [] = 0
+octet_from (suc places) (bit ∷ bits) = (if bit then 2 ^ places else 0) + octet_from places bits
+
+-- bits as whole octets, the high one of each first, with zeros after the last
+abbrev pub octets_holding : List Bool → List ℕ
+octets_holding bits = map (octet_from 8) (rows_of 8 ((length bits + 7) / 8) bits)
+
+-- characterBitmap: the bits of a picture, row by row from the top, each from the left
+abbrev pub bitmap_octets : GlyphModel → List ℕ
+bitmap_octets glyph = octets_holding (joined glyph.rows)
+
 -- the picture that octets are
 abbrev pub glyph_from : ℕ → ℕ → ℕ → List ℕ → GlyphModel
 glyph_from character width height octets =
     record { character = character; width = width; rows = rows_of width height (bits_of octets) }
 
--- octets that are a picture: enough for its bits, and its limits
+-- octets that are a picture: as many as its bits take, and its limits
 pub record IsPicture (character width height : ℕ) (octets : List ℕ) : Type 0 where
-  pub room : width * height ≤ 8 * length octets
+  pub enough : length octets ≡ (width * height + 7) / 8
   pub least_character : 1 ≤ character
   pub least_width : 1 ≤ width
   pub greatest_width : width ≤ 32
@@ -70,8 +84,8 @@ row_number (bit ∷ bits) = (if bit then 1 else 0) + 2 * row_number bits
 abbrev pub glyph_of_rows : ℕ → ℕ → List ℕ → GlyphModel
 glyph_of_rows character width rows = record { character = character; width = width; rows = map (row_bits width) rows }
 
--- what the code keeps of a picture: its rows as numbers, and its limits
-pub record AreRows (character width height : ℕ) (rows : List ℕ) : Type 0 where
+-- what the code keeps of a picture: its rows as numbers, its octets, and its limits
+pub record AreRows (character width height : ℕ) (rows bitmap : List ℕ) : Type 0 where
   pub least_character : 1 ≤ character
   pub least_width : 1 ≤ width
   pub greatest_width : width ≤ 32
@@ -79,3 +93,4 @@ pub record AreRows (character width height : ℕ) (rows : List ℕ) : Type 0 whe
   pub greatest_height : height ≤ 32
   pub height_is : length rows ≡ height
   pub within : (row : ℕ) → slice_index_or rows row 0 < 2 ^ width
+  pub bitmap_is : bitmap ≡ bitmap_octets (glyph_of_rows character width rows)

@@ -1,7 +1,7 @@
 //! Fonts as text: a line `font N height H space C line L version V`, then a line `glyph CHARACTER WIDTH BITS` for each
 //! character.
 
-ghost use Rattle.std.specs.Prelude.{◌≡◌, ◌*◌, ◌≤◌, ◌⊎◌, length, option_map, IfSome, IfOk, IfErr, OnOk, OnErr};
+ghost use Rattle.std.specs.Prelude.{◌≡◌, ◌+◌, ◌*◌, ◌/◌, ◌≤◌, ◌⊎◌, length, option_map, IfSome, IfOk, IfErr, OnOk, OnErr};
 ghost use Rattle.dms_text.specs.Lines.{lines_left};
 ghost use Rattle.dms_text.specs.Words.{words_of};
 ghost use Rattle.dms_face_font.specs.Glyph.{GlyphModel};
@@ -70,7 +70,7 @@ fn glyph_line(line: &[u8]) -> Option<GlyphLine<'_>>
 #[tactic(auto, unfolding(crate::specs::FontReading::bitmap_of))]
 fn bitmap(alloc: Global, width: u8, height: u8, word: &[u8]) -> Result<Vec<u8>, FontFaultKind>
     ensures read { GivesOrMemory (λ bits. bits.items) result (bitmap_read width height word.now) }
-    ensures enough { IfOk result (λ bits. width * height ≤ 8 * length bits.items) }
+    ensures enough { IfOk result (λ bits. length bits.items ≡ (width * height + 7) / 8) }
 {
     match octets(alloc, word) {
         Ok(Some(bits)) if are_enough(width, height, bits.as_slice()) => Ok(bits),
@@ -97,7 +97,7 @@ fn glyph(alloc: Global, height: u8, line: &[u8]) -> Result<Glyph, FontFaultKind>
         return Err(FontFaultKind::Glyph);
     };
     let bits = bitmap(alloc, said.width, height, said.bits)?;
-    Ok(Glyph::new(said.character, said.width, height, bits.as_slice()))
+    Ok(Glyph::new(said.character, said.width, height, bits))
 }
 
 fn fault_at(kind: FontFaultKind, line: usize) -> FontFault

@@ -1,7 +1,9 @@
 //! A character's picture.
 
-ghost use Rattle.std.specs.Prelude.{◌≡◌, ℕ, ◌+◌, ◌*◌, ◌<◌, ◌≤◌, true, length, take, drop, map};
+ghost use Rattle.std.specs.Prelude.{◌≡◌, ℕ, ◌+◌, ◌*◌, ◌/◌, ◌<◌, ◌≤◌, true, length, take, drop, map};
 ghost use Rattle.dms_face_font.specs.Glyph.{lit_at, is_bit, bits_of, rows_of, row_number, glyph_from, IsPicture};
+ghost use Rattle.std.specs.Int.Digits.{AllBelowBase};
+ghost use Rattle.dms_face_font.specs.Glyph.{bitmap_octets, octets_holding};
 ghost use Rattle.dms_face_font.specs.Font.{IsGlyph};
 
 use std::marker::Model;
@@ -20,6 +22,8 @@ pub struct Glyph {
     height: u8,
     /// The rows of the picture from the top: the lowest bit of each is its first column from the left.
     rows: [u32; MAX_HEIGHT],
+    /// The bits of the picture, row by row, the high bit of each octet first, and zeros after the last.
+    bitmap: Vec<u8>,
 }
 
 impl Model for Glyph {
@@ -30,22 +34,24 @@ impl Model for Glyph {
 
     ghost view = { λ g. glyph_of_rows g.character g.width (take g.height g.rows) };
 
-    ghost invariant = { λ g. AreRows g.character g.width g.height (take g.height g.rows) };
+    ghost invariant = { λ g. AreRows g.character g.width g.height (take g.height g.rows) g.bitmap.items };
 }
 
 impl Glyph {
     /// A picture of this width and height, whose bits these octets are, row by row, the high bit of each octet first.
-    pub(crate) fn new(character: u16, width: u8, height: u8, bits: &[u8]) -> Glyph
-        requires { IsPicture character width height bits.now }
-        ensures value { result ≡ glyph_from character width height bits.now }
+    pub(crate) fn new(character: u16, width: u8, height: u8, bits: Vec<u8>) -> Glyph
+        requires { IsPicture character width height bits.items }
+        ensures value { result ≡ glyph_from character width height bits.items }
         ensures limits { IsGlyph height result }
     {
-        let rows = rows(width, height, bits);
+        let rows = rows(width, height, bits.as_slice());
+        let count = usize::from(width) * usize::from(height);
         Glyph {
             character,
             width,
             height,
             rows,
+            bitmap: cleared(bits, count),
         }
     }
 
@@ -98,6 +104,35 @@ impl Glyph {
         }
         bits >> column & 1 == 1
     }
+
+    /// The octets of the picture (characterBitmap): its bits row by row from the top, the high bit of each octet first,
+    /// and zeros after the last.
+    pub fn bitmap(&self) -> &[u8]
+        ensures { result.now ≡ bitmap_octets self.now }
+    {
+        self.bitmap.as_slice()
+    }
+}
+
+/// Octets are below 256: for the proof alone, nothing runs.
+#[inline]
+fn are_octets(octets: &[u8])
+    ensures { AllBelowBase 256 octets.now }
+{}
+
+/// The octets of this many bits, with zeros after the last.
+fn cleared(octets: Vec<u8>, count: usize) -> Vec<u8>
+    requires enough { length octets.items ≡ (count + 7) / 8 }
+    requires some { 1 ≤ count }
+    requires small { count ≤ 1024 }
+    ensures { result.items ≡ octets_holding (take count (bits_of octets.items)) }
+{
+    are_octets(octets.as_slice());
+    let mut octets = octets;
+    let last = octets.len() - 1;
+    let padding = 8 * octets.len() - count;
+    octets[last] = octets[last] >> padding << padding;
+    octets
 }
 
 /// The rows of a picture whose bits these octets are, as numbers.

@@ -16,6 +16,6 @@ mod scalar;
 
 pub use column::Column;
 pub use instance::Instance;
-pub use name::Name;
+pub use name::{Name, NumberedName};
 pub use objects::{Access, Group, Instances, OBJECTS, Object, Syntax};
 pub use scalar::Scalar;

@@ -4,7 +4,9 @@ ghost use Rattle.std.specs.Prelude.{◌≡◌, ◌++◌, ◌+◌, ◌≤◌, ◌
 ghost use Rattle.arrayvec.specs.ArrayVec.{array_vec_len};
 ghost use Rattle.dms_wire_ber.specs.ObjectIdentifier.{sub_identifier_octets};
 ghost use Rattle.dms_mib.specs.declared.instance.Instance.TheVariants as kinds;
-ghost use Rattle.dms_mib.specs.Names.{name_of};
+ghost use Rattle.std.specs.Prelude.{[]};
+ghost use Rattle.std.specs.Int.Digits.{AllBelowBase};
+ghost use Rattle.dms_mib.specs.Names.{name_of, below_dms};
 ghost use Rattle.dms_mib.specs.NameOctets.{IsNamed};
 
 use crate::column::Column;
@@ -62,6 +64,44 @@ impl Name {
         ensures { result ≡ name_of self.now }
     {
         Oid::known(self.octets.as_slice())
+    }
+}
+
+/// A name below dms of numbers below 128 and one more, by its content octets.
+#[derive(Drop)]
+pub struct NumberedName {
+    content: Octets,
+}
+
+impl Model for NumberedName {
+    ghost use Rattle.std.specs.Prelude.{ℕ, List};
+    ghost use Rattle.dms_wire_ber.specs.ObjectIdentifier.{IsName};
+    ghost use Rattle.dms_wire_ber.specs.NameReading.{numbers_of};
+
+    ghost Value = { List ℕ };
+
+    ghost view = { λ n. numbers_of n.content.items };
+
+    ghost invariant = { λ n. IsName (numbers_of n.content.items) n.content.items };
+}
+
+impl NumberedName {
+    /// The name of dms with these numbers and one more after it.
+    pub fn of(numbers: &[u8], last: u16) -> NumberedName
+        requires few { length numbers.now ≤ 7 }
+        requires small { AllBelowBase 128 numbers.now }
+        ensures { result ≡ below_dms (numbers.now ++ last ∷ []) }
+    {
+        let mut content = below_dms(numbers);
+        push_sub_identifier(&mut content, last);
+        NumberedName { content }
+    }
+
+    /// The name as an object identifier.
+    pub fn oid(&self) -> Oid<'_>
+        ensures { result ≡ self.now }
+    {
+        Oid::known(self.content.as_slice())
     }
 }
 

@@ -5,7 +5,7 @@ ghost use Rattle.dms_wire.specs.Message.{ObjectValue, VarBind};
 ghost use Rattle.dms_wire.specs.View.{object_value};
 ghost use Rattle.dms_mib_replies.specs.Next.{next_name, next_binding};
 
-use dms_mib::Name;
+use dms_mib::{Name, NumberedName};
 use dms_wire::{Oid, Value};
 
 /// What can be asked for the value of a name, and for the first name after another that has a value.
@@ -35,13 +35,16 @@ pub struct Next<'a> {
     pub value: Value<'a>,
 }
 
-/// A name that comes after another: that of an instance of a sign, or one that its object keeps.
+/// A name that comes after another: that of an instance of a sign, one that its object keeps, or one that is made of
+/// numbers.
 #[derive(Drop)]
 pub enum NextName<'a> {
     /// The name of an instance of a sign, which is made as it is asked for.
     Instance(Name),
     /// A name over octets that are kept elsewhere.
     Lent(Oid<'a>),
+    /// A name of numbers, which is made as it is asked for.
+    Numbered(NumberedName),
 }
 
 impl<'a> NextName<'a> {
@@ -52,6 +55,7 @@ impl<'a> NextName<'a> {
         match self {
             NextName::Instance(name) => name.oid(),
             NextName::Lent(name) => lent(name),
+            NextName::Numbered(name) => name.oid(),
         }
     }
 }

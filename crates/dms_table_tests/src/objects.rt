@@ -1,7 +1,7 @@
 //! Columns by their numbers, and names by their octets.
 
 use dms_codes::RowId;
-use dms_mib::{Column, Instance, Name, Scalar};
+use dms_mib::{Column, Instance, Name, NumberedName, Scalar};
 use std::process::Abort;
 
 fn check_number(rt: &impl Abort, column: Column, number: u8) {
@@ -33,6 +33,24 @@ fn the_name_of_an_object_is_its_octets(rt: HostRuntime) {
         name.oid().content(),
         [43, 6, 1, 4, 1, 137, 54, 4, 2, 3, 6, 3, 0].as_slice()
     );
+}
+
+/// Asserts the octets of a name after those of dms.
+fn check_numbered(rt: &impl Abort, name: &NumberedName, octets: &[u8]) {
+    let dms = [43, 6, 1, 4, 1, 137, 54, 4, 2, 3];
+    assert!(rt; name.oid().content().strip_prefix(dms.as_slice()) == Some(octets));
+}
+
+/// fontMaxCharacterSize.0, and characters' bitmaps, whose numbers have one, two and three octets.
+#[test]
+fn a_numbered_name_is_its_octets(rt: HostRuntime) {
+    check_numbered(&rt, &NumberedName::of(&[3, 5], 0), &[3, 5, 0]);
+    let name = NumberedName::of(&[3, 4, 1, 3, 1], 127);
+    check_numbered(&rt, &name, &[3, 4, 1, 3, 1, 127]);
+    let name = NumberedName::of(&[3, 4, 1, 3, 1], 128);
+    check_numbered(&rt, &name, &[3, 4, 1, 3, 1, 129, 0]);
+    let name = NumberedName::of(&[3, 4, 1, 3, 127, 0, 127], 65535);
+    check_numbered(&rt, &name, &[3, 4, 1, 3, 127, 0, 127, 131, 255, 127]);
 }
 
 /// Asserts the octets of a row's status after those of dmsMessageEntry.

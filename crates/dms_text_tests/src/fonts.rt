@@ -47,6 +47,26 @@ fn a_glyph_reads_the_cells_of_its_text(rt: HostRuntime) -> Result<(), Fail> {
     Ok(())
 }
 
+/// Asserts the octets of the picture of character 65 in a font of height 5.
+fn check_bitmap(rt: &impl Abort, alloc: Global, glyph: &[u8], octets: &[u8]) -> Result<(), Fail> {
+    let header = b"font 2 height 5 space 1 line 1 version 0002";
+    let mut font = Font::from_header(alloc, header).ok_or("no header")?;
+    font.add_glyph(alloc, glyph)?;
+    let a = font.glyph(65).ok_or("no glyph")?;
+    assert_eq!(rt; a.bitmap(), octets);
+    Ok(())
+}
+
+/// What stands after the last of 15, 5, 10 or 40 bits is no part of a picture.
+#[test]
+fn octets_of_a_picture_end_in_zeros(rt: HostRuntime) -> Result<(), Fail> {
+    check_bitmap(&rt, rt.alloc(), b"glyph 65 3 57da", &[0x57, 0xda])?;
+    check_bitmap(&rt, rt.alloc(), b"glyph 65 3 57db", &[0x57, 0xda])?;
+    check_bitmap(&rt, rt.alloc(), b"glyph 65 1 ff", &[0xf8])?;
+    check_bitmap(&rt, rt.alloc(), b"glyph 65 2 ffff", &[0xff, 0xc0])?;
+    check_bitmap(&rt, rt.alloc(), b"glyph 65 8 0102030405", &[1, 2, 3, 4, 5])
+}
+
 /// The number of a text's font, its height, its spacings between characters and between lines, its version, and how
 /// many characters it has.
 fn header(alloc: Global, text: &[u8]) -> Result<(u8, u8, u8, u8, u16, usize), FontFault> {

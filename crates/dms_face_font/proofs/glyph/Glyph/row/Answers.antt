@@ -11,7 +11,7 @@ returns-then-row-from c = λ column.
     let row = c.args.row in
     let below : row < glyph.height = omega (arith, c.from.ensures, c.if-row-from.true) in
     ap (λ n. is_bit n column) (sym (get_or-take glyph.height glyph.rows row 0 below))
-    ∙ lit_in_rows glyph.character glyph.width glyph.height rows column row c.self.invariant
+    ∙ lit_in_rows glyph.character glyph.width glyph.height rows glyph.bitmap.items column row c.self.invariant
     ∙ ap (λ g. lit_at g column row) c.self.view_is
 
 pub returns-else-row-from : goal.returns-else-row-from
@@ -21,5 +21,5 @@ returns-else-row-from c = λ column.
     let row = c.args.row in
     let past : length rows ≤ row = omega (arith, c.from.ensures, c.if-row-from.false, c.self.invariant.height_is) in
     ap (λ n. is_bit n column) (sym (get_or_past rows row 0 past))
-    ∙ lit_in_rows glyph.character glyph.width glyph.height rows column row c.self.invariant
+    ∙ lit_in_rows glyph.character glyph.width glyph.height rows glyph.bitmap.items column row c.self.invariant
     ∙ ap (λ g. lit_at g column row) c.self.view_is
