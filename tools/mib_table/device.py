@@ -1,8 +1,7 @@
-"""The objects beside a sign's as two MIB modules and docs/OBJECTS.md have them, for tools/objects.py."""
+"""The objects beside a sign's as two MIB modules have them, for tools/objects.py."""
 
 from __future__ import annotations
 
-import itertools
 import pathlib
 import sys
 import textwrap
@@ -10,10 +9,10 @@ import textwrap
 TOP = pathlib.Path(__file__).resolve().parents[2]
 sys.path.append(str(TOP / "python"))  # where the package is
 
+
 from wisangub.objects.known import KNOWN, By, Known  # noqa: E402
-from wisangub.objects.lines import dotted  # noqa: E402
 from wisangub.snmp import wire  # noqa: E402
-from wisangub.snmp.names import DMS, TYPES  # noqa: E402
+from wisangub.snmp.names import TYPES  # noqa: E402
 
 _WIDTH = 120
 _TABLES = {
@@ -27,8 +26,6 @@ _SAID = {
     "characterTable": "The characters of each font.",
 }
 _PLAIN = {wire.COUNTER: "Counter", wire.TICKS: "TimeTicks", wire.NAME: "OBJECT IDENTIFIER"}
-_WHO = {By.FIRMWARE: "", By.MANAGER: " (w)", By.ACTING: " (a)", By.FONTS: ""}  # who writes it, on the page
-_ROW = 200  # columns of the page's table
 
 
 def _wrapped(text: str, begin: str, spaces: int = 8) -> str:
@@ -113,28 +110,3 @@ def system_objects() -> str:
 def device_objects() -> str:
     """All others."""
     return _blocks([one for one in KNOWN if one.node != "system"])
-
-
-def _node(one: Known) -> str:
-    """A node as the page has it: below dms, below global, or whole."""
-    numbers = one.numbers[:-1]
-    for word, root in (("dms", DMS), ("global", (*DMS[:-1], 6))):
-        if numbers[: len(root)] == root:
-            return f"{word}.{dotted(numbers[len(root):])}"
-    return dotted(numbers)
-
-
-def _rows(node: list[Known]) -> list[str]:
-    """The rows of the objects of a node: as many objects in each as it has room for."""
-    front, back = f"| {_node(node[0])} | ", f" | {node[0].source} |"
-    words = ", ".join(f"{one.number} {one.name}{_WHO[one.by]}".replace(" ", "\0") for one in node)
-    room = _ROW - len(front) - len(back)
-    return [front + line.replace("\0", " ") + back for line in textwrap.wrap(words, room, break_on_hyphens=False)]
-
-
-def page_objects() -> str:
-    """The rows of docs/OBJECTS.md."""
-    rows = ["| node | its objects, each after its number | from memory of |", "|---|---|---|"]
-    by_node = sorted(KNOWN, key=lambda one: one.numbers[:-1])
-    nodes = itertools.groupby(by_node, lambda one: one.node)
-    return "\n".join([*rows, *(row for _, node in nodes for row in _rows(list(node)))])

@@ -2,14 +2,16 @@
 
 from __future__ import annotations
 
+import itertools
 import textwrap
 
 from mib_table.table import BadTable, Object, Syntax
 
 _WIDTH = 120
 _ACCESS = {"Read": "read-only", "Write": "read-write", "Command": "read-write"}
-_MARKS = {"Read": "", "Write": "w", "Command": "c"}
-_CELLS = "| 5.8.1.c.t.n | dmsMessageTable | | | column c of row n of memory type t, below |"
+_MARKS = {"Read": "", "Write": " (w)", "Command": " (c)"}
+_CELLS = ".c.t.n, column c of row n of type t"
+_ROW = 200  # columns of the page's table
 _HEAD = """\
 dmsMessageTable OBJECT-TYPE
     SYNTAX  SEQUENCE OF DmsMessageEntry
@@ -47,27 +49,12 @@ def _in_mib(syntax: Syntax) -> tuple[str, str]:
     raise BadTable(f"no syntax {syntax}")
 
 
-def _on_page(syntax: Syntax) -> str:
-    """The range that a page says."""
-    match syntax.kind, syntax.numbers:
-        case "Address", ():
-            return "address"
-        case "Range", (low, high):
-            return f"{low} to {high}"
-        case "Asks", (low, high, least, most):
-            return f"{low} to {high}, written {least} to {most}"
-        case "Octets", (low, high):
-            return f"{low} octets" if low == high else f"{low} to {high} octets"
-    return ""
-
-
 def _wrapped(text: str, begin: str, spaces: int = 8) -> str:
     """A text whose first line begins with this, and its further ones with so many spaces."""
     return textwrap.fill(text, _WIDTH, initial_indent=begin, subsequent_indent=" " * spaces, break_on_hyphens=False)
 
 
 def _object_in_mib(entry: Object) -> str:
-    said = entry.said.replace(" (own)", "")
     choices = ", ".join(f"{word}({number})" for word, number in entry.words)
     kind, bounds = _in_mib(entry.syntax)
     values = f"{{ {choices} }}" if choices else bounds
@@ -77,14 +64,8 @@ def _object_in_mib(entry: Object) -> str:
     ACCESS  {_ACCESS[entry.access]}
     STATUS  mandatory
     DESCRIPTION
-{_wrapped(f'"{said}"', "        ")}
+{_wrapped(f'"{entry.said}"', "        ")}
     ::= {{ {entry.node[0].lower()}{entry.node[1:]} {entry.number} }}"""
-
-
-def _row_of_page(entry: Object) -> str:
-    place = f"{entry.number}" if entry.is_column else f"{entry.place}.{entry.number}"
-    cells = [place, entry.name, _on_page(entry.syntax), _MARKS[entry.access], entry.said]
-    return "|" + "|".join(f" {cell} " if cell else " " for cell in cells) + "|"
 
 
 def mib_objects(objects: list[Object]) -> str:
@@ -96,14 +77,19 @@ def mib_objects(objects: list[Object]) -> str:
     return "\n\n".join(blocks)
 
 
+def _rows(front: str, objects: list[str]) -> list[str]:
+    """Rows of a page's table: as many of a node's objects in each as it has room for."""
+    words = ", ".join(words.replace(" ", "\0") for words in objects)
+    lines = textwrap.wrap(words, _ROW - len(f"{front} |"), break_on_hyphens=False)
+    return [front + line.replace("\0", " ") + " |" for line in lines]
+
+
 def profile_objects(objects: list[Object]) -> str:
-    """The rows of objects that have one instance, and one row for the message table."""
-    rows = [_CELLS if entry.is_column else _row_of_page(entry) for entry in objects]
-    return "\n".join(["| after dms | object | range | | value |", "|---|---|---|---|---|", *dict.fromkeys(rows)])
-
-
-def profile_columns(objects: list[Object]) -> str:
-    """The rows of columns."""
-    rows = [_row_of_page(entry) for entry in objects if entry.is_column]
-    head = ["| column | object | range | | value |", "|---|---|---|---|---|"]
-    return "\n".join([*head, *rows])
+    """The rows of docs/PROFILE.md, by node."""
+    rows = ["| below dms | objects, each after its number |", "|---|---|"]
+    by_place = sorted(objects, key=lambda entry: entry.place)
+    for place, of_place in itertools.groupby(by_place, lambda entry: entry.place):
+        listed = list(of_place)
+        front = f"| {place}{_CELLS if listed[0].is_column else ''} | "
+        rows += _rows(front, [f"{entry.number} {entry.name}{_MARKS[entry.access]}" for entry in listed])
+    return "\n".join(rows)

@@ -1,5 +1,7 @@
-//! Tests of a device and its objects through their public calls.
+//! Tests of a device, its objects and those of fonts through their public calls.
 #![tactic(auto)]
 
 #[cfg(test)]
 mod devices;
+#[cfg(test)]
+mod fonts;

@@ -1,0 +1,17 @@
+use Rattle.std.proofs.Common.{◌≡◌, Option, Some, None, sym, subst, ◌∙◌, refl}
+use Rattle.std.specs.Prelude.{option_map}
+use Rattle.dms_wire.specs.Message.{VarBind}
+use Rattle.dms_device_fonts.specs.Tree.{tree_after}
+use Rattle.dms_device_fonts.specs.Fonts.{font_row}
+use Rattle.dms_device_fonts.specs.View.{end_binding}
+use Rattle.dms_device_fonts.proofs.ends.end_after.Goals as goal
+
+pub returns-in-Fonts : goal.returns-in-Fonts
+returns-in-Fonts c = λ column index.
+    let none : Option VarBind = None in
+    subst (λ t. none ≡ tree_after (font_row t column index (Some c.args.font.now)) c.args.numbers) (sym c.in-Fonts.is) refl
+
+pub returns-in-Characters : goal.returns-in-Characters
+returns-in-Characters c = λ column index.
+    subst (λ t. option_map (end_binding column index c.args.font.now) c.as_end.result ≡ tree_after (font_row t column index (Some c.args.font.now)) c.args.numbers) (sym c.in-Characters.is)
+    (c.as_end.ensures column index c.args.font.now ∙ c.glyph_after.ensures column index)
