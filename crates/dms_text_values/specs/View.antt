@@ -1,5 +1,5 @@
 -- What the code's values say; only proofs go through these.
-use Rattle.std.specs.Prelude.{ℕ, List, [], ◌++◌, Option, Some, None}
+use Rattle.std.specs.Prelude.{ℕ, Bool, true, false, List, [], ◌++◌, Option, Some, None}
 use Rattle.std.specs.List.{flat_map}
 use Rattle.arrayvec.specs.ArrayVec.{ArrayVec}
 use Rattle.dms_wire_ber.specs.ObjectIdentifier.{sub_identifier_octets}
@@ -37,3 +37,9 @@ abbrev pub octets_within : ObjectValue → List ℕ
 octets_within (octet_string octets) = octets
 octets_within (opaque octets) = octets
 octets_within _ = []
+
+-- it is an OCTET STRING or an Opaque
+abbrev pub has_octets : ObjectValue → Bool
+has_octets (octet_string octets) = true
+has_octets (opaque octets) = true
+has_octets _ = false

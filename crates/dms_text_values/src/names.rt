@@ -2,7 +2,7 @@
 
 ghost use Rattle.std.specs.Prelude.{◌≡◌, ◌++◌, ◌+◌, ◌≤◌, option_map};
 ghost use Rattle.arrayvec.specs.ArrayVec.{array_vec_len};
-ghost use Rattle.dms_wire_ber.specs.ObjectIdentifier.{sub_identifier_octets};
+ghost use Rattle.dms_wire_ber.specs.ObjectIdentifier.{IsName, sub_identifier_octets};
 ghost use Rattle.dms_wire_ber.specs.NameReading.{numbers_of};
 ghost use Rattle.dms_text_values.specs.NameReading.{name_of, most_second, numbers_at};
 ghost use Rattle.dms_text_values.specs.View.{with_numbers, content_items};
@@ -48,7 +48,8 @@ impl NameRead {
 
     /// Its content octets (X.690, 8.19).
     pub fn content(&self) -> &[u8]
-        ensures { numbers_of result.now ≡ self.now }
+        ensures octets { IsName self.now result.now }
+        ensures numbers { numbers_of result.now ≡ self.now }
     {
         self.content.as_slice()
     }

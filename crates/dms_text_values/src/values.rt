@@ -1,12 +1,12 @@
 //! The value that words spell.
 
-ghost use Rattle.std.specs.Prelude.{◌≡◌, option_map, IfOk};
+ghost use Rattle.std.specs.Prelude.{◌≡◌, true, option_map, IfOk, OnErr};
 ghost use Rattle.dms_wire.specs.View.{object_value};
 ghost use Rattle.dms_text_forms.specs.FieldsView.{octets_in};
 ghost use Rattle.dms_text_values.specs.ValueReading.{value_at, value_after, octet_string_at, opaque_at};
 ghost use Rattle.dms_text_values.specs.ValueReading.{object_identifier_at, integer_value_at, ip_address_at};
 ghost use Rattle.dms_text_values.specs.ValueReading.{counter_at, gauge_at, time_ticks_at, large_number_at};
-ghost use Rattle.dms_text_values.specs.View.{worded_value, value_and_rest, octets_within};
+ghost use Rattle.dms_text_values.specs.View.{worded_value, value_and_rest, octets_within, has_octets};
 
 use crate::addresses::address;
 use crate::integers::integer;
@@ -43,7 +43,8 @@ pub enum ValueWords<'a> {
 impl ValueWords<'_> {
     /// The octets of an OCTET STRING or of an Opaque, for `over`; none of another value, for which no memory is asked.
     pub fn octets(&self, alloc: Global) -> Result<Vec<u8>, AllocError>
-        ensures { IfOk result (λ octets. octets.items ≡ octets_within (worded_value self.now)) }
+        ensures octets { IfOk result (λ octets. octets.items ≡ octets_within (worded_value self.now)) }
+        ensures memory { OnErr result (has_octets (worded_value self.now) ≡ true) }
     {
         match self {
             ValueWords::Octets(word) => octets_in(alloc, word),
