@@ -51,8 +51,7 @@ class State:
         self.syntax, self.syntax_at = NONE, 0
         self.last_code = self.refused_code = bytes(12)
         self.power = True
-        self.kept: Shown | None = None
-        self.shown = self.blank_shown(BLANK_1, POWER_RECOVERY)
+        self.shown = self.kept = self.blank_shown(BLANK_1, POWER_RECOVERY)
 
     def copied(self) -> "State":
         """As it is now: what a request may change is another's. Nobody changes what is shown once it is made."""

@@ -31,6 +31,7 @@ use std::marker::Model;
 
 mod events;
 mod own_codes;
+mod parts;
 pub mod reply;
 mod set_request;
 mod values;

@@ -11,6 +11,7 @@ use std::test::Fail;
 
 mod cases;
 mod hostile;
+mod saved;
 
 fn bench_sign(alloc: Global) -> Result<Sign, &'static str> {
     sign_of(alloc, stock(&[B]))

@@ -1,0 +1,60 @@
+-- The rows of a type of memory, one by one.
+use Rattle.std.proofs.Common.{◌≡◌, ℕ, zero, suc, ◌+◌, ◌-◌, ◌<◌, ◌==◌, Bool, true, false, cond, List, [], ◌∷◌, ◌++◌, length, take, get_or, slice_get, flat_map, Option, Some, None, option_map, refl, sym, ap, ◌∙◌, arith}
+use Rattle.std.specs.List.{enumerate_from}
+use Rattle.std.proofs.lemmas.Bool.{eqb-true}
+use Rattle.std.proofs.lemmas.List.{flat_map_more, take_more, length-take-le}
+use Rattle.std.proofs.lemmas.Option.{slice_get-get_or, same_Some}
+use Rattle.dms_codes.specs.Memory.{blank_memory}
+use Rattle.dms_table.specs.Rows.{RowModel, TableModel, RowReading, rows_of, numbered, row_read, reading, blank_reading, blank_at}
+
+numbered_push : {A : Type 0} (first : ℕ) (xs : List A) (x : A) → enumerate_from first (xs ++ x ∷ []) ≡ enumerate_from first xs ++ (first + length xs, x) ∷ []
+numbered_push first [] x = let same : first ≡ first + 0 = omega arith in ap (λ n. (n, x) ∷ []) same
+numbered_push first (y ∷ xs) x =
+    let same : (first + 1) + length xs ≡ first + suc (length xs) = omega arith in
+    ap (λ rest. (first, y) ∷ rest) (numbered_push (first + 1) xs x ∙ ap (λ n. enumerate_from (first + 1) xs ++ (n, x) ∷ []) same)
+
+numbered_more : {A : Type 0} (xs : List A) (n : ℕ) (other : A) → n < length xs
+    → enumerate_from 1 (take n xs) ++ (n + 1, get_or xs n other) ∷ [] ≡ enumerate_from 1 (take (n + 1) xs)
+numbered_more xs n other less =
+    let size : length (take n xs) ≡ n = length-take-le n xs (omega (arith, less)) in
+    let number : n + 1 ≡ 1 + length (take n xs) = omega (arith, size) in
+    ap (λ k. enumerate_from 1 (take n xs) ++ (k, get_or xs n other) ∷ []) number
+    ∙ sym (numbered_push 1 (take n xs) (get_or xs n other))
+    ∙ ap (enumerate_from 1) (sym (take_more xs n other less))
+
+-- the text of one row more
+pub row_more : {A : Type 0} (text : ℕ × A → List ℕ) (xs : List A) (n : ℕ) (x : A) (old now next : List ℕ) → n < length xs → x ≡ get_or xs n x
+    → now ≡ old ++ flat_map text (enumerate_from 1 (take n xs)) → next ≡ now ++ text (n + 1, x)
+    → next ≡ old ++ flat_map text (enumerate_from 1 (take (n + 1) xs))
+row_more text xs n x old now next less is so_far more =
+    more
+    ∙ ap (λ written. written ++ text (n + 1, x)) so_far
+    ∙ flat_map_more text old (enumerate_from 1 (take n xs)) (n + 1, x)
+    ∙ ap (λ y. old ++ flat_map text (enumerate_from 1 (take n xs) ++ (n + 1, y) ∷ [])) is
+    ∙ ap (λ xs. old ++ flat_map text xs) (numbered_more xs n x less)
+
+-- ---- what is read of a row
+
+numbered_by : (none : Bool) (rows : List RowModel) (n index : ℕ) (other : RowModel) → (n == 0) ≡ none → n ≡ index + 1 → index < length rows
+    → cond none None (slice_get rows (n - 1)) ≡ Some (get_or rows index other)
+numbered_by true rows n index other is number less = let zero_is : n ≡ 0 = eqb-true n 0 is in absurd (omega (arith, zero_is, number))
+numbered_by false rows n index other is number less =
+    let here : n - 1 ≡ index = omega (arith, number) in
+    ap (slice_get rows) here ∙ slice_get-get_or rows index other less
+
+-- the row at an index has the number after it
+read_at : (table : TableModel) (kind index : ℕ) (other : RowModel) → (kind == blank_memory) ≡ false → index < length (rows_of table kind)
+    → row_read table (record { memory = kind; number = index + 1 }) ≡ Some (reading (get_or (rows_of table kind) index other))
+read_at table kind index other stored less =
+    ap (λ is. cond is (option_map blank_reading (blank_at (index + 1))) (option_map reading (numbered (rows_of table kind) (index + 1)))) stored
+    ∙ ap (option_map reading) (numbered_by (index + 1 == 0) (rows_of table kind) (index + 1) index other refl refl less)
+
+pub row_read_at : (table : TableModel) (kind index : ℕ) (view : RowReading) → (kind == blank_memory) ≡ false → index < length (rows_of table kind)
+    → Some view ≡ row_read table (record { memory = kind; number = index + 1 }) → view.row ≡ get_or (rows_of table kind) index view.row
+row_read_at table kind index view stored less is =
+    ap (λ (reading : RowReading). reading.row) (same_Some view (reading (get_or (rows_of table kind) index view.row)) (is ∙ read_at table kind index view.row stored less))
+
+-- there is such a row
+pub no_row_missing : (table : TableModel) (kind index : ℕ) (other : RowModel) → (kind == blank_memory) ≡ false → index < length (rows_of table kind)
+    → None ≡ row_read table (record { memory = kind; number = index + 1 }) → ⊥
+no_row_missing table kind index other stored less is = let no = is ∙ read_at table kind index other stored less in cc

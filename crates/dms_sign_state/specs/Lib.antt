@@ -1,0 +1,2 @@
+-- what a reader must believe: the text of a state
+pub mod StateText
