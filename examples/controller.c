@@ -4,10 +4,15 @@
 
 enum { SECOND = 10 };
 
-/* The picture is drawn anew, and begins where it is another one. */
+/* Another picture is drawn, and begins. */
 static void draw(struct controller *controller, uint64_t now)
 {
-    if (picture_draw(&controller->picture, controller->sign) == PICTURE_NEW) {
+    uint64_t changes = 0;
+    wisangub_sign_changes(controller->sign, &changes);
+    if ((!controller->is_drawn || changes != controller->changes)
+        && picture_draw(&controller->picture, controller->sign)) {
+        controller->is_drawn = 1;
+        controller->changes = changes;
         controller->begun = now;
     }
 }

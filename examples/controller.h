@@ -14,10 +14,12 @@ struct controller {
     struct lamps *lamps;
     struct picture picture;
     struct frame frame; /* that the lamps have */
+    uint64_t changes;   /* the sign's number of changes when the picture was drawn */
     uint64_t begun;     /* when the picture was new */
     uint64_t told;      /* up to which moment the sign was told its seconds */
     uint64_t lost;      /* when the power was lost */
     uint64_t sent;      /* when the lamps were given a frame */
+    int is_drawn;       /* whether a picture was drawn */
     int is_off;         /* whether there is no power */
     int is_lit;         /* whether the lamps took the last frame */
 };

@@ -14,7 +14,7 @@ import argparse
 import ctypes
 import pathlib
 import sys
-from ctypes import POINTER, byref, c_char_p, c_int64, c_size_t, c_uint8, c_uint16, c_uint32, c_void_p
+from ctypes import POINTER, byref, c_char_p, c_int64, c_size_t, c_uint8, c_uint16, c_uint32, c_uint64, c_void_p
 
 VERSION = "1.0.0"
 DATAGRAM = 1472
@@ -76,6 +76,8 @@ ARGUMENTS = {
     "sign_power_back": [SIGN, c_uint32],
     "sign_heard": [SIGN],
     "sign_shown": [SIGN, POINTER(Shown)],
+    "sign_changes": [SIGN, POINTER(c_uint64)],
+    "sign_ends": [SIGN, POINTER(c_uint64)],
     "sign_matrix": [SIGN, POINTER(c_uint16), POINTER(c_uint16)],
     "sign_text": [SIGN, BUFFER, c_size_t, SIZE],
     "sign_reader": [SIGN, BUFFER, c_size_t, SIZE],

@@ -45,12 +45,29 @@ static int untouched(size_t from, size_t count)
     return 1;
 }
 
+/* How often the picture has changed. */
+static uint64_t changes(void)
+{
+    uint64_t found = 77;
+    DONE(wisangub_sign_changes(&sign, &found));
+    return found;
+}
+
+/* In how many tenths of a second the message ends by itself, or 77. */
+static uint64_t ends(void)
+{
+    uint64_t tenths = 77;
+    assert(wisangub_sign_ends(&sign, &tenths) == (tenths == 77 ? WISANGUB_NOTHING : WISANGUB_DONE));
+    return tenths;
+}
+
 /* No call has a sign before it is made. */
 static void without_a_sign(void)
 {
     struct wisangub_shown shown;
     struct wisangub_text_fault fault = {0, 0};
     struct wisangub_value value = {7, WISANGUB_INTEGER};
+    uint64_t count;
     uint16_t width, height;
     for (int turn = 0; turn < 2; turn++) {
         struct wisangub_sign *none = turn ? &sign : NULL;
@@ -61,6 +78,8 @@ static void without_a_sign(void)
         REFUSED(wisangub_sign_power_lost(none));
         REFUSED(wisangub_sign_power_back(none, 1));
         REFUSED(wisangub_sign_shown(none, &shown));
+        REFUSED(wisangub_sign_changes(none, &count));
+        REFUSED(wisangub_sign_ends(none, &count));
         REFUSED(wisangub_sign_matrix(none, &width, &height));
         REFUSED(wisangub_sign_text(none, buffer, sizeof buffer, &size));
         REFUSED(wisangub_sign_reader(none, buffer, sizeof buffer, &size));
@@ -105,6 +124,9 @@ static void datagrams(void)
     DONE(wisangub_sign_heard(&sign));
     DONE(wisangub_sign_power_lost(&sign));
     DONE(wisangub_sign_power_back(&sign, 3));
+    REFUSED(wisangub_sign_changes(&sign, NULL));
+    REFUSED(wisangub_sign_ends(&sign, NULL));
+    assert(changes() == 0 && ends() == 77);
 }
 
 /* Of what is shown at the start, a blank message, all but its page. */
@@ -493,7 +515,7 @@ static void published(void)
         sends = wisangub_centre_tick(&centre, request, WISANGUB_DATAGRAM, &size);
         DONE(wisangub_centre_status(&centre, &status));
     }
-    assert(status.last == WISANGUB_DID && status.entries == 1);
+    assert(status.last == WISANGUB_DID && status.entries == 1 && changes() == 1);
     DONE(wisangub_sign_shown(&sign, &shown));
     assert(shown.memory == 3 && shown.number == 1 && shown.checksum == 0x9a66 && shown.minutes == 65535);
 }
@@ -522,17 +544,17 @@ static void seconds(void)
     DONE(wisangub_centre_command(&centre, command, sizeof command - 1, room, WISANGUB_DATAGRAM, &size));
     DONE(wisangub_sign_receive(&sign, room, size, room + 2000, WISANGUB_DATAGRAM, &size));
     DONE(wisangub_sign_shown(&sign, &shown));
-    assert(shown.memory == 7 && shown.number == 1 && shown.minutes == 5);
+    assert(shown.memory == 7 && shown.number == 1 && shown.minutes == 5 && changes() == 2 && ends() == 3000);
     DONE(wisangub_sign_ticks(&sign, 0));
     DONE(wisangub_sign_ticks(&sign, 179));
     DONE(wisangub_sign_shown(&sign, &shown));
-    assert(shown.minutes == 3);
+    assert(shown.minutes == 3 && ends() == 1210);
     DONE(wisangub_sign_tick(&sign));
     DONE(wisangub_sign_shown(&sign, &shown));
     assert(shown.minutes == 2);
     DONE(wisangub_sign_ticks(&sign, UINT32_C(100000)));
     DONE(wisangub_sign_shown(&sign, &shown));
-    assert(shown.minutes == 65535);
+    assert(shown.minutes == 65535 && changes() == 2 && ends() == 77);
 }
 
 /* The library is of this header's version. */

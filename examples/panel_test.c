@@ -201,6 +201,20 @@ static void print_frame(void)
     putchar('\n');
 }
 
+/* No lamp changes before it is due, and what is due comes nearer with each tenth of a second. */
+static void due(const struct picture *picture, uint64_t tenths)
+{
+    struct frame frame, next;
+    picture_frame(picture, 0, &next);
+    for (uint64_t tenth = 0; tenth < tenths; tenth++) {
+        uint64_t left = picture_due(picture, tenth);
+        frame = next;
+        picture_frame(picture, tenth + 1, &next);
+        assert(left == 1 || memcmp(&frame, &next, sizeof frame) == 0);
+        assert(left == 1 || picture_due(picture, tenth + 1) == (left == 0 ? 0 : left - 1));
+    }
+}
+
 static void play(const char *digits, uint64_t now, uint64_t tenths)
 {
     char text[512];
@@ -214,6 +228,7 @@ static void play(const char *digits, uint64_t now, uint64_t tenths)
         controller_show(&controller, now + tenth);
         print_frame();
     }
+    due(&controller.picture, tenths);
 }
 
 int main(int count, char **words)

@@ -16,10 +16,8 @@ struct picture {
     uint8_t layers[LAYERS][PICTURE_OCTETS]; /* of enum wisangub_layer */
 };
 
-enum drawn { PICTURE_SAME, PICTURE_NEW, PICTURE_NO_MEMORY };
-
-/* Draws what the sign shows, in one thread. Where there is no memory the picture stays as it was. */
-enum drawn picture_draw(struct picture *picture, const struct wisangub_sign *sign);
+/* Draws what the sign shows, in one thread: 0 where there is no memory, and the picture stays as it was. */
+int picture_draw(struct picture *picture, const struct wisangub_sign *sign);
 
 /*
  * The lamps that are lit when the picture has been up for so many tenths of a second: the pages take turns, each for
@@ -27,5 +25,11 @@ enum drawn picture_draw(struct picture *picture, const struct wisangub_sign *sig
  * time after it stays, and so does the last of pages without any time.
  */
 void picture_frame(const struct picture *picture, uint64_t tenth, struct frame *frame);
+
+/*
+ * In how many tenths of a second the next page or the next turn of a flash is due, when the picture has been up for so
+ * many; 0 where it stays as it is. The end of the message is wisangub_sign_ends'.
+ */
+uint64_t picture_due(const struct picture *picture, uint64_t tenth);
 
 #endif

@@ -3,13 +3,15 @@
  * at 127.0.0.1:1161. Each datagram goes to the sign and its reply back; each second is a tick. SIGUSR1 takes the power
  * away, SIGUSR2 gives it back, and SIGINT or SIGTERM ends it. With --objects it publishes those of a file beside the
  * sign's, reads it again at a SIGHUP, and prints what managers set. With --write-from a SET of another address is
- * dropped before the sign hears it. With a journal the sign goes on where it was, also where wisangub-sign kept it;
- * what the time without a process was, a loss of power or seconds, is told by the kernel's boot id, or by --down.
+ * dropped before the sign hears it. With --log each datagram has its line. With a journal the sign goes on where it
+ * was, also where wisangub-sign kept it; what the time without a process was, a loss of power or seconds, is told by the
+ * kernel's boot id, or by --down.
  */
 #define _GNU_SOURCE
 #include <errno.h>
 #include <fcntl.h>
 #include <getopt.h>
+#include <inttypes.h>
 #include <poll.h>
 #include <signal.h>
 #include <stdio.h>
@@ -23,6 +25,7 @@
 #include "described.h"
 #include "firmware.h"
 #include "journal.h"
+#include "log.h"
 #include "sign_lines.h"
 #include "silences.h"
 #include "sockets.h"
@@ -39,7 +42,9 @@ struct front_end {
     struct journal *journal;   /* null where nothing is kept */
     struct firmware *firmware; /* null where nothing is published */
     struct writes writes;
+    struct log log;
     struct power power;
+    uint64_t changes;        /* of the picture, as the log has it */
     double up;               /* the moment up to which the sign was told its seconds */
     int socket, timer;       /* the timer is -1 where no seconds pass */
 };
@@ -47,7 +52,7 @@ struct front_end {
 struct asked {
     struct journal_asked journal; /* its path is null where nothing is kept */
     struct allowed allowed;
-    const char *host, *objects, *description; /* no objects are null */
+    const char *host, *objects, *log, *description; /* no objects and no log are null */
     long port, most;
     int is_quiet, has_ticks;
 };
@@ -92,8 +97,21 @@ static int signals(int has_objects)
 
 /* ---- datagrams */
 
+/* Logs that another picture is shown. */
+static void log_picture(struct front_end *front_end)
+{
+    char event[40];
+    uint64_t changes = 0;
+    wisangub_sign_changes(&front_end->sign, &changes);
+    if (changes != front_end->changes) {
+        front_end->changes = changes;
+        snprintf(event, sizeof event, "picture %" PRIu64, changes);
+        log_event(&front_end->log, NULL, event, NULL, 0);
+    }
+}
+
 /* Records what changes the sign, with one sync. What the disk refuses is lost, as a datagram may be. */
-static void keep(struct journal *journal, struct heard *heard, size_t count)
+static void keep(struct journal *journal, struct log *log, struct heard *heard, size_t count)
 {
     static char lines[AT_ONCE * DATAGRAM_LINE];
     size_t size = 0;
@@ -106,7 +124,10 @@ static void keep(struct journal *journal, struct heard *heard, size_t count)
         return;
     }
     for (size_t at = 0; at < count; at++) {
-        heard[at].size = heard[at].kind == DATAGRAM_SETS ? LOST : heard[at].size;
+        if (heard[at].kind == DATAGRAM_SETS && heard[at].size != LOST) {
+            log_event(log, &heard[at].peer, "not recorded", heard[at].octets, heard[at].size);
+            heard[at].size = LOST;
+        }
     }
 }
 
@@ -120,20 +141,26 @@ static void answer(struct front_end *front_end, struct heard *heard, size_t coun
         firmware_keep_time(front_end->firmware, running());
     }
     if (front_end->journal != NULL) {
-        keep(front_end->journal, heard, count);
+        keep(front_end->journal, &front_end->log, heard, count);
     }
     for (struct heard *one = heard; one < heard + count; one++) {
         size_t made = replies.count;
-        if (one->size == LOST
-            || wisangub_sign_receive(&front_end->sign, one->octets, one->size, replies.octets[made], DATAGRAM_MOST,
-                                     &replies.sizes[made]) != WISANGUB_DONE) {
+        if (one->size == LOST) {
             continue;
         }
+        log_event(&front_end->log, &one->peer, "in", one->octets, one->size);
+        if (wisangub_sign_receive(&front_end->sign, one->octets, one->size, replies.octets[made], DATAGRAM_MOST,
+                                  &replies.sizes[made]) != WISANGUB_DONE) {
+            log_event(&front_end->log, &one->peer, "dropped", NULL, 0);
+            continue;
+        }
+        log_event(&front_end->log, &one->peer, "out", replies.octets[made], replies.sizes[made]);
         replies.to[made] = one;
         replies.count++;
         by_kept |= one->kind == DATAGRAM_SETS;
     }
     send_all(front_end->socket, &replies);
+    log_picture(front_end);
     if (by_kept && front_end->firmware != NULL) {
         firmware_tell(front_end->firmware);
     }
@@ -145,11 +172,15 @@ static void answer(struct front_end *front_end, struct heard *heard, size_t coun
 }
 
 /* What a datagram is to the sign. One that would change it, and comes from where that may not be, is lost. */
-static void sort(const struct front_end *front_end, struct heard *one)
+static void sort(struct front_end *front_end, struct heard *one)
 {
+    if (one->size == LOST) {
+        log_event(&front_end->log, &one->peer, "lost", NULL, 0);
+    }
     one->kind = one->size == LOST ? DATAGRAM_UNHEARD
                                   : datagram_kind(one->octets, one->size, &front_end->communities);
     if (one->kind == DATAGRAM_SETS && !allowed_has(&front_end->allowed, &one->peer)) {
+        log_event(&front_end->log, &one->peer, "not allowed", one->octets, one->size);
         one->kind = DATAGRAM_UNHEARD;
         one->size = LOST;
     }
@@ -164,7 +195,9 @@ static void hear(struct front_end *front_end)
         sort(front_end, one);
         if (front_end->journal != NULL && one->kind == DATAGRAM_SETS
             && (front_end->writes.count > 0 || !writes_take(&front_end->writes, running()))) {
-            writes_wait(&front_end->writes, one);
+            if (!writes_wait(&front_end->writes, one)) {
+                log_event(&front_end->log, &one->peer, "too many", one->octets, one->size);
+            }
             one->size = LOST;
         }
     }
@@ -204,6 +237,7 @@ static void pass(struct front_end *front_end)
         journal_tick(front_end->journal, seconds, front_end->up);
         writes_tell(&front_end->writes, front_end->up, 0);
     }
+    log_picture(front_end);
 }
 
 /* Takes the power away, or gives it back, once that is recorded. A sign without power cannot lose it. */
@@ -223,11 +257,14 @@ static void switch_power(struct front_end *front_end, int is_lost)
         return;
     }
     front_end->power = (struct power){is_lost, now};
+    line[strcspn(line, "\n")] = '\0';
+    log_event(&front_end->log, NULL, line, NULL, 0);
     if (is_lost) {
         wisangub_sign_power_lost(&front_end->sign);
     } else {
         wisangub_sign_power_back(&front_end->sign, seconds);
     }
+    log_picture(front_end);
 }
 
 /* Does what a signal asks: 0 where it asks to end. */
@@ -279,9 +316,9 @@ static void say_version(void)
 }
 
 static const char usage[] =
-    "usage: signd [--port N] [--host ADDRESS] [--write-from ADDRESS ..] [--objects FILE] [--journal FILE\n"
-    "    [--down power|process] [--accept-damage] [--need-journal] [--most-recorded N]] [--no-ticks] [--quiet]"
-    " DESCRIPTION\n";
+    "usage: signd [--port N] [--host ADDRESS] [--write-from ADDRESS ..] [--objects FILE] [--log FILE]\n"
+    "    [--journal FILE [--down power|process] [--accept-damage] [--need-journal] [--most-recorded N]]\n"
+    "    [--no-ticks] [--quiet] DESCRIPTION\n";
 
 static void help(void)
 {
@@ -291,6 +328,7 @@ static void help(void)
          "  --host ADDRESS        an IPv4 or IPv6 address, or a name; else 127.0.0.1\n"
          "  --write-from ADDRESS  a SET of the writing community is heard from there alone; may stand again\n"
          "  --objects FILE        objects beside the sign's; read at a SIGHUP too\n"
+         "  --log FILE            a line a datagram, with its time and its peer; - is standard output\n"
          "  --journal FILE        what changes the sign is kept here, over the end of the process\n"
          "  --down power|process  what the time without a process was\n"
          "  --accept-damage       goes on from what is whole of the journal, and puts the rest aside\n"
@@ -327,6 +365,7 @@ static void take(struct asked *asked, int option, const char *word)
         }
         break;
     case 'o': asked->objects = word; break;
+    case 'l': asked->log = word; break;
     case 'j': asked->journal.path = word; break;
     case 'd':
         asked->journal.down = strcmp(word, "power") == 0 ? DOWN_POWER : DOWN_PROCESS;
@@ -351,6 +390,7 @@ static struct asked asked_for(int count, char **words)
                                             {"port", required_argument, NULL, 'p'},
                                             {"write-from", required_argument, NULL, 'w'},
                                             {"objects", required_argument, NULL, 'o'},
+                                            {"log", required_argument, NULL, 'l'},
                                             {"journal", required_argument, NULL, 'j'},
                                             {"down", required_argument, NULL, 'd'},
                                             {"accept-damage", no_argument, NULL, 'a'},
@@ -412,6 +452,7 @@ int main(int count, char **words)
     char digest[65];
     keep_standard_files();
     struct front_end front_end = {.socket = bound(asked.host, asked.port), .timer = -1};
+    log_open(&front_end.log, asked.log);
     make_sign(&front_end.sign, asked.description, digest);
     front_end.communities = communities_of(&front_end.sign);
     front_end.allowed = asked.allowed;
@@ -430,7 +471,10 @@ int main(int count, char **words)
     if (front_end.firmware != NULL) {
         firmware_tell(front_end.firmware); /* what managers set in the journal's records */
     }
+    wisangub_sign_changes(&front_end.sign, &front_end.changes);
+    log_event(&front_end.log, NULL, "start", NULL, 0);
     serve(&front_end, waited);
+    log_event(&front_end.log, NULL, "end", NULL, 0);
     int is_kept = close_journal(&front_end, asked.has_ticks ? front_end.up : running());
     firmware_end(&firmware);
     wisangub_sign_free(&front_end.sign);

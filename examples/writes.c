@@ -31,13 +31,14 @@ int writes_take(struct writes *writes, double now)
     return 1;
 }
 
-void writes_wait(struct writes *writes, const struct heard *one)
+int writes_wait(struct writes *writes, const struct heard *one)
 {
     if (writes->count == WAIT_MOST) {
         writes->dropped++;
-        return;
+        return 0;
     }
     writes->waiting[(writes->first + writes->count++) % WAIT_MOST] = *one;
+    return 1;
 }
 
 const struct heard *writes_next(struct writes *writes, double now)

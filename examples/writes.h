@@ -24,8 +24,8 @@ void writes_begin(struct writes *writes, size_t most);
 /* Whether one more may be recorded now; it counts then. */
 int writes_take(struct writes *writes, double now);
 
-/* A datagram waits, or is dropped and counted where as many wait as may. */
-void writes_wait(struct writes *writes, const struct heard *one);
+/* A datagram waits: 0 where it is dropped and counted, since as many wait as may. */
+int writes_wait(struct writes *writes, const struct heard *one);
 
 /* The next that waits and may be recorded now; null where there is none. */
 const struct heard *writes_next(struct writes *writes, double now);

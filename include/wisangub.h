@@ -294,6 +294,8 @@ void wisangub_sign_power_back_at(struct wisangub_sign *sign, uint32_t seconds);
 void wisangub_sign_heard_at(struct wisangub_sign *sign);
 void wisangub_sign_free_at(struct wisangub_sign *sign);
 void wisangub_sign_shown_at(const struct wisangub_sign *sign, struct wisangub_shown *shown);
+void wisangub_sign_changes_at(const struct wisangub_sign *sign, uint64_t *changes);
+uint32_t wisangub_sign_ends_at(const struct wisangub_sign *sign, uint64_t *tenths);
 void wisangub_sign_matrix_at(const struct wisangub_sign *sign, uint16_t *width, uint16_t *height);
 uint32_t wisangub_sign_text_at(const struct wisangub_sign *sign, uint8_t *text, size_t room, size_t *size);
 uint32_t wisangub_sign_reader_at(const struct wisangub_sign *sign, uint8_t *community, size_t room, size_t *size);
@@ -451,6 +453,33 @@ WISANGUB_INLINE enum wisangub_answer wisangub_sign_shown(const struct wisangub_s
     }
     wisangub_sign_shown_at(sign, shown);
     return WISANGUB_DONE;
+}
+
+/*
+ * How many pictures came in place of another one since the sign was made: 0 at first. It rises by one in each call
+ * (of a tick, a datagram, a loss of power or its return) that leaves another text, other defaults under which it is
+ * shown, other beacons or another pixel service than before, and in no other; wisangub_sign_ticks counts each of its
+ * seconds. A driver draws where it has another value than when it drew last. Answers DONE or NULL.
+ */
+WISANGUB_INLINE enum wisangub_answer wisangub_sign_changes(const struct wisangub_sign *sign, uint64_t *changes)
+{
+    if (sign == NULL || sign->at == NULL || changes == NULL) {
+        return WISANGUB_NULL;
+    }
+    wisangub_sign_changes_at(sign, changes);
+    return WISANGUB_DONE;
+}
+
+/*
+ * In how many tenths of a second the message ends by itself, counted from the last second that the sign was told, while
+ * it has power. Answers DONE; NOTHING, where it has no end, and *tenths is as it was; or NULL.
+ */
+WISANGUB_INLINE enum wisangub_answer wisangub_sign_ends(const struct wisangub_sign *sign, uint64_t *tenths)
+{
+    if (sign == NULL || sign->at == NULL || tenths == NULL) {
+        return WISANGUB_NULL;
+    }
+    return (enum wisangub_answer)wisangub_sign_ends_at(sign, tenths);
 }
 
 /* The columns, 1 to 256, and the rows, 1 to 64, of the sign's matrix. Answers DONE or NULL. */

@@ -163,6 +163,34 @@ static void take(struct wisangub_sign *sign)
 
 /* ---- calls */
 
+/* What can be seen, but for the defaults. */
+struct picture {
+    uint64_t changes;
+    struct wisangub_shown shown;
+    uint8_t text[512];
+    size_t size;
+};
+
+static struct picture picture_of(const struct wisangub_sign *sign)
+{
+    struct picture found;
+    must(wisangub_sign_changes(sign, &found.changes) == WISANGUB_DONE, "changes");
+    must(wisangub_sign_shown(sign, &found.shown) == WISANGUB_DONE, "what is shown");
+    must(wisangub_sign_text(sign, found.text, sizeof found.text, &found.size) == WISANGUB_DONE, "a text");
+    return found;
+}
+
+/* Another picture is counted once, and what comes to no sign changes none. */
+static void counted(const struct picture *old, const struct picture *now, unsigned kind)
+{
+    uint64_t rose = now->changes - old->changes;
+    int is_same = old->size == now->size && memcmp(old->text, now->text, now->size) == 0
+                  && old->shown.beacon == now->shown.beacon && old->shown.pixel == now->shown.pixel;
+    int may = kind == TO_SIGN || kind == SIGN_TICK || kind == POWER_LOST || kind == POWER_BACK;
+    must(is_same || rose > 0, "a change is counted");
+    must(rose == 0 || (may && (rose == 1 || kind == SIGN_TICK)), "no other change is counted");
+}
+
 static void call(struct wisangub_sign *sign, struct wisangub_centre *centre, unsigned kind, const uint8_t *octets,
                  size_t size)
 {
@@ -170,6 +198,7 @@ static void call(struct wisangub_sign *sign, struct wisangub_centre *centre, uns
     const size_t most = WISANGUB_DATAGRAM;
     size_t made = 0;
     const uint8_t *from = put(octets, size);
+    const struct picture old = picture_of(sign);
     enum wisangub_answer answer = WISANGUB_NOTHING;
     switch (kind) {
     case TO_SIGN: answer = wisangub_sign_receive(sign, from, size, to, most, &made); break;
@@ -187,6 +216,8 @@ static void call(struct wisangub_sign *sign, struct wisangub_centre *centre, uns
     case TAKEN: take(sign); break;
     default: wisangub_centre_restart(centre); break;
     }
+    const struct picture now = picture_of(sign);
+    counted(&old, &now, kind);
     looked_at(kind, answer, made);
 }
 

@@ -5,3 +5,5 @@
 mod agents;
 #[cfg(test)]
 mod lines;
+#[cfg(test)]
+mod pictures;

@@ -5,6 +5,7 @@ use Rattle.dms_sign_text.specs.declared.fault.DescriptionFault.{DescriptionFault
 use Rattle.dms_sign_text.specs.declared.fault.DescriptionFault.TheVariants as faults
 use Rattle.dms_agent.specs.declared.agent.Agent.{Agent}
 use Rattle.dms_agent.specs.Received.{agent_received}
+use Rattle.dms_agent_watched.specs.Watched.{WatchedSign, watched}
 
 -- it is done
 abbrev pub done : ℕ
@@ -97,8 +98,9 @@ buffer_with (Some octets) buffer = put_first octets buffer
 -- ---- a datagram to a sign and the objects beside it: one that comes with a buffer which could not take every reply is
 -- not heard
 
-abbrev pub after_datagram : Agent → List ℕ → ℕ → Agent
-after_datagram a datagram room = if nat_lt room longest_datagram then a else (agent_received a datagram).after
+abbrev pub after_datagram : WatchedSign → List ℕ → ℕ → WatchedSign
+after_datagram w datagram room =
+    if nat_lt room longest_datagram then w else watched w (agent_received w.agent datagram).after
 
 abbrev pub datagram_answer : Agent → List ℕ → ℕ → ℕ
 datagram_answer a datagram room =

@@ -20,6 +20,7 @@ use crate::object_values::{
 };
 use crate::sign_handle::SignHandle;
 use dms_agent::{Agent, PublishFault};
+use dms_agent_watched::Watched;
 use dms_device::{Access, Device, Object, ObjectFault};
 use dms_mib_replies::Objects;
 use dms_wire::{Bind, Value};
@@ -71,13 +72,16 @@ fn made(
 }
 
 /// Publishes an object, unless its name is the sign's.
-fn published(agent: &mut Agent, object: Object) -> u32
+fn published(sign: &mut Watched, object: Object) -> u32
     ensures answer { result ≡ unless_memory result no_memory
-        (if is_some (value_of agent.old.sign object.name) then at_fault else done) }
-    ensures after { agent.new ≡ unless_memory result agent.old (if is_some (value_of agent.old.sign object.name)
-        then agent.old else record agent.old { device = published agent.old.device object }) }
+        (if is_some (value_of sign.old.agent.sign object.name) then at_fault else done) }
+    ensures after { sign.new ≡ record sign.old {
+      agent = unless_memory result sign.old.agent
+          (if is_some (value_of sign.old.agent.sign object.name) then sign.old.agent
+          else record sign.old.agent { device = published sign.old.agent.device object });
+    } }
 {
-    match agent.publish(object) {
+    match sign.publish(object) {
         Ok(()) => DONE,
         Err(PublishFault::OfTheSign) => AT_FAULT,
         Err(PublishFault::OutOfMemory) => NO_MEMORY,
@@ -87,23 +91,26 @@ fn published(agent: &mut Agent, object: Object) -> u32
 /// Publishes an object.
 fn publish(
     alloc: Global,
-    agent: &mut Agent,
+    sign: &mut Watched,
     name: &[u8],
     value: Option<Value<'_>>,
     access: Option<Access>,
 ) -> u32
-    ensures answer { result ≡ unless_memory result no_memory (publish_answer agent.old name.now
+    ensures answer { result ≡ unless_memory result no_memory (publish_answer sign.old.agent name.now
         (object_given name.now (option_map object_value value.entry) access)) }
-    ensures after { agent.new ≡ unless_memory result agent.old (after_publish agent.old name.now
-        (object_given name.now (option_map object_value value.entry) access)) }
-    ensures memory { result ≡ no_memory → publish_answer agent.old name.now
+    ensures after { sign.new ≡ record sign.old {
+      agent = unless_memory result sign.old.agent
+          (after_publish sign.old.agent name.now
+          (object_given name.now (option_map object_value value.entry) access));
+    } }
+    ensures memory { result ≡ no_memory → publish_answer sign.old.agent name.now
         (object_given name.now (option_map object_value value.entry) access) ≡ done }
 {
-    if !is_free(agent, name) {
+    if !is_free(sign.agent(), name) {
         return AT_FAULT;
     }
     match made(alloc, name, value, access) {
-        Ok(object) => published(agent, object),
+        Ok(object) => published(sign, object),
         Err(NoObject::Wrong) => OUT_OF_RANGE,
         Err(NoObject::Memory) => NO_MEMORY,
     }
@@ -120,11 +127,14 @@ pub extern "C" fn wisangub_sign_publish_at(
     octets: &[u8],
     access: &AccessParts,
 ) -> u32
-    ensures answer { result ≡ unless_memory result no_memory (publish_answer sign.old.value name.now
+    ensures answer { result ≡ unless_memory result no_memory (publish_answer sign.old.value.agent name.now
         (object_given name.now (value_given value.now octets.now) (access_given access.now))) }
-    ensures after { sign.new.value ≡ unless_memory result sign.old.value (after_publish sign.old.value name.now
-        (object_given name.now (value_given value.now octets.now) (access_given access.now))) }
-    ensures memory { result ≡ no_memory → publish_answer sign.old.value name.now
+    ensures after { sign.new.value ≡ record sign.old.value {
+      agent = unless_memory result sign.old.value.agent
+          (after_publish sign.old.value.agent name.now
+          (object_given name.now (value_given value.now octets.now) (access_given access.now)));
+    } }
+    ensures memory { result ≡ no_memory → publish_answer sign.old.value.agent name.now
         (object_given name.now (value_given value.now octets.now) (access_given access.now)) ≡ done }
 {
     let value = value_given(value, octets);
@@ -133,25 +143,27 @@ pub extern "C" fn wisangub_sign_publish_at(
 }
 
 /// Withdraws the object of a name.
-fn withdraw(agent: &mut Agent, name: &[u8]) -> u32
-    ensures answer { result ≡ withdraw_answer agent.old.device (name_given name.now) }
-    ensures after { agent.new ≡ after_withdraw agent.old (name_given name.now) }
+fn withdraw(sign: &mut Watched, name: &[u8]) -> u32
+    ensures answer { result ≡ withdraw_answer sign.old.agent.device (name_given name.now) }
+    ensures after { sign.new ≡ record sign.old { agent = after_withdraw sign.old.agent (name_given name.now) } }
 {
     let Some(name) = name_given(name) else {
         return AT_FAULT;
     };
-    if agent.device().value(&name).is_none() {
+    if sign.agent().device().value(&name).is_none() {
         return AT_FAULT;
     }
-    agent.withdraw(&name);
+    sign.withdraw(&name);
     DONE
 }
 
 /// Withdraws the object of a name that is published.
 #[unsafe(no_mangle)]
 pub extern "C" fn wisangub_sign_withdraw_at(sign: &mut SignHandle, name: &[u8]) -> u32
-    ensures answer { result ≡ withdraw_answer sign.old.value.device (name_given name.now) }
-    ensures after { sign.new.value ≡ after_withdraw sign.old.value (name_given name.now) }
+    ensures answer { result ≡ withdraw_answer sign.old.value.agent.device (name_given name.now) }
+    ensures after { sign.new.value ≡ record sign.old.value {
+      agent = after_withdraw sign.old.value.agent (name_given name.now);
+    } }
 {
     withdraw(sign.as_mut(), name)
 }
@@ -202,13 +214,13 @@ pub extern "C" fn wisangub_sign_object_at(
     size: &mut usize,
 ) -> u32
     ensures same { sign.new.value ≡ sign.old.value }
-    ensures answer { result ≡ read_answer (value_read sign.old.value (name_given name.now)) (length octets.old) }
+    ensures answer { result ≡ read_answer (value_read sign.old.value.agent (name_given name.now)) (length octets.old) }
     ensures value { value.new
-        ≡ read_parts (value_read sign.old.value (name_given name.now)) (length octets.old) value.old }
-    ensures octets { octets.new ≡ read_buffer (value_read sign.old.value (name_given name.now)) octets.old }
-    ensures size { size.new ≡ read_size (value_read sign.old.value (name_given name.now)) size.old }
+        ≡ read_parts (value_read sign.old.value.agent (name_given name.now)) (length octets.old) value.old }
+    ensures octets { octets.new ≡ read_buffer (value_read sign.old.value.agent (name_given name.now)) octets.old }
+    ensures size { size.new ≡ read_size (value_read sign.old.value.agent (name_given name.now)) size.old }
 {
-    read(sign.as_mut(), name, value, octets, size)
+    read(sign.as_mut().agent(), name, value, octets, size)
 }
 
 /// Gives the name and the value of a binding, where there is room for both.
@@ -278,19 +290,20 @@ pub extern "C" fn wisangub_sign_taken_at(
     octets: &mut [u8],
     size: &mut usize,
 ) -> u32
-    ensures answer { result ≡ taken_answer (next_set sign.old.value.device) (length name.old) (length octets.old) }
-    ensures after { sign.new.value ≡ after_taken sign.old.value result }
-    ensures name { name.new ≡ taken_name (next_set sign.old.value.device) (length octets.old) name.old }
-    ensures name_size { name_size.new ≡ taken_name_size (next_set sign.old.value.device) }
+    ensures answer { result
+        ≡ taken_answer (next_set sign.old.value.agent.device) (length name.old) (length octets.old) }
+    ensures after { sign.new.value ≡ record sign.old.value { agent = after_taken sign.old.value.agent result } }
+    ensures name { name.new ≡ taken_name (next_set sign.old.value.agent.device) (length octets.old) name.old }
+    ensures name_size { name_size.new ≡ taken_name_size (next_set sign.old.value.agent.device) }
     ensures value { value.new
-        ≡ taken_parts (next_set sign.old.value.device) (length name.old) (length octets.old) value.old }
-    ensures octets { octets.new ≡ taken_octets (next_set sign.old.value.device) (length name.old) octets.old }
-    ensures size { size.new ≡ taken_size (next_set sign.old.value.device) }
+        ≡ taken_parts (next_set sign.old.value.agent.device) (length name.old) (length octets.old) value.old }
+    ensures octets { octets.new ≡ taken_octets (next_set sign.old.value.agent.device) (length name.old) octets.old }
+    ensures size { size.new ≡ taken_size (next_set sign.old.value.agent.device) }
 {
-    let agent = sign.as_mut();
-    let answer = give_set(agent.device(), name, name_size, value, octets, size);
+    let sign = sign.as_mut();
+    let answer = give_set(sign.agent().device(), name, name_size, value, octets, size);
     if answer == DONE {
-        agent.tell_first();
+        sign.tell_first();
     }
     answer
 }

@@ -58,12 +58,12 @@ pub extern "C" fn wisangub_sign_pages_at(
 ) -> u32
     ensures same { sign.new.value ≡ sign.old.value }
     ensures answer { result ≡ unless_memory result no_memory
-        (ranged_answer (shown_octets layer sign.old.value.sign) (length octets.old)) }
+        (ranged_answer (shown_octets layer sign.old.value.agent.sign) (length octets.old)) }
     ensures size { size.new ≡ unless_memory result size.old
-        (ranged_size (shown_octets layer sign.old.value.sign) size.old) }
+        (ranged_size (shown_octets layer sign.old.value.agent.sign) size.old) }
     ensures octets { octets.new ≡ unless_memory result octets.old
-        (ranged_buffer (shown_octets layer sign.old.value.sign) octets.old) }
-    ensures memory { result ≡ no_memory → IsTrue (is_some (layer_at layer) && has_pages sign.old.value.sign) }
+        (ranged_buffer (shown_octets layer sign.old.value.agent.sign) octets.old) }
+    ensures memory { result ≡ no_memory → IsTrue (is_some (layer_at layer) && has_pages sign.old.value.agent.sign) }
 {
     let Some(layer) = layer_at(layer) else {
         return OUT_OF_RANGE;
@@ -87,15 +87,16 @@ pub extern "C" fn wisangub_sign_text_pages_at(
 ) -> u32
     ensures same { sign.new.value ≡ sign.old.value }
     ensures answer { result ≡ unless_memory result no_memory
-        (drawn_answer (layer_at layer) (drawn_text sign.old.value.sign.config.face text.now) (length octets.old)) }
+        (drawn_answer (layer_at layer) (drawn_text sign.old.value.agent.sign.config.face text.now)
+        (length octets.old)) }
     ensures size { size.new ≡ unless_memory result size.old
-        (drawn_size (layer_at layer) (drawn_text sign.old.value.sign.config.face text.now) size.old) }
+        (drawn_size (layer_at layer) (drawn_text sign.old.value.agent.sign.config.face text.now) size.old) }
     ensures octets { octets.new ≡ unless_memory result octets.old
-        (drawn_buffer (layer_at layer) (drawn_text sign.old.value.sign.config.face text.now) octets.old) }
+        (drawn_buffer (layer_at layer) (drawn_text sign.old.value.agent.sign.config.face text.now) octets.old) }
     ensures fault { fault.new ≡ unless_memory result fault.old
-        (drawn_fault (layer_at layer) (drawn_text sign.old.value.sign.config.face text.now) fault.old) }
+        (drawn_fault (layer_at layer) (drawn_text sign.old.value.agent.sign.config.face text.now) fault.old) }
     ensures memory { result ≡ no_memory
-        → IsTrue (is_some (layer_at layer) && is_ok (drawn_text sign.old.value.sign.config.face text.now)) }
+        → IsTrue (is_some (layer_at layer) && is_ok (drawn_text sign.old.value.agent.sign.config.face text.now)) }
 {
     let Some(layer) = layer_at(layer) else {
         return OUT_OF_RANGE;

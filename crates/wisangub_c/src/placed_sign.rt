@@ -5,7 +5,7 @@ ghost use denote.RawPtr.{null_ptr};
 
 use crate::loose::Loose;
 use crate::sign_place::SignPlace;
-use dms_agent::Agent;
+use dms_agent_watched::Watched;
 use std::alloc::Global;
 use std::mem::replace;
 use std::ptr::null_mut;
@@ -23,7 +23,7 @@ impl SignPlace {
     }
 
     /// A place with a sign.
-    pub(crate) fn of(loose: Loose<Agent, Global>) -> SignPlace
+    pub(crate) fn of(loose: Loose<Watched, Global>) -> SignPlace
         ensures { result.value ≡ Some loose.value }
     {
         let Loose { at, alloc } = loose;
@@ -34,7 +34,7 @@ impl SignPlace {
     }
 
     /// The parts of the sign's box, where one is there.
-    pub(crate) fn into_loose(self) -> Option<Loose<Agent, Global>>
+    pub(crate) fn into_loose(self) -> Option<Loose<Watched, Global>>
         ensures { option_map (λ loose. loose.value) result ≡ self.value }
     {
         let SignPlace { at, alloc } = self;
@@ -42,7 +42,7 @@ impl SignPlace {
             None
         } else {
             Some(Loose {
-                at: at as *mut Agent,
+                at: at as *mut Watched,
                 alloc,
             })
         }

@@ -3,9 +3,10 @@
 ghost use Rattle.std.specs.Prelude.{◌≡◌, length};
 ghost use Rattle.dms_face.specs.Fit.{checked_text};
 ghost use Rattle.wisangub_c.specs.Answers.{given_answer, given_buffer};
-ghost use Rattle.wisangub_c.specs.Shown.{shown_now, text_fault, fault_after, check_answer, count_after};
+ghost use Rattle.wisangub_c.specs.Shown.{shown_now, tenths_of, ends_answer, ends_after};
+ghost use Rattle.wisangub_c.specs.Shown.{text_fault, fault_after, check_answer, count_after};
 
-use crate::answers::{AT_FAULT, DONE, give};
+use crate::answers::{AT_FAULT, DONE, NOTHING_SENT, give};
 use crate::sign_handle::SignHandle;
 use dms_face::{MultiFault, check};
 use dms_sign::Sign;
@@ -71,17 +72,50 @@ pub(crate) fn text_fault(fault: MultiFault) -> TextFault
 #[unsafe(no_mangle)]
 pub extern "C" fn wisangub_sign_shown_at(sign: &mut SignHandle, shown: &mut ShownNow)
     ensures same { sign.new.value ≡ sign.old.value }
-    ensures shown { shown.new ≡ shown_now sign.old.value.sign.shown }
+    ensures shown { shown.new ≡ shown_now sign.old.value.agent.sign.shown }
 {
     *shown = shown_now(sign.as_mut().sign());
+}
+
+/// How often the picture has changed since the sign was made.
+#[unsafe(no_mangle)]
+pub extern "C" fn wisangub_sign_changes_at(sign: &mut SignHandle, changes: &mut u64)
+    ensures same { sign.new.value ≡ sign.old.value }
+    ensures changes { changes.new ≡ sign.old.value.changes }
+{
+    *changes = sign.as_mut().changes();
+}
+
+fn tenths_of(seconds: u32) -> u64
+    ensures { result ≡ tenths_of seconds }
+{
+    if seconds <= 1 {
+        10
+    } else {
+        10 * u64::from(seconds)
+    }
+}
+
+/// In how many tenths of a second, from the last second on, the message ends by itself; nothing, where it has no end.
+#[unsafe(no_mangle)]
+pub extern "C" fn wisangub_sign_ends_at(sign: &mut SignHandle, tenths: &mut u64) -> u32
+    ensures same { sign.new.value ≡ sign.old.value }
+    ensures answer { result ≡ ends_answer sign.old.value.agent.sign.shown.remaining }
+    ensures tenths { tenths.new ≡ ends_after sign.old.value.agent.sign.shown.remaining tenths.old }
+{
+    let Some(left) = sign.as_mut().sign().shown().remaining else {
+        return NOTHING_SENT;
+    };
+    *tenths = tenths_of(left);
+    DONE
 }
 
 /// The columns and the rows of the sign's matrix.
 #[unsafe(no_mangle)]
 pub extern "C" fn wisangub_sign_matrix_at(sign: &mut SignHandle, width: &mut u16, height: &mut u16)
     ensures same { sign.new.value ≡ sign.old.value }
-    ensures width { width.new ≡ sign.old.value.sign.config.face.width }
-    ensures height { height.new ≡ sign.old.value.sign.config.face.height }
+    ensures width { width.new ≡ sign.old.value.agent.sign.config.face.width }
+    ensures height { height.new ≡ sign.old.value.agent.sign.config.face.height }
 {
     let face = sign.as_mut().sign().face();
     *width = face.width();
@@ -96,9 +130,9 @@ pub extern "C" fn wisangub_sign_text_at(
     size: &mut usize,
 ) -> u32
     ensures same { sign.new.value ≡ sign.old.value }
-    ensures answer { result ≡ given_answer sign.old.value.sign.shown.text (length text.old) }
-    ensures size { size.new ≡ length sign.old.value.sign.shown.text }
-    ensures text { text.new ≡ given_buffer sign.old.value.sign.shown.text text.old }
+    ensures answer { result ≡ given_answer sign.old.value.agent.sign.shown.text (length text.old) }
+    ensures size { size.new ≡ length sign.old.value.agent.sign.shown.text }
+    ensures text { text.new ≡ given_buffer sign.old.value.agent.sign.shown.text text.old }
 {
     give(sign.as_mut().sign().shown().text.as_slice(), text, size)
 }
@@ -111,9 +145,9 @@ pub extern "C" fn wisangub_sign_reader_at(
     size: &mut usize,
 ) -> u32
     ensures same { sign.new.value ≡ sign.old.value }
-    ensures answer { result ≡ given_answer sign.old.value.sign.config.reader (length community.old) }
-    ensures size { size.new ≡ length sign.old.value.sign.config.reader }
-    ensures community { community.new ≡ given_buffer sign.old.value.sign.config.reader community.old }
+    ensures answer { result ≡ given_answer sign.old.value.agent.sign.config.reader (length community.old) }
+    ensures size { size.new ≡ length sign.old.value.agent.sign.config.reader }
+    ensures community { community.new ≡ given_buffer sign.old.value.agent.sign.config.reader community.old }
 {
     give(sign.as_mut().sign().reader(), community, size)
 }
@@ -126,9 +160,9 @@ pub extern "C" fn wisangub_sign_writer_at(
     size: &mut usize,
 ) -> u32
     ensures same { sign.new.value ≡ sign.old.value }
-    ensures answer { result ≡ given_answer sign.old.value.sign.config.writer (length community.old) }
-    ensures size { size.new ≡ length sign.old.value.sign.config.writer }
-    ensures community { community.new ≡ given_buffer sign.old.value.sign.config.writer community.old }
+    ensures answer { result ≡ given_answer sign.old.value.agent.sign.config.writer (length community.old) }
+    ensures size { size.new ≡ length sign.old.value.agent.sign.config.writer }
+    ensures community { community.new ≡ given_buffer sign.old.value.agent.sign.config.writer community.old }
 {
     give(sign.as_mut().sign().writer(), community, size)
 }
@@ -142,9 +176,9 @@ pub extern "C" fn wisangub_sign_check_at(
     fault: &mut TextFault,
 ) -> u32
     ensures same { sign.new.value ≡ sign.old.value }
-    ensures answer { result ≡ check_answer (checked_text sign.old.value.sign.config.face text.now) }
-    ensures count { count.new ≡ count_after (checked_text sign.old.value.sign.config.face text.now) count.old }
-    ensures fault { fault.new ≡ fault_after (checked_text sign.old.value.sign.config.face text.now) fault.old }
+    ensures answer { result ≡ check_answer (checked_text sign.old.value.agent.sign.config.face text.now) }
+    ensures count { count.new ≡ count_after (checked_text sign.old.value.agent.sign.config.face text.now) count.old }
+    ensures fault { fault.new ≡ fault_after (checked_text sign.old.value.agent.sign.config.face text.now) fault.old }
 {
     match check(sign.as_mut().sign().face(), text) {
         Ok(found) => {

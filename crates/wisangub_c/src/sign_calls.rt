@@ -15,12 +15,13 @@ ghost use Rattle.dms_agent.specs.Received.{agent_received};
 ghost use Rattle.wisangub_c.specs.Answers.{done, no_memory, at_fault, answer_of, size_of, buffer_with, after_datagram};
 ghost use Rattle.wisangub_c.specs.Answers.{fault_answer, line_after};
 ghost use Rattle.wisangub_c.specs.Answers.{datagram_answer, datagram_size, datagram_buffer};
+ghost use Rattle.dms_agent_watched.specs.Watched.{unchanged, watched};
 
 use crate::answers::{AT_FAULT, DONE, NO_MEMORY, NOTHING_SENT, TOO_SMALL, put_first};
 use crate::loose::Loose;
 use crate::sign_handle::SignHandle;
 use crate::sign_place::SignPlace;
-use dms_agent::Agent;
+use dms_agent_watched::Watched;
 use dms_sign::Receipt;
 use dms_sign_text::{DescriptionFault, Setup, description};
 use dms_wire::{MAX_DATAGRAM, Out};
@@ -29,20 +30,20 @@ use std::alloc::Global;
 /// A sign on the heap, beside which nothing is published, and the number of the first request of its centre.
 #[derive(Drop)]
 struct NewSign {
-    sign: Box<Agent>,
+    sign: Box<Watched>,
     first: u32,
 }
 
 /// The sign of a description, on the heap.
 fn made(alloc: Global, text: &[u8]) -> Result<NewSign, DescriptionFault>
     ensures made { IfOk result (λ made. (it : Description) × SpellsSign (kept_lines text.now) it
-        × (made.sign.value ≡ alone (start it.config it.table)) × (made.first ≡ it.first)) }
+        × (made.sign.value ≡ unchanged (alone (start it.config it.table))) × (made.first ≡ it.first)) }
     ensures fault { IfErr result (λ fault. (fault ≡ DescriptionFault.Memory)
         ⊎ ((it : Description) → SpellsSign (kept_lines text.now) it → ⊥)) }
     ensures number { IfErr result (NamesLine (IsRefusedLine (all_numbered (lines text.now)))) }
 {
     let Setup { sign, first } = description(alloc, text)?;
-    match Box::new(alloc, Agent::new(alloc, sign)) {
+    match Box::new(alloc, Watched::new(alloc, sign)) {
         Ok(sign) => Ok(NewSign { sign, first }),
         Err(_) => Err(DescriptionFault::Memory),
     }
@@ -61,7 +62,7 @@ pub extern "C" fn wisangub_sign_new_at(
 ) -> u32
     ensures answer { (result ≡ done) ⊎ ((result ≡ at_fault) ⊎ (result ≡ no_memory)) }
     ensures made { result ≡ done → (it : Description) × SpellsSign (kept_lines text.now) it
-        × (sign.new.value ≡ Some (alone (start it.config it.table))) × (first.new ≡ it.first) }
+        × (sign.new.value ≡ Some (unchanged (alone (start it.config it.table)))) × (first.new ≡ it.first) }
     ensures fault { result ≡ at_fault → (it : Description) → SpellsSign (kept_lines text.now) it → ⊥ }
     ensures number { result ≡ at_fault → IsRefusedLine (all_numbered (lines text.now)) line.new }
     ensures unchanged { (result == done) ≡ false → (sign.new ≡ sign.old) × (first.new ≡ first.old) }
@@ -92,12 +93,12 @@ fn fault_answer(fault: DescriptionFault, line: &mut usize) -> u32
 }
 
 /// Hands a datagram to the sign and the objects beside it, where there is room for every reply.
-fn hear(sign: &mut Agent, datagram: &[u8], reply: &mut [u8], size: &mut usize) -> u32
+fn hear(sign: &mut Watched, datagram: &[u8], reply: &mut [u8], size: &mut usize) -> u32
     requires { longest_datagram ≤ length reply.old }
-    ensures after { sign.new ≡ (agent_received sign.old datagram.now).after }
-    ensures answer { result ≡ answer_of (agent_received sign.old datagram.now).reply }
-    ensures size { size.new ≡ size_of (agent_received sign.old datagram.now).reply }
-    ensures reply { reply.new ≡ buffer_with (agent_received sign.old datagram.now).reply reply.old }
+    ensures after { sign.new ≡ watched sign.old (agent_received sign.old.agent datagram.now).after }
+    ensures answer { result ≡ answer_of (agent_received sign.old.agent datagram.now).reply }
+    ensures size { size.new ≡ size_of (agent_received sign.old.agent datagram.now).reply }
+    ensures reply { reply.new ≡ buffer_with (agent_received sign.old.agent datagram.now).reply reply.old }
 {
     let mut out = Out::new();
     match sign.receive(datagram, &mut out) {
@@ -123,9 +124,9 @@ pub extern "C" fn wisangub_sign_receive_at(
     size: &mut usize,
 ) -> u32
     ensures after { sign.new.value ≡ after_datagram sign.old.value datagram.now (length reply.old) }
-    ensures answer { result ≡ datagram_answer sign.old.value datagram.now (length reply.old) }
-    ensures size { size.new ≡ datagram_size sign.old.value datagram.now (length reply.old) }
-    ensures reply { reply.new ≡ datagram_buffer sign.old.value datagram.now reply.old }
+    ensures answer { result ≡ datagram_answer sign.old.value.agent datagram.now (length reply.old) }
+    ensures size { size.new ≡ datagram_size sign.old.value.agent datagram.now (length reply.old) }
+    ensures reply { reply.new ≡ datagram_buffer sign.old.value.agent datagram.now reply.old }
 {
     if reply.len() < MAX_DATAGRAM {
         *size = MAX_DATAGRAM;
@@ -137,7 +138,8 @@ pub extern "C" fn wisangub_sign_receive_at(
 /// A second passes.
 #[unsafe(no_mangle)]
 pub extern "C" fn wisangub_sign_tick_at(sign: &mut SignHandle)
-    ensures { sign.new.value ≡ record sign.old.value { sign = after_tick sign.old.value.sign } }
+    ensures { sign.new.value ≡ watched sign.old.value
+        (record sign.old.value.agent { sign = after_tick sign.old.value.agent.sign }) }
 {
     sign.as_mut().tick();
 }
@@ -145,15 +147,17 @@ pub extern "C" fn wisangub_sign_tick_at(sign: &mut SignHandle)
 /// The silence is over, as after a Get that was answered: of a Get that was recorded so (docs/JOURNAL.md).
 #[unsafe(no_mangle)]
 pub extern "C" fn wisangub_sign_heard_at(sign: &mut SignHandle)
-    ensures { sign.new.value ≡ record sign.old.value { sign = after_get sign.old.value.sign } }
+    ensures { sign.new.value ≡ watched sign.old.value
+        (record sign.old.value.agent { sign = after_get sign.old.value.agent.sign }) }
 {
-    sign.as_mut().sign_mut().heard();
+    sign.as_mut().heard();
 }
 
 /// The power is lost.
 #[unsafe(no_mangle)]
 pub extern "C" fn wisangub_sign_power_lost_at(sign: &mut SignHandle)
-    ensures { sign.new.value ≡ record sign.old.value { sign = after_power_loss sign.old.value.sign } }
+    ensures { sign.new.value ≡ watched sign.old.value
+        (record sign.old.value.agent { sign = after_power_loss sign.old.value.agent.sign }) }
 {
     sign.as_mut().power_lost();
 }
@@ -161,8 +165,8 @@ pub extern "C" fn wisangub_sign_power_lost_at(sign: &mut SignHandle)
 /// The power is back after so many seconds.
 #[unsafe(no_mangle)]
 pub extern "C" fn wisangub_sign_power_back_at(sign: &mut SignHandle, seconds: u32)
-    ensures { sign.new.value
-        ≡ record sign.old.value { sign = after_power_return sign.old.value.sign seconds } }
+    ensures { sign.new.value ≡ watched sign.old.value
+        (record sign.old.value.agent { sign = after_power_return sign.old.value.agent.sign seconds }) }
 {
     sign.as_mut().power_back(seconds);
 }

@@ -10,7 +10,8 @@ import pytest
 from wisangub.snmp import wire
 from wisangub.snmp.names import DMS
 
-from .with_objects import refused, served, until
+from .waiting import until
+from .with_objects import refused, served
 
 UPTIME, CLOCK = (1, 3, 6, 1, 2, 1, 1, 3, 0), (1, 3, 6, 1, 4, 1, 1206, 4, 2, 6, 3, 1, 0)
 DESCRIPTION, BRIGHTNESS, DIAL = (1, 3, 6, 1, 2, 1, 1, 1, 0), DMS + (7, 6, 0), DMS + (7, 1, 0)

@@ -14,7 +14,8 @@ from model.font_objects import bitmap
 from wisangub.process.places import TOP
 
 from .asked_names import ASKED, EIGHT
-from .with_objects import PATIENCE, Served, served, until
+from .waiting import PATIENCE, until
+from .with_objects import Served, served
 
 LACKING = [name for name in ("snmpwalk", "snmpget", "snmpset", "snmptable") if shutil.which(name) is None]
 pytestmark = pytest.mark.skipif(bool(LACKING), reason=f"{', '.join(LACKING)} of Net-SNMP not here")

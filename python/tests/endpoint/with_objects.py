@@ -7,25 +7,16 @@ import socket
 import subprocess
 import sys
 import threading
-import time
-from collections.abc import Callable, Iterator
+from collections.abc import Iterator
 from dataclasses import dataclass, field
 
 from wisangub.process.places import TOP, environment
 from wisangub.snmp import wire
 
-MODEL = str(TOP / "model/signtool")
+from .waiting import MODEL, PATIENCE, until
+
 READER, WRITER = b"public", b"admin"
-PATIENCE = 60.0  # seconds that a busy machine takes
 NULL: wire.Tagged = (wire.NULL, b"")
-
-
-def until(is_so: Callable[[], object], what: str) -> None:
-    """Waits until it is so."""
-    ends = time.monotonic() + PATIENCE
-    while not is_so():
-        assert time.monotonic() < ends, f"not within {PATIENCE:g} s: {what}"
-        time.sleep(0.05)
 
 
 @dataclass

@@ -9,9 +9,8 @@ import re
 import socket
 import subprocess
 import sys
-import time
 import urllib.parse
-from collections.abc import Callable, Iterator
+from collections.abc import Iterator
 from dataclasses import dataclass, field
 from typing import Any
 
@@ -19,21 +18,13 @@ from wisangub.process.places import SIGNTOOL, TOP, environment
 from wisangub.snmp import wire
 from wisangub.snmp.names import Memory, RowStatus, cell, scalar
 
-MODEL = str(TOP / "model/signtool")
+from ..waiting import MODEL, PATIENCE, until
+
 PROGRAM = os.environ.get("SIGNTOOL") or (str(SIGNTOOL) if SIGNTOOL.is_file() else MODEL)
 SIGN = "signs/roadside.sign"  # from the top of the repository
 READER, WRITER = b"public", b"administrator"
-PATIENCE = 60.0  # seconds that a busy machine takes
 TOKEN = re.compile(r'name="token" content="([\w-]+)"')
 Said = dict[str, Any]
-
-
-def until(is_so: Callable[[], object], what: str) -> None:
-    """Waits until it is so."""
-    ends = time.monotonic() + PATIENCE
-    while not is_so():
-        assert time.monotonic() < ends, f"not within {PATIENCE:g} s: {what}"
-        time.sleep(0.05)
 
 
 @dataclass

@@ -14,7 +14,8 @@ from wisangub.process.places import SIGNTOOL, TOP
 from wisangub.snmp import wire
 from wisangub.snmp.names import Memory, cell, scalar
 
-from .bench import MODEL, PROGRAM
+from ..waiting import MODEL
+from .bench import PROGRAM
 
 GANTRY = TOP.joinpath("signs/gantry.sign").read_bytes()
 LINES = (b"page 1 on 30 off 0 back 0", b".9.", b"...", b"page 2 on 30 off 0 back 5", b"1..", b"..7")
@@ -41,6 +42,8 @@ def test_a_picture_has_its_text_for_who_does_not_see_it() -> None:
     assert svg[0].tag.endswith("title") and svg[1] is said
     again = with_text(with_text(by_lines(LINES), b"A"), b"B")
     assert again == with_text(by_lines(LINES), b"A"), "one that has a text keeps it"
+    of_program = b'<svg role="img">\n<title>A sign</title>\n<desc>[hcE9]</desc>\n</svg>\n'
+    assert b"</title><desc>\\xe9</desc>\n</svg>" in with_text(of_program, b"\xe9"), "the program's has the word"
 
 
 def test_pages_of_lines() -> None:

@@ -37,7 +37,7 @@ use Rattle.std.proofs.raw_atomic.Walks.{proved}
 use Rattle.std_alloc.specs.Box.Ownership.{box_owns}
 use Rattle.std_alloc.proofs.VecSteps.Shapes.{after}
 use Rattle.std.specs.contracts.impls.GlobalAllocator.TheImpl.{ghosts}
-use Rattle.dms_agent.specs.contracts.agent.Agent.{the_row as R}
+use Rattle.dms_agent_watched.specs.contracts.watched.Watched.{the_row as R}
 use Rattle.wisangub_c.specs.contracts.sign_handle.SignHandle.{the_row as H, the_type}
 use Rattle.wisangub_c.proofs.sign_handle.SignHandle.TheLaws.{lowers}
 use Rattle.wisangub_c.specs.contracts.sign_handle.SignHandle.as_mut as f

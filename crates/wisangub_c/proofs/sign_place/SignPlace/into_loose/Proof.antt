@@ -27,7 +27,7 @@ use Rattle.std.proofs.raw_atomic.Walks.{proved_at, leaves}
 use Rattle.std.specs.Prelude.{Option, Some, None, option_map}
 use Rattle.std.proofs.alloc.Global.TheLaws as heap_laws
 use Rattle.std.specs.contracts.impls.GlobalAllocator.TheImpl.{ghosts}
-use Rattle.dms_agent.specs.contracts.agent.Agent.{the_row as R}
+use Rattle.dms_agent_watched.specs.contracts.watched.Watched.{the_row as R}
 use Rattle.wisangub_c.specs.contracts.sign_place.SignPlace.{the_row as P}
 use Rattle.wisangub_c.proofs.Places.{either_held}
 use Rattle.wisangub_c.proofs.Heap.{Z, al, Parts}

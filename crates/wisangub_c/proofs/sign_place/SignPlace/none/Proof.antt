@@ -25,7 +25,7 @@ use Rattle.core.proofs.cell.Inside.{Good}
 use Rattle.std_alloc.proofs.ResultValues.{and_tt}
 use Rattle.std.proofs.raw_atomic.Walks.{proved_at, leaves}
 use Rattle.std.specs.Prelude.{Option, None}
-use Rattle.dms_agent.specs.contracts.agent.Agent.{the_row as R}
+use Rattle.dms_agent_watched.specs.contracts.watched.Watched.{the_row as R}
 use Rattle.wisangub_c.specs.contracts.sign_place.SignPlace.{the_row as P, the_type}
 use Rattle.wisangub_c.proofs.Heap.{Z, al}
 use Rattle.wisangub_c.proofs.Values.{both}

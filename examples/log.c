@@ -1,0 +1,109 @@
+#define _GNU_SOURCE
+#include "log.h"
+
+#include <errno.h>
+#include <fcntl.h>
+#include <inttypes.h>
+#include <netdb.h>
+#include <stdio.h>
+#include <string.h>
+#include <sys/stat.h>
+#include <time.h>
+#include <unistd.h>
+
+#include "sockets.h"
+
+enum { MODE = 0600, LINE = 2 * (DATAGRAM_MOST + 1) + NI_MAXHOST + 128 };
+
+void log_open(struct log *log, const char *path)
+{
+    struct stat found;
+    *log = (struct log){.path = path, .file = STDOUT_FILENO};
+    if (path == NULL || strcmp(path, "-") == 0) {
+        return;
+    }
+    log->file = had(open(path, O_WRONLY | O_CREAT | O_APPEND | O_CLOEXEC | O_NOCTTY, MODE), path);
+    if (fstat(log->file, &found) == 0 && S_ISREG(found.st_mode)) {
+        had(fchmod(log->file, MODE), path);
+    }
+}
+
+/* The time, with milliseconds, in UTC. */
+static size_t put_time(char *line, size_t room)
+{
+    struct timespec now;
+    struct tm parts;
+    clock_gettime(CLOCK_REALTIME, &now);
+    gmtime_r(&now.tv_sec, &parts);
+    size_t size = strftime(line, room, "%Y-%m-%dT%H:%M:%S", &parts);
+    return size + (size_t)snprintf(line + size, room - size, ".%03dZ ", (int)(now.tv_nsec / 1000000));
+}
+
+static size_t put_peer(char *line, size_t room, const struct sockaddr_storage *peer)
+{
+    char host[NI_MAXHOST], port[16];
+    if (peer == NULL
+        || getnameinfo((const struct sockaddr *)peer, sizeof *peer, host, sizeof host, port, sizeof port,
+                       NI_NUMERICHOST | NI_NUMERICSERV)
+               != 0) {
+        return (size_t)snprintf(line, room, "- ");
+    }
+    return (size_t)snprintf(line, room, peer->ss_family == AF_INET6 ? "[%s]:%s " : "%s:%s ", host, port);
+}
+
+static size_t put_octets(char *line, const uint8_t *octets, size_t size)
+{
+    static const char digits[] = "0123456789abcdef";
+    char *at = line;
+    if (size > 0) {
+        *at++ = ' ';
+    }
+    for (size_t octet = 0; octet < size; octet++) {
+        *at++ = digits[octets[octet] >> 4];
+        *at++ = digits[octets[octet] & 15];
+    }
+    *at++ = '\n';
+    return (size_t)(at - line);
+}
+
+/* Says that events are left out, or that they are written again. */
+static void tell(const struct log *log, int fault)
+{
+    if (fault != 0) {
+        fprintf(stderr, "the log %s is not written: %s\n", log->path, strerror(fault));
+    } else {
+        fprintf(stderr, "the log %s is written again, without %" PRIu64 " events\n", log->path, log->left_out);
+    }
+}
+
+/* A line in one write, after a newline where the last one was written in part. */
+static void put(struct log *log, const char *line, size_t size)
+{
+    ssize_t written = write(log->file, log->is_torn ? line : line + 1, log->is_torn ? size : size - 1);
+    if (written < 0) {
+        if (log->left_out++ == 0) {
+            tell(log, errno);
+        }
+        return;
+    }
+    log->is_torn = (size_t)written < (log->is_torn ? size : size - 1);
+    if (log->left_out > 0 && !log->is_torn) {
+        tell(log, 0);
+        log->left_out = 0;
+    }
+}
+
+void log_event(struct log *log, const struct sockaddr_storage *peer, const char *event, const uint8_t *octets,
+               size_t size)
+{
+    static char line[LINE] = "\n";
+    size_t end = 1;
+    if (log->path == NULL) {
+        return;
+    }
+    end += put_time(line + end, sizeof line - end);
+    end += put_peer(line + end, sizeof line - end, peer);
+    end += (size_t)snprintf(line + end, 64, "%.63s", event);
+    end += put_octets(line + end, octets, octets == NULL ? 0 : size);
+    put(log, line, end);
+}

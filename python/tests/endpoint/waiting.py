@@ -1,0 +1,17 @@
+"""What tests of front ends wait for, and the model that they are run over."""
+
+import time
+from collections.abc import Callable
+
+from wisangub.process.places import TOP
+
+MODEL = str(TOP / "model/signtool")
+PATIENCE = 60.0  # seconds that a busy machine takes
+
+
+def until(is_so: Callable[[], object], what: str) -> None:
+    """Waits until it is so."""
+    ends = time.monotonic() + PATIENCE
+    while not is_so():
+        assert time.monotonic() < ends, f"not within {PATIENCE:g} s: {what}"
+        time.sleep(0.05)

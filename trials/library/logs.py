@@ -1,0 +1,95 @@
+"""The log of examples/signd.c: a line an event; what a disk refuses is left out, and the sign goes on."""
+
+from __future__ import annotations
+
+import pathlib
+import re
+import signal
+import stat
+import time
+
+from model import codes, text, wire
+
+from .front_ends import MOST_REPLY, FrontEnd
+from .strangers import WAIT, request
+from .trial import Trial
+
+_SIGN = text.bench()
+_LINE = re.compile(r"\d{4}-\d\d-\d\dT\d\d:\d\d:\d\d\.\d{3}Z (-|127\.0\.0\.1:\d+|\[::1\]:\d+) ([a-z -]+?)( [0-9a-f]+)?")
+_ACTIVATE = (1, 3, 6, 1, 4, 1, 1206, 4, 2, 3, 6, 3, 0)
+_MOST_WAIT = 20.0  # seconds
+
+
+def _events(path: pathlib.Path, trial: Trial) -> list[tuple[str, str]]:
+    """What each line tells but for its time, and its octets or number."""
+    found = []
+    for line in path.read_text("ascii").splitlines():
+        parts = _LINE.fullmatch(line)
+        if trial.check("a line of the log", parts is not None, line) and parts:
+            found.append((f"{'-' if parts[1] == '-' else 'peer'} {parts[2]}", (parts[3] or "").strip()))
+    return found
+
+
+def _awaited(path: pathlib.Path, words: str) -> None:
+    """Waits until an event is there: a signal is heeded once the front end comes to it."""
+    last = time.monotonic() + _MOST_WAIT
+    while time.monotonic() < last and words not in path.read_text("ascii"):
+        time.sleep(0.01)
+
+
+def _told(trial: Trial) -> None:
+    """Each event in its order."""
+    path = trial.folder / "signd.log"
+    words = ("--log", str(path), "--write-from", "192.0.2.1", "--no-ticks")
+    front_end = FrontEnd(trial, "signd", None, *words)
+    get, set_ = request(wire.GET, _SIGN.reader, 1).hex(), request(wire.SET, _SIGN.writer, 2).hex()
+    reply = front_end.ask(get)
+    front_end.socket.settimeout(WAIT)
+    for octets in (set_, "00", "00" * 2000):
+        front_end.ask(octets)
+    front_end.socket.settimeout(MOST_REPLY)
+    front_end.process.send_signal(signal.SIGUSR1)
+    _awaited(path, "power-lost")
+    front_end.process.send_signal(signal.SIGUSR2)
+    _awaited(path, "power-back")
+    trial.same("the log: signd ends", front_end.end()[0], 0)
+    wanted = [("- start", ""), ("peer in", get), ("peer out", reply), ("peer not allowed", set_), ("peer in", "00")]
+    wanted += [("peer dropped", ""), ("peer lost", ""), ("- power-lost", ""), ("- power-back", "0"), ("- end", "")]
+    found = [("- power-back", "0") if name == "- power-back" else (name, value) for name, value in _events(path, trial)]
+    trial.same("the log", found, wanted)
+    trial.same("the log is its owner's", stat.S_IMODE(path.stat().st_mode), 0o600)
+
+
+def _activation(number: int) -> str:
+    """A SET that shows permanent row 1."""
+    code = codes.Activation(65535, 255, codes.MessageId(2, 1, codes.checksum(b"B", 0, 0)), bytes(4))
+    binding = (_ACTIVATE, (wire.OCTETS, code.octets(False)))
+    return wire.written(wire.Message(wire.SET, _SIGN.writer, number, 0, 0, [binding])).hex()
+
+
+def _pictures(trial: Trial) -> None:
+    """A change of the picture is told; the same picture again is none."""
+    path = trial.folder / "pictures.log"
+    front_end = FrontEnd(trial, "signd", None, "--log", str(path), "--no-ticks")
+    for number in range(3):
+        trial.check("a picture is shown", bool(front_end.ask(_activation(number))))
+    front_end.end()
+    told = [event for event in _events(path, trial) if event[0].startswith("- picture")]
+    trial.same("the log: pictures", told, [("- picture", "1")])
+
+
+def _unwritten(trial: Trial) -> None:
+    """A log that a disk refuses is told of once, and the sign goes on."""
+    front_end = FrontEnd(trial, "signd", None, "--log", "/dev/full")
+    for number in range(3):
+        trial.check("no log: answered", bool(front_end.ask(request(wire.GET, _SIGN.reader, number).hex())))
+    status, faults = front_end.end()
+    trial.check("no log", status == 0 and faults.count("the log /dev/full is not written") == 1, faults)
+    status, said = trial.ran(trial.called(trial.way, "signd", "--port", "0", "--log", str(trial.folder), "none.sign"))
+    trial.check("a folder is no log", status == 1 and str(trial.folder) in said, said)
+
+
+def run(trial: Trial) -> None:
+    _told(trial)
+    _pictures(trial)
+    _unwritten(trial)
