@@ -9,6 +9,7 @@ ghost use Rattle.dms_face_picture.specs.Picture.{dots_start};
 ghost use Rattle.dms_face_picture.specs.Picture.{plain_path, style_animation, style_path, page_group, opening, closing};
 ghost use Rattle.dms_face_picture.specs.Picture.{round_of, groups_from, picture_of, still_of};
 
+use crate::description::put_description;
 use crate::lamps::{put_lamps, put_whole_rows, styles_of};
 use crate::motion::{Motion, put_flash_animation, put_page_animation};
 use crate::shade::shade;
@@ -19,32 +20,33 @@ use std::alloc::{AllocError, Global};
 use std::io;
 use std::io::Write;
 
-/// A message of these pages as a document that a browser plays, on a matrix of so many columns and rows. A page is
-/// shown for its time, and none is in its off time; then the first comes again. A message of one page without an off
-/// time stays. Lamps flash with the right time first, from where their page is first shown. A message has at most six
-/// pages; those after the sixth are left out.
+/// A message of this text and these pages as a document that a browser plays, on a matrix of so many columns and rows.
+/// The document says the text, for who does not see it. A page is shown for its time, and none is in its off time; then
+/// the first comes again. A message of one page without an off time stays. Lamps flash with the right time first, from
+/// where their page is first shown. A message has at most six pages; those after the sixth are left out.
 pub fn picture(
     alloc: Global,
     width: u16,
     height: u16,
+    text: &[u8],
     pages: &[Page],
 ) -> Result<Vec<u8>, AllocError>
-    ensures { IfOk result (λ document. document.items ≡ picture_of width height (take most_pages pages.now)) }
+    ensures { IfOk result (λ document. document.items ≡ picture_of width height text.now (take most_pages pages.now)) }
 {
     let mut out = Vec::new(alloc);
     let shown = &pages[..pages.len().min(MAX_PAGES)];
-    match put_picture(alloc, &mut out, width, height, shown) {
+    match put_picture(alloc, &mut out, width, height, text, shown) {
         Ok(()) => Ok(out),
         Err(_) => Err(AllocError),
     }
 }
 
-/// One page as a document in which nothing moves; what flashes is lit.
-pub fn still(alloc: Global, page: &Page) -> Result<Vec<u8>, AllocError>
-    ensures { IfOk result (λ document. document.items ≡ still_of page.now) }
+/// One page of this text as a document in which nothing moves; what flashes is lit. The document says the text.
+pub fn still(alloc: Global, text: &[u8], page: &Page) -> Result<Vec<u8>, AllocError>
+    ensures { IfOk result (λ document. document.items ≡ still_of text.now page.now) }
 {
     let mut out = Vec::new(alloc);
-    match put_still(alloc, &mut out, page) {
+    match put_still(alloc, &mut out, text, page) {
         Ok(()) => Ok(out),
         Err(_) => Err(AllocError),
     }
@@ -55,20 +57,21 @@ fn put_picture(
     out: &mut Vec<u8>,
     width: u16,
     height: u16,
+    text: &[u8],
     pages: &[Page],
 ) -> io::Result<()>
     requires { length pages.now ≤ most_pages }
-    ensures { OnOk result (out.new.items ≡ out.old.items ++ picture_of width height pages.now) }
+    ensures { OnOk result (out.new.items ≡ out.old.items ++ picture_of width height text.now pages.now) }
 {
-    put_opening(out, width, height)?;
+    put_opening(out, width, height, text)?;
     put_groups(alloc, out, round_of(pages), pages)?;
     put_closing(out)
 }
 
-fn put_still(alloc: Global, out: &mut Vec<u8>, page: &Page) -> io::Result<()>
-    ensures { OnOk result (out.new.items ≡ out.old.items ++ still_of page.now) }
+fn put_still(alloc: Global, out: &mut Vec<u8>, text: &[u8], page: &Page) -> io::Result<()>
+    ensures { OnOk result (out.new.items ≡ out.old.items ++ still_of text.now page.now) }
 {
-    put_opening(out, page.width(), page.height())?;
+    put_opening(out, page.width(), page.height(), text)?;
     put_page(alloc, out, Motion::Still, page)?;
     put_closing(out)
 }
@@ -183,22 +186,23 @@ fn put_dots_start(out: &mut Vec<u8>, colour: u8) -> io::Result<()>
     put(out, "\" d=\"")
 }
 
-/// Appends the document's tag, its title, the plate, and all lamps dark.
-fn put_opening(out: &mut Vec<u8>, width: u16, height: u16) -> io::Result<()>
-    ensures { OnOk result (out.new.items ≡ out.old.items ++ opening width height) }
+/// Appends the document's tag, what it says, the plate, and all lamps dark.
+fn put_opening(out: &mut Vec<u8>, width: u16, height: u16, text: &[u8]) -> io::Result<()>
+    ensures { OnOk result (out.new.items ≡ out.old.items ++ opening width height text.now) }
 {
-    put_board(out, width, height)?;
+    put_board(out, width, height, text)?;
     put_plain_path(out, 0, width, height)
 }
 
-/// Appends the plate of a matrix, which is one lamp wider and higher, under the document's tag and title.
-fn put_board(out: &mut Vec<u8>, width: u16, height: u16) -> io::Result<()>
-    ensures { OnOk result (out.new.items ≡ out.old.items ++ board width height) }
+/// Appends the plate of a matrix, which is one lamp wider and higher, under the document's tag and what it says.
+fn put_board(out: &mut Vec<u8>, width: u16, height: u16, text: &[u8]) -> io::Result<()>
+    ensures { OnOk result (out.new.items ≡ out.old.items ++ board width height text.now) }
 {
     let columns = u32::from(width) + 1;
     let rows = u32::from(height) + 1;
     put_svg_tag(out, columns, rows)?;
     put_title(out, width, height)?;
+    put_description(out, text)?;
     put_plate(out, columns, rows)
 }
 
@@ -209,7 +213,7 @@ fn put_svg_tag(out: &mut Vec<u8>, columns: u32, rows: u32) -> io::Result<()>
     put_view(out, columns, rows)?;
     put(
         out,
-        " fill=\"none\" stroke-linecap=\"round\" stroke-width=\"0.8\">\n",
+        " role=\"img\" fill=\"none\" stroke-linecap=\"round\" stroke-width=\"0.8\">\n",
     )
 }
 

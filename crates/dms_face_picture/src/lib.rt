@@ -2,11 +2,12 @@
 //!
 //! ```
 //! let shown = pages(alloc, &face, b"A")?;
-//! let document = picture(alloc, face.width(), face.height(), shown.as_slice())?;
+//! let document = picture(alloc, face.width(), face.height(), b"A", shown.as_slice())?;
 //! assert!(rt; document.as_slice().starts_with(b"<svg "));
 //! ```
 #![tactic(auto)]
 
+mod description;
 mod document;
 mod lamps;
 mod motion;

@@ -36,28 +36,28 @@ check_answer face text = count_answer (checked_text face text)
 -- ---- pages
 
 -- all pages: as a picture, or cell by cell
-abbrev pub all_answer : Bool → FaceModel → List DrawnPage → Answer
-all_answer true face pages = answer Done (picture_of face.width face.height (take most_pages pages))
-all_answer false face pages = answer Done (pages_text pages)
+abbrev pub all_answer : Bool → FaceModel → List ℕ → List DrawnPage → Answer
+all_answer true face text pages = answer Done (picture_of face.width face.height text (take most_pages pages))
+all_answer false face text pages = answer Done (pages_text pages)
 
 -- one page under its number
-abbrev pub page_answer : Bool → ℕ → DrawnPage → Answer
-page_answer true number page = answer Done (still_of page)
-page_answer false number page = answer Done (page_text (number, page))
+abbrev pub page_answer : Bool → List ℕ → ℕ → DrawnPage → Answer
+page_answer true text number page = answer Done (still_of text page)
+page_answer false text number page = answer Done (page_text (number, page))
 
-abbrev pub one_answer : Bool → ℕ → Option DrawnPage → Answer
-one_answer svg number None = answer Refused (codes "no such page\n")
-one_answer svg number (Some page) = page_answer svg number page
+abbrev pub one_answer : Bool → List ℕ → ℕ → Option DrawnPage → Answer
+one_answer svg text number None = answer Refused (codes "no such page\n")
+one_answer svg text number (Some page) = page_answer svg text number page
 
 -- all pages, or the one that is wanted, counted from 1
-abbrev pub wanted_answer : Bool → FaceModel → List DrawnPage → Option ℕ → Answer
-wanted_answer svg face pages None = all_answer svg face pages
-wanted_answer svg face pages (Some number) = one_answer svg number (slice_get pages (number - 1))
+abbrev pub wanted_answer : Bool → FaceModel → List ℕ → List DrawnPage → Option ℕ → Answer
+wanted_answer svg face text pages None = all_answer svg face text pages
+wanted_answer svg face text pages (Some number) = one_answer svg text number (slice_get pages (number - 1))
 
-abbrev pub drawn_answer : Drawing → FaceModel → Result (List DrawnPage) MultiFault → Answer
-drawn_answer drawing face (Ok pages) = wanted_answer drawing.svg face pages drawing.page
-drawn_answer drawing face (Err fault) = fault_answer fault
+abbrev pub drawn_answer : Drawing → FaceModel → List ℕ → Result (List DrawnPage) MultiFault → Answer
+drawn_answer drawing face text (Ok pages) = wanted_answer drawing.svg face text pages drawing.page
+drawn_answer drawing face text (Err fault) = fault_answer fault
 
 -- of `pages`: the text's pages on a face, or its fault
 abbrev pub pages_answer : FaceModel → List ℕ → Drawing → Answer
-pages_answer face text drawing = drawn_answer drawing face (drawn_text face text)
+pages_answer face text drawing = drawn_answer drawing face text (drawn_text face text)

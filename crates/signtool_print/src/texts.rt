@@ -130,7 +130,10 @@ pub fn print_pages<W: Sink, E: Write>(
         (W.failed writer.new) result (pages_answer face.now text.now drawing) }
 {
     match pages(alloc, face, text.as_bytes()) {
-        Ok(pages) => print_drawn(alloc, face, pages.as_slice(), drawing, writer, errors),
+        Ok(pages) => {
+            let text = text.as_bytes();
+            print_drawn(alloc, face, text, pages.as_slice(), drawing, writer, errors)
+        }
         Err(PagesFault::Multi(fault)) => {
             say_fault(alloc, text, face, fault, errors);
             print_fault(alloc, fault, writer, errors)
@@ -139,37 +142,39 @@ pub fn print_pages<W: Sink, E: Write>(
     }
 }
 
-/// Prints pages of a face as they are to be drawn, or the one that is wanted, where it is one of them.
+/// Prints pages of a text on a face as they are to be drawn, or the one that is wanted, where it is one of them.
 fn print_drawn<W: Sink, E: Write>(
     alloc: Global,
     face: &Face,
+    text: &[u8],
     pages: &[Page],
     drawing: Drawing,
     writer: &mut W,
     errors: &mut E,
 ) -> Result<ExitStatus, Failed>
     ensures { PrintsOrMemory (W.contents writer.old) (W.contents writer.new) (W.failed writer.old)
-        (W.failed writer.new) result (wanted_answer drawing.svg face.now pages.now drawing.page) }
+        (W.failed writer.new) result (wanted_answer drawing.svg face.now text.now pages.now drawing.page) }
 {
     match drawing.page {
-        None => print_all(alloc, face, pages, drawing.svg, writer, errors),
-        Some(number) => print_one(alloc, pages, (number, drawing.svg), writer, errors),
+        None => print_all(alloc, face, text, pages, drawing.svg, writer, errors),
+        Some(number) => print_one(alloc, text, pages, (number, drawing.svg), writer, errors),
     }
 }
 
 fn print_all<W: Sink, E: Write>(
     alloc: Global,
     face: &Face,
+    text: &[u8],
     pages: &[Page],
     svg: bool,
     writer: &mut W,
     errors: &mut E,
 ) -> Result<ExitStatus, Failed>
     ensures { PrintsOrMemory (W.contents writer.old) (W.contents writer.new) (W.failed writer.old)
-        (W.failed writer.new) result (all_answer svg face.now pages.now) }
+        (W.failed writer.new) result (all_answer svg face.now text.now pages.now) }
 {
     if svg {
-        match picture_on(alloc, face, pages) {
+        match picture_on(alloc, face, text, pages) {
             Ok(document) => print_made(writer, document, ExitStatus::Done),
             Err(_) => print_memory(writer, errors),
         }
@@ -181,11 +186,16 @@ fn print_all<W: Sink, E: Write>(
     }
 }
 
-fn picture_on(alloc: Global, face: &Face, pages: &[Page]) -> Result<Vec<u8>, AllocError>
+fn picture_on(
+    alloc: Global,
+    face: &Face,
+    text: &[u8],
+    pages: &[Page],
+) -> Result<Vec<u8>, AllocError>
     ensures { IfOk result (λ document. document.items
-        ≡ picture_of face.now.width face.now.height (take most_pages pages.now)) }
+        ≡ picture_of face.now.width face.now.height text.now (take most_pages pages.now)) }
 {
-    match picture(alloc, face.width(), face.height(), pages) {
+    match picture(alloc, face.width(), face.height(), text, pages) {
         Ok(document) => Ok(document),
         Err(error) => Err(error),
     }
@@ -194,18 +204,19 @@ fn picture_on(alloc: Global, face: &Face, pages: &[Page]) -> Result<Vec<u8>, All
 /// Prints the page of this number, where there is one, as a picture or cell by cell.
 fn print_one<W: Sink, E: Write>(
     alloc: Global,
+    text: &[u8],
     pages: &[Page],
     wanted: (u8, bool),
     writer: &mut W,
     errors: &mut E,
 ) -> Result<ExitStatus, Failed>
     ensures { PrintsOrMemory (W.contents writer.old) (W.contents writer.new) (W.failed writer.old)
-        (W.failed writer.new) result (one_answer wanted.1 wanted.0 (slice_get pages.now (wanted.0 - 1))) }
+        (W.failed writer.new) result (one_answer wanted.1 text.now wanted.0 (slice_get pages.now (wanted.0 - 1))) }
 {
     let (number, svg) = wanted;
     let number = usize::from(number);
     match pages.get(number.saturating_sub(1)) {
-        Some(page) => print_page(alloc, page, number, svg, writer, errors),
+        Some(page) => print_page(alloc, text, page, number, svg, writer, errors),
         None => {
             let count = pages.len();
             let _ = writeln!(
@@ -219,6 +230,7 @@ fn print_one<W: Sink, E: Write>(
 
 fn print_page<W: Sink, E: Write>(
     alloc: Global,
+    text: &[u8],
     page: &Page,
     number: usize,
     svg: bool,
@@ -226,10 +238,10 @@ fn print_page<W: Sink, E: Write>(
     errors: &mut E,
 ) -> Result<ExitStatus, Failed>
     ensures { PrintsOrMemory (W.contents writer.old) (W.contents writer.new) (W.failed writer.old)
-        (W.failed writer.new) result (page_answer svg number page.now) }
+        (W.failed writer.new) result (page_answer svg text.now number page.now) }
 {
     if svg {
-        match still(alloc, page) {
+        match still(alloc, text, page) {
             Ok(document) => print_made(writer, document, ExitStatus::Done),
             Err(_) => print_memory(writer, errors),
         }

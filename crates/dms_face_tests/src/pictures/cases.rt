@@ -5,10 +5,14 @@ pub const FONT: &[u8] = b"font 1 height 2 space 1 line 1 version 0001
 glyph 65 2 90
 ";
 
-/// What a document begins with: its size, and the plate of lamps that are dark.
+/// What a document begins with: its size, its title, and the tag of what it says.
 pub const HEAD: &str =
-    r##"<svg xmlns="http://www.w3.org/2000/svg" viewBox="-1 -1 5 4" fill="none" stroke-linecap="round" stroke-width="0.8">
+    r##"<svg xmlns="http://www.w3.org/2000/svg" viewBox="-1 -1 5 4" role="img" fill="none" stroke-linecap="round" stroke-width="0.8">
 <title>A message sign of 4 by 3 lamps</title>
+<desc>"##;
+
+/// What follows: the end of that tag, and the plate of lamps that are dark.
+pub const PLATE: &str = r##"</desc>
 <path stroke="none" fill="#202020" d="M-1-1h5v4H-1z"/>
 <path stroke="#000000" stroke-dasharray="0 1" d="M0 0h3.5M0 1h3.5M0 2h3.5"/>
 "##;
