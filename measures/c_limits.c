@@ -175,6 +175,13 @@ static enum wisangub_answer shown(const struct call *call)
     return wisangub_sign_shown(&sign, &found);
 }
 
+static enum wisangub_answer changed(const struct call *call)
+{
+    uint64_t changes;
+    (void)call;
+    return wisangub_sign_changes(&sign, &changes);
+}
+
 /* An object that a manager may set, of a name. */
 static enum wisangub_answer publish(const struct call *call)
 {
@@ -315,6 +322,7 @@ static void take(char *word)
         measured("sign_pages", draw, NULL, 0);
         measured("row_bits", bits, pages + WISANGUB_PAGE_HEAD, 256);
         measured("sign_shown", shown, NULL, 0);
+        measured("sign_changes", changed, NULL, 0);
     } else if (strcmp(word, "anew") == 0) {
         make_both();
     }

@@ -2,7 +2,9 @@
 """Prints tables of the measures: the times of the proved calls and of those by hand, and their instructions.
 
     measures/measured.py [--instructions] [--times] [TOPIC ..]
-    measures/measured.py --compare measures/MEASURED.md [TOPIC ..]   which take more instructions than the page records
+    measures/measured.py --recorded               the tables of measures/measured.tsv, and a line a topic
+    measures/measured.py --compare [TOPIC ..]     which take more instructions than stand there
+    measures/measured.py --record [TOPIC ..]      writes the new figures of what stands there
 
 It runs the program that measures/run.sh builds, crates/dms_measures/out/measure; its `--list` names the topics. Times
 are the least of interleaved passes of two milliseconds or more. Instructions are counted by callgrind (Debian's package
@@ -18,19 +20,11 @@ import re
 import subprocess
 import sys
 import tempfile
-from dataclasses import dataclass
 
-from compared import Counted, compared
+from compared import compared
+from recorded import FILE, Row, read, renewed, summary, table, written
 
 MEASURE = pathlib.Path(__file__).resolve().parent.parent / "crates/dms_measures/out/measure"
-
-
-@dataclass
-class Row:
-    topic: str
-    name: str
-    times: tuple[float, float] | None = None
-    instructions: tuple[float, float] | None = None
 
 
 def lines(*words: str) -> list[list[str]]:
@@ -59,59 +53,58 @@ def counted(rows: list[Row], topics: list[str]) -> None:
             row.instructions = (proved, by_hand)
 
 
-def cells(figures: tuple[float, float] | None, digits: str) -> list[str]:
-    if figures is None:
-        return []
-    proved, by_hand = figures
-    return [format(proved, digits), format(by_hand, digits), f"{proved / by_hand:.2f}"]
-
-
-def table(rows: list[Row], topic: str) -> str:
-    rows = [row for row in rows if row.topic == topic]
-    heads = ["measure"]
-    heads += ["proved, ns", "by hand, ns", "ratio"] if rows[0].times else []
-    heads += ["proved, instructions", "by hand, instructions", "ratio"] if rows[0].instructions else []
-    said = [heads, ["---"] * len(heads)]
-    for row in rows:
-        digits = ",.1f" if row.times and min(row.times) < 20 else ",.0f"
-        said.append([row.name, *cells(row.times, digits), *cells(row.instructions, ",.0f")])
-    return f"## {topic}\n\n" + "\n".join(f"| {' | '.join(line)} |" for line in said) + "\n"
-
-
-def compare(page: pathlib.Path, rows: list[Row]) -> int:
-    """Says which measures take more instructions than the page records; the exit status."""
-    measures = [Counted(row.topic, row.name, row.instructions[0]) for row in rows if row.instructions]
-    count, found = compared(page.read_text(encoding="utf-8"), measures)
+def compare(rows: list[Row]) -> int:
+    """Says which measures take more instructions than are recorded; the exit status."""
+    count, found = compared(read(FILE.read_text(encoding="utf-8")), rows)
     for line in found:
         print(line)
-    print(f"{count} measures compared with {page}, {len(found)} findings")
+    print(f"{count} measures compared with measures/{FILE.name}, {len(found)} findings")
     return 1 if found or count == 0 else 0
 
 
-def main() -> int:
-    parser = argparse.ArgumentParser(description=__doc__, formatter_class=argparse.RawDescriptionHelpFormatter)
-    parser.add_argument("--instructions", action="store_true", help="instructions alone")
-    parser.add_argument("--times", action="store_true", help="times alone")
-    parser.add_argument(
-        "--compare", type=pathlib.Path, metavar="PAGE", help="which take more instructions than PAGE records"
-    )
-    parser.add_argument("topics", nargs="*", metavar="TOPIC", help="these topics; else all")
-    asked = parser.parse_args()
-    if asked.compare and asked.times:
-        parser.error("--compare is of instructions alone")
-    rows = [Row(topic, name) for topic, name in lines("--list", *asked.topics)]
-    if asked.compare:
-        counted(rows, asked.topics)
-        return compare(asked.compare, rows)
-    if asked.times or not asked.instructions:
+def show(rows: list[Row]) -> None:
+    """Prints a table a topic."""
+    for topic in dict.fromkeys(row.topic for row in rows):
+        print(table(rows, topic))
+
+
+def measure(rows: list[Row], asked: argparse.Namespace) -> None:
+    """Takes what is asked for: times, instructions, or both."""
+    if asked.times or not (asked.instructions or asked.compare):
         before = os.getloadavg()[0]
         for row, (_, _, proved, by_hand) in zip(rows, lines(*asked.topics), strict=True):
             row.times = (float(proved), float(by_hand))
         print(f"Times were taken at a load of {before:.0f} to {os.getloadavg()[0]:.0f}.\n")
     if asked.instructions or not asked.times:
         counted(rows, asked.topics)
-    for topic in dict.fromkeys(row.topic for row in rows):
-        print(table(rows, topic))
+
+
+def options() -> argparse.Namespace:
+    parser = argparse.ArgumentParser(description=__doc__, formatter_class=argparse.RawDescriptionHelpFormatter)
+    which = parser.add_mutually_exclusive_group()
+    which.add_argument("--instructions", action="store_true", help="instructions alone")
+    which.add_argument("--times", action="store_true", help="times alone")
+    which.add_argument("--recorded", action="store_true", help="the tables of what is recorded, and a line a topic")
+    which.add_argument("--compare", action="store_true", help="which take more instructions than are recorded")
+    which.add_argument("--record", action="store_true", help="writes the new figures of what is recorded")
+    parser.add_argument("topics", nargs="*", metavar="TOPIC", help="these topics; else all")
+    return parser.parse_args()
+
+
+def main() -> int:
+    asked = options()
+    if asked.recorded:
+        rows = read(FILE.read_text(encoding="utf-8"))
+        show(rows)
+        print(summary(rows))
+        return 0
+    rows = [Row(topic, name) for topic, name in lines("--list", *asked.topics)]
+    measure(rows, asked)
+    if asked.compare:
+        return compare(rows)
+    show(rows)
+    if asked.record:
+        FILE.write_text(written(renewed(read(FILE.read_text(encoding="utf-8")), rows)), encoding="utf-8")
     return 0
 
 
