@@ -1,9 +1,9 @@
 """Whether the tester finds the wrong signs: python3 -m trials.wrong_signs [--only NAME] [--sign FILE] [--jobs N]
 
-A line for each that is not found as it should be, with --loud for each at all; last `N passed, N failed`. With
---default those that have a group are tried as a test without options tries them: each has to be found, be it by
-whichever chapter, and of each group half within 150 seconds of the sign. With --further others of these groups are,
-each of which has to be found.
+A line for each that is not found as it should be, with --loud for each at all; last `N passed, N failed`, and what a
+chapter's are at the median. With --default those that have a group are tried as a test without options tries them, to
+its end: each has to be found, be it by whichever chapter, and of each group half within 150 seconds of the sign. With
+--further others of these groups are, each of which has to be found.
 """
 
 import argparse
@@ -15,7 +15,10 @@ from dataclasses import dataclass
 
 from model import text
 from wisangub.tester.chapters import ALL
+from wisangub.tester.findings.differences import Difference
+from wisangub.tester.findings.results import Quiet
 from wisangub.tester.findings.rules import RULES
+from wisangub.tester.sign.clock import Clock
 from wisangub.tester.sign.judge import Judge, SignJudge
 from wisangub.tester.sign.oracle import Oracle, made
 
@@ -25,6 +28,7 @@ from .table import FURTHER, MUTANTS
 
 MOST_DATAGRAMS = 10
 MOST_SECONDS = 150.0  # of the sign, at the median of a group, with --default
+MOST_SMALLER = 40.0  # seconds that a test without options makes a difference smaller
 # the bench sign with a second font of other spacings, so that averages are to be rounded
 BENCH = text.BENCH.replace(b"font 2 height 5 space 1 line 1", b"font 2 height 5 space 2 line 2")
 
@@ -35,6 +39,19 @@ class Outcome:
     is_found: bool
     words: str
     seconds: float = 0.0  # of the sign, until it was found and shown small
+    whole: float = 0.0  # of the sign, that the test took
+
+
+class First(Quiet):
+    """When the first difference was told that came again."""
+
+    def __init__(self) -> None:
+        self.clock: Clock | None = None
+        self.seconds: float | None = None
+
+    def found(self, difference: Difference) -> None:
+        if self.clock is not None and self.seconds is None:
+            self.seconds = self.clock.now()
 
 
 def judges(program: str, description: bytes) -> tuple[Oracle, Judge]:
@@ -53,38 +70,59 @@ def description_for(mutant: Mutant, description: bytes) -> bytes:
 
 
 def tried(
-    mutant: Mutant, description: bytes, program: str, is_short: bool = False, is_default: bool = False
+    mutant: Mutant,
+    description: bytes,
+    program: str,
+    is_short: bool = False,
+    is_default: bool = False,
+    is_whole: bool = False,
 ) -> Outcome:
-    """The whole test of a wrong sign, up to its first difference; the short form begins with its rule's chapter, and
-    the default one asks for no slow cases."""
+    """The test of a wrong sign, up to its first difference or to its end; the short form begins with its rule's
+    chapter, and the default one asks for no slow cases."""
     wanted = RULES[mutant.rule].chapter
     description = description_for(mutant, description)
     oracle, judge = judges(program, description)
-    sign = sign_of([mutant], description)
+    sign, first_told = sign_of([mutant], description), First()
+    most = None if is_whole else 1
     try:
-        is_slow = not is_default
-        session = bench.session(description, sign, oracle, judge, requests=400, is_slow=is_slow, most_differences=1)
+        session = bench.session(
+            description,
+            sign,
+            oracle,
+            judge,
+            requests=400,
+            is_slow=not is_default,
+            most_differences=most,
+            watcher=first_told,
+        )
+        first_told.clock = session.pair.clock
+        session.most_seconds = MOST_SMALLER if is_default else session.most_seconds
         chapters = sorted(ALL, key=lambda chapter: chapter.name != wanted) if is_short else ALL
-        found = session.run(chapters).differences()
+        found = session.run([held for held in chapters if not (is_default and held.is_slow)]).differences()
     finally:
         oracle.end()
         judge.end()
         unload([mutant])
-    seconds = session.pair.clock.now()
+    whole = session.pair.clock.now()
+    seconds = whole if first_told.seconds is None else first_told.seconds
     if not found:
-        return Outcome(mutant.name, False, f"{wanted}: nothing differs", seconds)
+        return Outcome(mutant.name, False, f"{wanted}: nothing differs", seconds, whole)
     first = found[0]
     good = first.rule.chapter == wanted and first.datagrams <= MOST_DATAGRAMS and first.is_repeated
     found_as = f"found as {first.rule.chapter} ({first.rule.key}), {first.title}, {first.datagrams} datagrams"
-    said = f"{wanted} ({mutant.rule}): {found_as}, in {first.found_in}, {seconds:.0f} s"
-    return Outcome(mutant.name, first.is_repeated if is_default else good, said, seconds)
+    said = f"{wanted} ({mutant.rule}): {found_as}, in {first.found_in}, {seconds:.0f} s of {whole:.0f}"
+    return Outcome(mutant.name, first.is_repeated if is_default else good, said, seconds, whole)
 
 
-def medians(chosen: list[Mutant], outcomes: list[Outcome]) -> list[tuple[str, float]]:
-    """The seconds at the median of each group."""
-    groups = dict.fromkeys(mutant.group for mutant in chosen)
-    seconds = {held.name: held.seconds for held in outcomes}
-    return [(group, statistics.median(seconds[one.name] for one in chosen if one.group == group)) for group in groups]
+def medians(chosen: list[Mutant], outcomes: list[Outcome], is_by_chapter: bool) -> list[tuple[str, float, float]]:
+    """The seconds at the median of each group, or of each chapter's: until one was found, and of the whole test."""
+    held: dict[str, list[Outcome]] = {}
+    for mutant, outcome in zip(chosen, outcomes):
+        held.setdefault(RULES[mutant.rule].chapter if is_by_chapter else mutant.group, []).append(outcome)
+    return [
+        (name, statistics.median(one.seconds for one in found), statistics.median(one.whole for one in found))
+        for name, found in held.items()
+    ]
 
 
 def main() -> int:
@@ -105,16 +143,18 @@ def main() -> int:
     chosen = [mutant for mutant in chosen if mutant.group or not is_default]
     outcomes: list[Outcome] = []
     with concurrent.futures.ProcessPoolExecutor(asked.jobs) as pool:
-        waiting = [pool.submit(tried, one, description, asked.signtool, False, is_default) for one in chosen]
+        waiting = [
+            pool.submit(tried, one, description, asked.signtool, False, is_default, asked.default) for one in chosen
+        ]
         for done in waiting:
             outcome = done.result()
             outcomes.append(outcome)
             if asked.loud or not outcome.is_found:
                 print(f"{'' if outcome.is_found else 'NOT FOUND '}{outcome.name}: {outcome.words}", flush=True)
-    found = sum(outcome.is_found for outcome in outcomes)
-    slow = [held for held in medians(chosen, outcomes) if asked.default and held[1] > MOST_SECONDS]
-    for group, seconds in medians(chosen, outcomes) if asked.default else ():
-        print(f"{group}: {seconds:.0f} s at the median")
+    found, held = sum(outcome.is_found for outcome in outcomes), medians(chosen, outcomes, not is_default)
+    slow = [name for name, seconds, _ in held if asked.default and seconds > MOST_SECONDS]
+    for name, seconds, whole in held:
+        print(f"{name}: found after {seconds:.0f} s at the median, the whole test {whole:.0f} s")
     print(f"{found} passed, {len(outcomes) - found + len(slow)} failed")
     return 0 if found == len(outcomes) and not slow else 1
 

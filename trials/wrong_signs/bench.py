@@ -39,13 +39,18 @@ class ModelOracle:
 
 
 class ModelJudge:
-    """The layout of the model."""
+    """The layout of the model. What it said of a text under a description's defaults is known to the next one too."""
+
+    _known: dict[tuple[bytes, bytes, tuple[int, ...]], Fault | None] = {}
 
     def __init__(self, description: bytes) -> None:
-        self._face = text.described(description).face
+        self._description, self._face = description, text.described(description).face
 
     def fault(self, message: bytes, defaults: Sequence[int]) -> Fault | None:
-        return layout.laid_out(self._face, defaults, message)[1]
+        key = (self._description, message, tuple(defaults))
+        if key not in self._known:
+            self._known[key] = layout.laid_out(self._face, defaults, message)[1]
+        return self._known[key]
 
     def pages(self, message: bytes) -> list[str]:
         pages, _ = layout.laid_out(self._face, self._face.defaults, message)

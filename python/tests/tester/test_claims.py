@@ -11,7 +11,9 @@ from wisangub.refusal import Refusal
 from wisangub.snmp import wire
 from wisangub.snmp.names import scalar
 from wisangub.tester.chapters import ALL
-from wisangub.tester.chapters.tracing import shown_by
+from wisangub.tester.chapters.texts import samples
+from wisangub.tester.chapters.tracing import shown_by, traced
+from wisangub.tester.chapters.validation import CHAPTER
 from wisangub.tester.findings.results import Results, Verdict
 from wisangub.tester.report import files, page, terminal, words
 from wisangub.tester.requests.objects import NULL, integer
@@ -137,6 +139,21 @@ def test_cases_say_what_they_show() -> None:
     shown = {block.name: shown_by(block) for chapter in ALL for block in chapter.blocks(context)}
     assert shown["the default font"] == {"defaultFont"} and "dmsMessageStatus" in shown["how many rows there are"]
     assert tags_of(b"[fo2]A[[nl]][/fl][NL3][zz]") == {"fo", "fl", "nl"}
+
+
+def test_a_text_with_a_tag_that_the_sign_does_not_take_is_left_out_by_itself() -> None:
+    context, every = session(Claims()).context, session(Claims()).context
+    for tag in ("fl", "np"):
+        context.claims = Claims(tags=frozenset((tag,)))
+        sent = [part.text for sample in samples(context) for part in sample.parts or (sample,)]
+        assert sorted(sent) == sorted(part.text for one in samples(every) for part in one.parts or (one,))
+        judged = {
+            text
+            for block in CHAPTER.blocks(context)
+            if block.texts and traced(CHAPTER.name, block, context.claims)[1] is not None
+            for text in block.texts
+        }
+        assert judged == {text for text in sent if tag not in tags_of(text)}
 
 
 def refusals(table: Sequence[tuple[str, str]]) -> None:

@@ -128,7 +128,7 @@ def test_a_value_that_is_not_kept_differs() -> None:
 
 def test_claims_of_a_device_at_fault_are_refused_with_their_word() -> None:
     table = (
-        ("sysNothing = true", "is no object of docs/OBJECTS.md"),
+        ("sysNothing = true", "is no object of mibs/"),
         ("moduleMake = true", "is a column, and wants a row"),
         ('"sysName.1" = true', "is no column"),
         ("sysName = [0]", "[LEAST, MOST]"),

@@ -10,7 +10,7 @@ from trials.wrong_signs.table import MUTANTS
 from wisangub.process.places import TOP
 from wisangub.snmp import wire
 from wisangub.snmp.names import scalar
-from wisangub.tester.chapters import ALL
+from wisangub.tester.chapters import ALL, ASKED
 from wisangub.tester.context import Context
 from wisangub.tester.findings.classify import rule_of
 from wisangub.tester.findings.compare import Kind, fields, mismatch
@@ -46,8 +46,11 @@ def test_the_tester_imports_no_model() -> None:
 
 def test_every_rule_stands_in_the_profile() -> None:
     assert not [rule.key for rule in RULES.values() if not is_in_profile(rule)]
+    sentences = {rule.key: rule.sentence for rule in RULES.values()}  # no row of a table, and no part of one
+    assert not [key for key, said in sentences.items() if "|" in said or "](" in said or said[-1:] != "."]
+    assert not [key for key, said in sentences.items() if said.split()[0].isalpha() and said.split()[0].islower()]
     assert {rule.chapter for rule in RULES.values()} <= {"before", *CHAPTERS}
-    assert [chapter.name for chapter in ALL] == list(CHAPTERS)
+    assert [chapter.name for chapter in ALL] == list(CHAPTERS) == list(ASKED)
 
 
 def test_replies_differ_by_kind() -> None:

@@ -91,6 +91,21 @@ def test_other_chapters_carry_texts_in_the_rows_that_they_validate() -> None:
     assert set(sent) == set(left)
 
 
+def test_texts_with_a_fault_stand_behind_others_that_fit() -> None:
+    for description in SIGNS:
+        context = context_of(description)
+        sent = samples(context)
+        parts = [part for sample in sent for part in sample.parts or (sample,)]
+        assert len({part.text for part in parts}) == len(parts) > 250, len(parts)
+        faulty = [part for part in parts if context.fault(part.text) is not None]
+        behind = [sample for sample in sent if sample.parts and context.fault(sample.text) is not None]
+        assert len(sent) < len(faulty) + 12 and len(behind) > 30, (len(sent), len(faulty), len(behind))
+        for sample in behind:
+            (code, at), last = context.fault(sample.text) or (0, 0), sample.parts[0]
+            assert sample.text.endswith(last.text) and not any(context.fault(held.text) for held in sample.parts[1:])
+            assert context.fault(last.text) == (code, at - len(sample.text) + len(last.text))
+
+
 def test_where_a_carried_text_differs_the_case_is_judged_without_it() -> None:
     name = "a_new_line_begins_with_the_default_font"
     wrong = sign_of([mutant for mutant in MUTANTS if mutant.name == name], text.BENCH)

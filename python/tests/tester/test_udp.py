@@ -12,6 +12,7 @@ import threading
 import xml.etree.ElementTree as ET
 
 from model import text
+from trials.lossy_ways import Way
 from wisangub.process.places import TOP
 
 from .endpoints import LONG, free_port, front_end, in_real_time
@@ -177,6 +178,52 @@ def test_a_sign_that_answers_from_another_port_is_not_reached() -> None:
             ended = conform(port, described, "--wait", "0.2")
         sign.end()
         assert ended.returncode == 2 and b"does not answer" in ended.stdout and sign.count, ended
+
+
+class Echo(threading.Thread):
+    """Answers each datagram with itself, until an empty one comes."""
+
+    def __init__(self) -> None:
+        super().__init__(daemon=True)
+        self.socket = socket.socket(socket.AF_INET, socket.SOCK_DGRAM)
+        self.socket.bind(("127.0.0.1", 0))
+        self.port = int(self.socket.getsockname()[1])
+
+    def run(self) -> None:
+        while (received := self.socket.recvfrom(65_535))[0]:
+            self.socket.sendto(*received)
+
+
+def through(share: float, count: int = 60) -> tuple[list[bytes], Way]:
+    """What comes back of so many datagrams over a way, of which that share is lost, late or doubled."""
+    echo = Echo()
+    echo.start()
+    way, back = Way(echo.port, share, seed=1), list[bytes]()
+    way.start()
+    with socket.socket(socket.AF_INET, socket.SOCK_DGRAM) as test:
+        test.settimeout(4)
+        for number in range(count):
+            test.sendto(b"%d" % number, ("127.0.0.1", way.port))
+        try:
+            while len(back) < count or share:
+                back.append(test.recv(100))
+        except TimeoutError:
+            pass
+    way.end()
+    echo.socket.sendto(b"", ("127.0.0.1", echo.port))
+    echo.join()
+    echo.socket.close()
+    return back, way
+
+
+def test_a_share_of_what_goes_over_a_lossy_way_is_lost_late_or_doubled() -> None:
+    sent = [b"%d" % number for number in range(60)]
+    with in_real_time():
+        back, way = through(0.0)
+        assert back == sent and way.spoilt == 0 and way.through == 120
+        back, way = through(1.0)
+        assert way.spoilt == way.through and set(back) < set(sent) and len(set(back)) < len(back), back
+        assert back != sorted(back, key=int)
 
 
 def test_nobody_answers() -> None:

@@ -7,9 +7,11 @@ from model import text
 from model.sign import Sign
 from trials.wrong_signs import bench, misbehaving
 from trials.wrong_signs.misbehaving import Misbehaving
+from wisangub.snmp.names import scalar
 from wisangub.tester.chapters import ALL
 from wisangub.tester.findings.results import ChapterResult, Quiet, Results, Verdict
 from wisangub.tester.report import files, page, words
+from wisangub.tester.requests.steps import get
 from wisangub.tester.runs.repeat import repeat
 from wisangub.tester.session import chapters_of
 from wisangub.tester.sign.way import Oddity
@@ -77,7 +79,7 @@ def test_each_report_says_what_was_lost_on_the_way() -> None:
     results = tried(("communities",), spoils=misbehaving.garbage, share=0.02)
     about = words.About("127.0.0.1:1", "bench.sign", "model", None, 1, 0, False, "today")
     for report in (files.as_junit(results, about), files.as_json(results, about, []), page.as_html(results, about, [])):
-        assert Oddity.GARBAGE.value in report
+        assert Oddity.GARBAGE.value in report and words.NOT_SLOW in report
     assert "the longest silence was" in files.as_junit(tried(("communities",), slow=1.2, wait=1.0), about)
 
 
@@ -142,6 +144,17 @@ def test_a_repeated_sequence_leaves_the_sign_s_own_defaults() -> None:
     sign = Sign(text.bench())
     sign.state.defaults[7] = 99
     assert repeat(bench.session(text.BENCH, sign), "tick") == 0 and sign.state.defaults[7] == 99
+
+
+def test_a_repeated_sequence_is_not_judged_where_the_sign_falls_silent() -> None:
+    ask = get(scalar("dmsColorScheme")).octets(70000, (b"public", b"admin")).hex()
+    for sequence in (",".join(["tick"] * 3), f"tick,tick,tick,{ask}"):
+        for patience in (None, 6):
+            session = misbehaving.session(lambda clock: Misbehaving(clock, silent=(2.0, math.inf)), patience=patience)
+            assert repeat(session, sequence) == Verdict.NOT_JUDGED.status
+            assert session.pair.clock.now() < 90 and not session.results.is_set_back
+    session = misbehaving.session(lambda clock: Misbehaving(clock, silent=(0.0, math.inf)))
+    assert repeat(session, "tick") == Verdict.UNREACHED.status
 
 
 class Interrupting(Quiet):

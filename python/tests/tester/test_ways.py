@@ -242,6 +242,34 @@ def test_a_set_that_is_refused_is_asked_again_as_a_read_is() -> None:
     assert losing.sent.count(exchange.octets) == 2 and session.pair.clock.now() - at < 0.2
 
 
+def of_minutes(session: Session, priority: int) -> Ask:
+    """An activation of blank message 200, whose priority that is, for half an hour."""
+    return put((scalar("dmsActivateMessage"), octets(session.context.blank_code(200, priority, 30))))
+
+
+def test_a_command_of_minutes_whose_reply_is_lost_is_sent_again() -> None:
+    session, losing = begun()
+    session.pair.port.passed_over, losing.is_reply_lost = 1, True
+    exchange = session.pair.do(of_minutes(session, 255))
+    assert exchange is not None and exchange.theirs is not None and exchange.mismatch is None
+    assert losing.sent.count(exchange.octets) == 2  # the seconds of both count from the second one
+    for seconds in (0, 1, 59):
+        session.pair.clock.sleep_until(session.pair.clock.now() + seconds)
+        same = session.pair.do(get(scalar("dmsMessageTimeRemaining"), scalar("dmsMsgTableSource")))
+        assert same is not None and same.mismatch is None
+
+
+def test_a_command_that_would_be_refused_once_more_ends_the_sequence() -> None:
+    session, losing = begun()
+    session.pair.port.passed_over, losing.is_reply_lost = 1, True
+    try:
+        session.pair.do(of_minutes(session, 9))
+    except Inconclusive as why:
+        assert "answered otherwise" in str(why)
+    else:
+        raise AssertionError("it is sent again")
+
+
 def test_a_set_that_came_twice_comes_twice_to_ours_too() -> None:
     session, losing = begun()
     answered(session, put((TIME, integer(8))), put((TIME, integer(9))))

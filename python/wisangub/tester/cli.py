@@ -12,7 +12,7 @@ from types import FrameType
 from wisangub.process.places import SIGNTOOL, add_version, called
 from wisangub.refusal import Refusal, reason
 
-from .chapters import ALL, NAMES
+from .chapters import ALL, ASKED, NAMES
 from .context import Context
 from .findings.results import LOSSY, Quiet, Watcher
 from .person.answers import Reader
@@ -77,8 +77,12 @@ def texts(word: str) -> int:
 
 def arguments() -> argparse.ArgumentParser:
     """The options of a test."""
+    chapters = "\n".join(f"  {name:12} {words}" for name, words in ASKED.items())
     parser = argparse.ArgumentParser(
-        prog=called("wisangub-conform"), description="compares a sign over UDP with the proved one, reply by reply"
+        prog=called("wisangub-conform"),
+        description="compares a sign over UDP with the proved one, reply by reply",
+        epilog=f"chapters, and what each asks:\n{chapters}",
+        formatter_class=argparse.RawDescriptionHelpFormatter,
     )
     add_version(parser, "wisangub-conform")
     parser.add_argument("--to", required=True, metavar="HOST:PORT", help="where the sign under test answers")
@@ -96,7 +100,7 @@ def arguments() -> argparse.ArgumentParser:
         default=[],
         choices=NAMES,
         metavar="CHAPTER",
-        help=f"one of {', '.join(NAMES)}; may be given again",
+        help="a chapter alone, by its name below; may be given again",
     )
     parser.add_argument(
         "--slow", action="store_true", help="whole minutes of durations and silence too: about forty minutes"

@@ -22,6 +22,7 @@ from .edge_texts import (
     spacings,
     touching,
 )
+from .joining import joined, with_faults
 from .line_texts import mixed_heights, mixed_spacings
 from .measured_texts import centred, exact
 from .staying_texts import staying
@@ -74,7 +75,8 @@ _MARKUP = [  # each with one fault of the markup, by the rule that it breaks
     ),
 ]
 FIRST_MARKUP, OTHERS = 3, 1
-_OPEN = 4  # texts to whose end another may be joined
+_NEW_PAGE = "np"
+_MOST_JOINED = 5  # pages of joined texts, so that one with a fault has a page behind them
 _MOST_CARRIED = 200  # octets of a text of another chapter, so that a look at two of them has room in a datagram
 _GOOD_MARKUP = [  # the last three have no place behind the others
     b"[cf][cf9][cb0][pb][pb9][cf00009][pb04]",
@@ -189,61 +191,30 @@ def both(context: Context) -> list[Sample]:
     return made("layout", found, 3)
 
 
-def _followed(text: bytes, after: bytes) -> bytes:
-    """A text, and another on a page of its own, where font and justifications are the defaults' again."""
-    tags = tags_of(text)
-    return text + b"[np]" + b"".join(b"[%s]" % tag.encode() for tag in ("fo", "jl", "jp") if tag in tags) + after
-
-
-def joined(context: Context, chosen: list[Sample], most: int = 512) -> list[Sample]:
-    """Those that fit one page after the other in one text, of so many octets at most: one validation tells of all."""
-    found: list[Sample] = []
-    for sample in chosen:
-        longer = [replace(held, text=_followed(held.text, sample.text)) for held in found[-_OPEN:]]
-        fits = (len(held.text) <= most and context.fault(held.text) is None for held in longer)
-        fitting = (len(found) - len(longer) + at for at, is_fitting in enumerate(fits) if is_fitting)
-        at = next(fitting, len(found))
-        text, parts = (
-            (_followed(found[at].text, sample.text), found[at].parts) if at < len(found) else (sample.text, ())
-        )
-        found[at : at + 1] = [Sample(text, sample.rule, parts=(*parts, sample))]
+def _markup(context: Context) -> list[Sample]:
+    """Texts with tags of all kinds, and with one fault of the markup each."""
+    found = made("markup", [b"".join(_GOOD_MARKUP[:-3]), *_GOOD_MARKUP], 1)
+    for rule, texts in _MARKUP:
+        found += made(rule, [context.character() + text for text in texts], FIRST_MARKUP)
     return found
+
+
+_CLASSES = (
+    *(spacings, heights, staying, exact, centred, mixed_heights, mixed_spacings, touching, parts, pages, _fonts),
+    *(_characters, gaps, closed, fonts_at_closing, edges, mixed, mixed_parts, both, _markup, ends),
+)
 
 
 @functools.lru_cache(maxsize=2)
 def known(context: Context) -> list[Sample]:
-    """All texts, each once."""
-    found = (  # first those whose faults no other text shows
-        spacings(context)
-        + heights(context)
-        + staying(context)
-        + exact(context)
-        + centred(context)
-        + mixed_heights(context)
-        + mixed_spacings(context)
-        + touching(context)
-        + parts(context)
-        + pages(context)
-        + _fonts(context)
-        + _characters(context)
-        + gaps(context)
-        + closed(context)
-        + fonts_at_closing(context)
-        + edges(context)
-        + mixed(context)
-        + mixed_parts(context)
-        + both(context)
-    )
-    found += made("markup", [b"".join(_GOOD_MARKUP[:-3]), *_GOOD_MARKUP], 1)
-    for rule, texts in _MARKUP:
-        found += made(rule, [context.character() + text for text in texts], FIRST_MARKUP)
-    found += ends(context)
-    held: dict[bytes, Sample] = {}
-    for sample in found:
-        before = held.setdefault(sample.text, sample)
-        if sample.is_first and not before.is_first:
-            held[sample.text] = replace(before, is_first=True)
-    return list(held.values())
+    """All texts, each once; those of each class are spread over the whole, so that none comes late."""
+    held: dict[bytes, tuple[float, Sample]] = {}
+    for texts in (made_of(context) for made_of in _CLASSES):
+        for at, sample in enumerate(texts):
+            place, before = held.setdefault(sample.text, (at / len(texts), sample))
+            if sample.is_first and not before.is_first:
+                held[sample.text] = place, replace(before, is_first=True)
+    return [sample for _, sample in sorted(held.values(), key=lambda found: found[0])]
 
 
 def _chosen(context: Context) -> tuple[list[Sample], list[Sample]]:
@@ -258,15 +229,23 @@ def _chosen(context: Context) -> tuple[list[Sample], list[Sample]]:
 
 
 def samples(context: Context) -> list[Sample]:
-    """Those that are sent: those that fit, joined unless all are sent, and each fault alone."""
+    """Those that are sent: unless all are, those that fit are joined, and those with a fault stand behind them, one
+    each; then the faults that are left, and those with a tag that the sign does not take."""
     chosen, left = _chosen(context)
-    if not left:
+    if not left or _NEW_PAGE in context.claims.tags:
         return chosen
-    faulty = [sample for sample in chosen if context.fault(sample.text) is not None]
-    return joined(context, [sample for sample in chosen if sample not in faulty]) + faulty
+    taken = [one for one in chosen if _is_taken(context, one)]
+    fitting, faulty = ([one for one in taken if (context.fault(one.text) is None) is fits] for fits in (True, False))
+    held = with_faults(context, joined(context, fitting, pages=_MOST_JOINED), faulty)
+    return held + [one for one in chosen if one not in taken]
+
+
+def _is_taken(context: Context, sample: Sample) -> bool:
+    """Whether the sign claims to take each tag of a text."""
+    return not tags_of(sample.text) & context.claims.tags
 
 
 def more(context: Context) -> list[Sample]:
     """Those that fit of the texts that are left, joined: other chapters send them in rows that they validate."""
-    left = _chosen(context)[1]
-    return joined(context, [sample for sample in left if context.fault(sample.text) is None], _MOST_CARRIED)
+    left = [one for one in _chosen(context)[1] if _is_taken(context, one) and context.fault(one.text) is None]
+    return left if _NEW_PAGE in context.claims.tags else joined(context, left, _MOST_CARRIED)

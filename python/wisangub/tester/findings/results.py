@@ -51,6 +51,11 @@ class ChapterResult:
         """How many blocks could not be judged."""
         return len(self.left)
 
+    @property
+    def missing(self) -> int:
+        """How many of those that were wanted are not judged."""
+        return self.wanted - self.blocks + self.untold
+
 
 class Watcher(Protocol):
     """Who is told how the test goes on."""
@@ -143,10 +148,9 @@ class Results:
         held = next((result for result in self.chapters if result.chapter is chapter), None)
         if held is None:
             return f"{chapter.title}: not come to"
-        missing = held.wanted - held.blocks + held.untold
         if not held.wanted and chapter.is_never_empty:
             return f"{chapter.title}: no case was asked for"
-        return f"{chapter.title}: {missing} of {held.wanted} cases were not judged" if missing else ""
+        return f"{chapter.title}: {held.missing} of {held.wanted} cases were not judged" if held.missing else ""
 
     def _unanswered(self, person: list[Answered]) -> str:
         """What a person did not say."""

@@ -33,23 +33,30 @@ _TABLE = pathlib.Path(__file__).with_name("rules.txt")
 
 @dataclass(frozen=True)
 class Rule:
-    """A sentence of docs/PROFILE.md under its heading; `own` is a choice of the profile."""
+    """A sentence of docs/PROFILE.md under its heading, or one that says what is `quoted` there, a table's row or a part
+    of a sentence; `own` is a choice of the profile."""
 
     key: str
     chapter: str
     heading: str
     sentence: str
     own: bool = False
+    quoted: str = ""
 
 
 def _read(table: str) -> dict[str, Rule]:
     """The rules of a table: a line of key, chapter and heading, an asterisk before the chapter of what is (own), and
-    lines of the sentence, which are indented."""
+    lines of the sentence, which are indented; or lines of what is quoted, and of the sentence, each behind `=`."""
     rules: dict[str, Rule] = {}
-    for head, sentence in re.findall(r"(?m)^([^#\s].*)\n((?:[ ].*\n)+)", table):
+    for head, body in re.findall(r"(?m)^([^#\s].*)\n((?:[ ].*\n)+)", table):
         key, chapter, heading = head.split(" | ")
-        words = " ".join(sentence.split())
-        rules[key] = Rule(key, chapter.removeprefix("*"), heading, words, chapter.startswith("*"))
+        lines = [line.strip() for line in body.splitlines()]
+        quoted, said = (
+            " ".join(" ".join(line for line in lines if line.startswith("= ") is is_said).split())
+            for is_said in (False, True)
+        )
+        sentence = said.replace("= ", "") or quoted
+        rules[key] = Rule(key, chapter.removeprefix("*"), heading, sentence, chapter.startswith("*"), quoted)
     return rules
 
 
@@ -70,5 +77,5 @@ def _sections() -> dict[str, str]:
 
 
 def is_in_profile(rule: Rule) -> bool:
-    """Whether the rule's sentence stands under its heading."""
-    return " ".join(rule.sentence.split()) in _sections().get(rule.heading, "")
+    """Whether the rule's sentence, or what it says in words, stands under its heading."""
+    return rule.quoted in _sections().get(rule.heading, "")

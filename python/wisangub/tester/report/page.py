@@ -40,8 +40,7 @@ def _chapter_row(result: ChapterResult) -> str:
         f'<td class="number">{value}</td>' for value in (result.blocks, result.requests, f"{result.seconds:.1f} s")
     )
     untold = f" ({len(result.once)} now and then)" if result.once else ""
-    missing = result.wanted - result.blocks + result.untold
-    untold += f" ({missing} not judged)" if missing else ""
+    untold += f" ({result.missing} not judged)" if result.missing else ""
     return f"<tr><td>{_quoted(result.chapter.title)}</td>{numbers}<td>{told}{untold}</td></tr>"
 
 

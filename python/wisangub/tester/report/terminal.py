@@ -72,8 +72,7 @@ def difference_lines(number: int, difference: Difference, about: About) -> list[
 def _chapter_line(result: ChapterResult) -> str:
     told = f"{len(result.differences)} differ" if result.differences else "nothing differs"
     untold = f", {len(result.once)} now and then" if result.once else ""
-    missing = result.wanted - result.blocks + result.untold
-    untold += f", {missing} of {result.wanted} cases not judged" if missing else ""
+    untold += f", {result.missing} of {result.wanted} cases not judged" if result.missing else ""
     counts = f"{result.blocks:5} cases {result.requests:7} requests {result.seconds:7.1f} s"
     return f"{result.chapter.title:28} {counts}  {told}{untold}"
 

@@ -58,6 +58,8 @@ def repeat(session: Session, sequence: str) -> int:
         session.preflight.read_first()
         session.preflight.reach_first()
         run = session.runner.anew(steps)
+        if (run is None or run.exchange.theirs is None) and session.reset.ask_height() is None:
+            raise Stopped("the sign does not answer any more")
     except (Inconclusive, Stopped, Unreachable) as fault:
         print(f"{Verdict.NOT_JUDGED.value}: {fault}")
         return Verdict.NOT_JUDGED.status

@@ -91,7 +91,7 @@ def _named(path: pathlib.Path, word: str) -> tuple[Known | None, Name]:
     base, _, instance = word.partition(".")
     known = BY_NAME.get(base)
     if known is None:
-        raise Refusal(f"{path}: {base} is no object of docs/OBJECTS.md; another is written in numbers, with a type")
+        raise Refusal(f"{path}: {base} is no object of mibs/; another is written in numbers, with a type")
     if known.is_column != bool(instance) or instance and not re.fullmatch(r"[0-9]+(\.[0-9]+)*", instance):
         raise Refusal(
             f"{path}: {base} is a column, and wants a row, as {base}.1" if known.is_column else _scalar(path, base)

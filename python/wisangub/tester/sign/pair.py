@@ -207,19 +207,21 @@ class Pair:
 
     def _ask_set(self, octets: bytes, message: wire.Message, ours: bytes) -> Heard:
         """What came of a SET at the sign under test. On a way that loses some, what is known to be lost is sent once
-        more, to both. Raises Inconclusive where it cannot be told what it did."""
+        more, to both, and so is what was taken at a moment that is not known: seconds count anew from then. Raises
+        Inconclusive where it cannot be told what it did."""
         is_usual = likeness(message, ours) <= self.answered
 
         def is_seen() -> bool:
             return is_usual and is_seen_taken(self, octets, message)
 
         for sent in range(_MOST_SENT):
-            if sent:
-                self._again(octets)
+            if sent and self._again(octets) != ours:
+                raise Inconclusive("a SET that is sent once more would be answered otherwise")
             heard = self.port.ask_watched(octets, message.number, ours, is_seen, is_again=sent > 0)
             if heard.reply is not None:
                 break
-            if self._settle_lost(octets, message, ours) is Fate.TAKEN or not self.port.is_lossy():
+            is_last = sent == _MOST_SENT - 1 or not self.port.is_lossy()
+            if self._settle_lost(octets, message, ours, is_last) is Fate.TAKEN or is_last:
                 break
         return heard
 
@@ -228,10 +230,10 @@ class Pair:
         self.pass_ticks()
         return self.hand(octets)
 
-    def _settle_lost(self, octets: bytes, message: wire.Message, ours: bytes) -> Fate:
+    def _settle_lost(self, octets: bytes, message: wire.Message, ours: bytes, is_last: bool = True) -> Fate:
         """A SET has no reply: afterwards ours is handed it or not, as it is known of the sign under test."""
         found = fate(self, octets, message, ours)
-        if found is Fate.UNKNOWN:
+        if found is Fate.UNKNOWN or found is Fate.TIMED and is_last:
             raise Inconclusive("no reply to a SET, and reading does not tell what it did")
         return found
 

@@ -75,6 +75,7 @@ class Fate(enum.Enum):
 
     TAKEN = enum.auto()  # or refused, as it may be seen
     LOST = enum.auto()  # or the same to a reader as if it had been
+    TIMED = enum.auto()  # taken, and it counts seconds from a moment that is not known to the tick
     UNKNOWN = enum.auto()
 
 
@@ -96,7 +97,9 @@ def fate(pair: "Pair", octets: bytes, message: wire.Message, ours: bytes) -> Fat
     if read == before:
         return Fate.LOST
     pair.become(with_it)
-    return Fate.TAKEN if read == taken and not _is_timed(message, taken) else Fate.UNKNOWN
+    if read != taken:
+        return Fate.UNKNOWN
+    return Fate.TIMED if _is_timed(message, taken) else Fate.TAKEN
 
 
 def is_seen_taken(pair: "Pair", octets: bytes, message: wire.Message) -> bool:
