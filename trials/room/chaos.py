@@ -3,11 +3,11 @@
 Signs on loopback, where one datagram in ten is lost, late or doubled; commands to them; workers, each a process, of
 which some are killed, or stopped for longer than their lease while others go on; a service whose pages are asked for,
 many at a time, and which is killed now and then, with programs over the database that end beside it; plans that begin
-and end by schedules and by hand; a server of webhooks that is told of alarms, and refuses some; and a server of
-PostgreSQL of its own, which crashes and is started again. At the end every command has ended, and all datagrams that
-came to a sign, what it accepted, its lines and its ledger, each time that a plan was on and who was told of what are
-looked at. The seed decides the commands, the fate of each datagram, and after how many lines who is killed or stopped
-and the server crashes; not how fast the machine is.
+and end by schedules and by hand; signs whose brightness is set; a server of webhooks that is told of alarms, and
+refuses some; and a server of PostgreSQL of its own, which crashes and is started again. At the end every command has
+ended, and all datagrams that came to a sign, what it accepted, its lines and its ledger, each time that a plan was on
+and that its brightness was set, and who was told of what are looked at. The seed decides the commands, the fate of each
+datagram, and after how many lines who is killed or stopped and the server crashes; not how fast the machine is.
 """
 
 import argparse
@@ -33,6 +33,7 @@ from wisangub.room.store.values import whole
 from .beside import enter
 from .chaos_archives import put_back
 from .chaos_beside import Beside
+from .chaos_brightness import Dimming, look_at_brightness, objects
 from .chaos_checks import Outcome, look_at
 from .chaos_place import KINDS, Place, placed
 from .chaos_plans import Plans, look_at_plans
@@ -90,10 +91,18 @@ class Run:
     """The commands, and the trouble meanwhile."""
 
     def __init__(
-        self, asked: Asked, rows: dict[int, fleet.Sign], workers: Workers, place: Place, plans: Plans, target: Target
+        self,
+        asked: Asked,
+        rows: dict[int, fleet.Sign],
+        workers: Workers,
+        place: Place,
+        plans: Plans,
+        target: Target,
+        dimming: Dimming,
     ) -> None:
         self.asked, self.workers, self.place, self.plans, self.target = asked, workers, place, plans, target
         self.chance = random.Random(asked.seed)
+        self.dimming = dimming
         self.to_ask = [(self.chance.choice(sorted(rows)), command(self.chance)) for _ in range(asked.commands)]
         self.every = max(5, asked.commands // 8)  # lines from one trouble to the next at least
         self.due = self.chance.randint(self.every, 4 * self.every)
@@ -119,6 +128,7 @@ class Run:
             self.to_ask.pop()
         self.workers.wake()
         self.target.step(self.store, self.chance)
+        self.dimming.step(self.store)
         self.lines = count(self.store, "lines")
         troubles = self.workers.killed + self.workers.paused
         if self.lines >= self.due and self.asked.workers and troubles < (self.asked.troubles or self.lines):
@@ -139,6 +149,8 @@ def run(asked: Asked, folder: pathlib.Path, place: Place) -> Outcome:
     loopback = Loopback(
         asked.signtool, {name: DESCRIPTION.read_bytes() for name in names}, Fates(asked.seed), asked.tick
     )
+    for live in loopback.signs:
+        live.process.hand(objects())
     (folder / "fleet.toml").write_text(
         "".join(
             f'[[sign]]\nname = "{live.name}"\naddress = "127.0.0.1:{live.port}"\ndescription = "{DESCRIPTION}"\n'
@@ -150,6 +162,7 @@ def run(asked: Asked, folder: pathlib.Path, place: Place) -> Outcome:
         rows = store.signs.enter(fleet.read(folder / "fleet.toml"))
     enter(place.where)
     target, plans = Target(asked.seed), Plans(sorted(rows), random.Random(asked.seed))
+    dimming = Dimming(sorted(rows), random.Random(asked.seed))
     told_by = ("--alarms", target.file(folder))
     workers = Workers(asked.workers, folder, place.where, asked.signtool, asked.tick, asked.lease, (*SHORT, *told_by))
     beside = Beside(folder / "fleet.toml", place.where, asked.signtool, names[0], told_by)
@@ -159,7 +172,8 @@ def run(asked: Asked, folder: pathlib.Path, place: Place) -> Outcome:
     try:
         with opened(place.where) as store:
             plans.enter(store)
-        going(Run(asked, rows, workers, place, plans, target), beside)
+            dimming.enter(store)
+        going(Run(asked, rows, workers, place, plans, target, dimming), beside)
     finally:
         seconds = time.monotonic() - begun
         beside.end()
@@ -174,7 +188,10 @@ def run(asked: Asked, folder: pathlib.Path, place: Place) -> Outcome:
         found.holds("every command ended", not count(store, "commands WHERE outcome IS NULL"))
         for row, sign in rows.items():
             look_at(found, store, row, sign, lives[sign.name])
-        print(f"{look_at_plans(found, store, plans)}; {look_at_alarms(found, store, target)}")
+        sets = sum(look_at_brightness(found, store, row, lives[sign.name]) for row, sign in rows.items())
+        print(
+            f"{look_at_plans(found, store, plans)}; {look_at_alarms(found, store, target)}; {sets} Sets of brightness"
+        )
         told(store, loopback, workers, place, seconds)
     print(f"{beside.told()}; {taken} rows were in archives")
     return found

@@ -52,6 +52,7 @@ class Asked:
     idle: float
     tick: float
     is_pinned: bool
+    objects: pathlib.Path | None
     database: str
     signtool: str
 
@@ -207,6 +208,10 @@ def run(asked: Asked, folder: pathlib.Path, place: Place) -> bool:
     """A measure; whether all commands were accepted."""
     names = [f"sign {at}" for at in range(asked.signs)]
     loopback = Loopback(asked.signtool, {name: DESCRIPTION.read_bytes() for name in names}, Fates(1, 0.0), 1.0)
+    if asked.objects is not None:
+        lines = [line for line in asked.objects.read_bytes().splitlines() if line.startswith(b"object ")]
+        for live in loopback.signs:
+            live.process.hand(lines)
     (folder / "fleet.toml").write_text(
         "".join(
             f'[[sign]]\nname = "{live.name}"\naddress = "127.0.0.1:{live.port}"\ndescription = "{DESCRIPTION}"\n'
@@ -255,6 +260,9 @@ def arguments() -> argparse.ArgumentParser:
     parser.add_argument("--tick", type=float, default=1.0, metavar="SECONDS", help="how long a tick is")
     parser.add_argument(
         "--one-processor", action="store_true", dest="is_pinned", help="workers, co-processes and server on one"
+    )
+    parser.add_argument(
+        "--objects", type=pathlib.Path, metavar="FILE", help="objects that each sign has beside its own"
     )
     parser.add_argument("--database", choices=KINDS, default=KINDS[0], help="the kind of the database")
     parser.add_argument(

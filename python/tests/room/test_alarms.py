@@ -3,13 +3,17 @@
 import json
 import pathlib
 import time
+from typing import Sequence
+
+import pytest
 
 from . import needs
 
 needs.modules("aiohttp", "jinja2")
 
-from wisangub.room.store import alarms, database
+from wisangub.room.store import alarms, database, queries
 from wisangub.room.store.alarms import ERROR, FAILED, OTHER, SILENT
+from wisangub.room.store.connection import Database
 from wisangub.room.store.lines import News
 from wisangub.room.store.messages import RowSaid
 from wisangub.room.store.readings import Said
@@ -32,6 +36,26 @@ def look(store: Store) -> list[tuple[str, str]]:
 
 def shows(store: Store, sign: int, number: int, **changed: object) -> None:
     store.readings.keep([Said(sign, number, 5, json.dumps({**SHOWN, **changed}))])
+
+
+def test_signs_are_asked_for_that_were_read_anew(where: str, monkeypatch: pytest.MonkeyPatch) -> None:
+    store, other, sign = two_stores(where)
+    asked: list[int] = []
+    of = queries.signs_of
+
+    def counted(held: Database, numbers: Sequence[int]) -> list[queries.SignView]:
+        asked.extend(numbers)
+        return of(held, numbers)
+
+    monkeypatch.setattr(queries, "signs_of", counted)
+    assert look(store) == [] and asked == [], "it was never read"
+    other.readings.keep([Said(sign, -1, fault="no reply")])
+    assert look(store) == [(SILENT, "no reply")] == look(store) and asked == [sign]
+    other.readings.keep([Said(sign, -2, fault="no reply")])
+    assert look(store) == [(SILENT, "no reply")] and asked == [sign], "it said the same again"
+    shows(other, sign, -3)
+    assert [kind for kind, _ in look(store)] == [OTHER] and asked == [sign, sign]
+    assert [kind for kind, _ in look(store)] == [OTHER] and asked == [sign, sign]
 
 
 def test_a_sign_that_is_silent(where: str) -> None:

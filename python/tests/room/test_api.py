@@ -14,7 +14,8 @@ needs.modules("aiohttp", "jinja2", "jsonschema")
 import jsonschema
 
 from wisangub.process.places import TOP
-from wisangub.room.store import groups, history, library, plans, rights, rules, tokens, users
+from wisangub.room.store import brightness, groups, history, library, plans, rights, rules, tokens, users
+from wisangub.room.store.brightness import Wish
 from wisangub.room.store.library import Written
 from wisangub.room.store.rights import Level
 from wisangub.room.store.users import Role
@@ -107,6 +108,8 @@ def test_the_document_by_the_schema_of_openapi() -> None:
         ("Blank", {"signs": list(range(1, 1002))}),
         ("Show", {"sign": 1, "memory": "permanent", "row": 1}),
         ("Show", {"sign": None, "memory": 3}),
+        ("Dim", {"control": "manual", "level": 256}),
+        ("Dim", {"control": "by hand"}),
         ("Nothing", {}),
     ],
 )
@@ -126,6 +129,11 @@ async def readable(bench: Bench) -> None:
         "INSERT INTO alarms (sign, kind, what, begun) VALUES (?, 'silent', 'it says nothing', {clock})", bench.gantry
     )
     bench.read(bench.one, -9)
+    asked = brightness.ask(held, bench.one, "operator", Wish(4, 3), "a word")
+    assert bench.store.brightness.begin(asked, -10)
+    bench.store.brightness.end(asked, "accepted")
+    bench.store.brightness.keep(asked, {"dmsIllumControl": 4, "dmsIllumManLevel": 3})
+    held.run("UPDATE brightness SET asked_at = asked_at - 60")
 
 
 def test_each_operation_answers_as_the_document_says(tmp_path: pathlib.Path, where: str) -> None:
@@ -137,6 +145,7 @@ def test_each_operation_answers_as_the_document_says(tmp_path: pathlib.Path, whe
             "Publish": {"signs": [bench.one, bench.gantry], **FOG},
             "Blank": {"signs": [bench.two], "minutes": 9},
             "Show": {"sign": bench.one, "memory": "changeable", "row": 1},
+            "Dim": {"control": "manual", "level": 5},
         }
         tried = 0
         for operation in sorted(OPERATIONS, key=lambda one: one.method):
@@ -221,6 +230,36 @@ def test_a_text_is_published_once_for_a_key(tmp_path: pathlib.Path, where: str) 
         assert (await system.ask("POST", f"/commands/{number}/withdraw"))[0] == 409
 
     run(tmp_path, where, act)
+
+
+def test_brightness_is_asked_for_once_for_a_key(tmp_path: pathlib.Path) -> None:
+    async def act(bench: Bench, visitor: Visitors) -> None:
+        bench.itself(bench.one)
+        system, path = System(bench, visitor, "operator"), f"/signs/{bench.one}/brightness"
+        status, found = await system.post(path, {"control": "manual", "level": 3}, "k1")
+        assert status == 202 and (found["control"], found["level"], found["state"]) == ("manual", 3, "under way")
+        assert await system.post(path, {"control": "manual", "level": 3}, "k1") == (status, found)
+        assert (await system.post(path, {"control": "manual", "level": 4}, "k1"))[0] == 409
+        for said, words in (
+            ({"control": "manual", "level": 3}, "under way"),
+            ({"control": "manual", "level": 9}, "from 0 to 8"),
+            ({"control": "timer", "level": 3}, "by hand"),
+        ):
+            status, wrong = await system.post(path, said, f"of {words}")
+            assert status == 422 and words in wrong["error"]
+        assert bench.store.brightness.begin(found["id"], -7)
+        bench.store.brightness.end(found["id"], "refused: genErr")
+        bench.store.brightness.keep(found["id"], {"dmsIllumControl": 2, "dmsIllumManLevel": 8})
+        (setting,) = (await system.get(path))[1]["settings"]
+        assert (setting["state"], setting["outcome"]) == ("failed", "refused: genErr")
+        assert (setting["read_back"]["control"], setting["read_back"]["level"]) == ("photocell", 8)
+        assert (await system.post(f"/signs/{bench.two}/brightness", {"control": "timer"}, "k3"))[0] == 422
+        reader = System(bench, visitor, "reader")
+        assert (await reader.post(path, {"control": "timer"}, "k4"))[0] == 403 and len((await reader.get(path))[1]) == 1
+        audit = [f"{who}: {what}" for _, _, who, what in history.audit(bench.store.database, None)]
+        assert "operator: one: brightness: manual, level 3 was asked for through token “system of operator”" in audit
+
+    run(tmp_path, str(tmp_path / "database"), act)
 
 
 def test_rows_priorities_and_texts_of_the_library(tmp_path: pathlib.Path) -> None:

@@ -6,13 +6,19 @@ from typing import Any, Callable
 
 import pytest
 
-from trials.room import chaos, chaos_checks
+from trials.room import chaos, chaos_brightness, chaos_checks
 from trials.room.chaos import Asked, Run
 from trials.room.chaos_checks import Outcome
 from trials.room.loopback import Fates, LoopbackSign
+from wisangub.room.device import ASKED, BY_HAND, CONTROL, LEVEL
+from wisangub.room.store import brightness
+from wisangub.room.store.brightness import Wish
+from wisangub.room.store.devices import DeviceSaid
 from wisangub.snmp import wire
 
 from .bench import HELLO, Bench, bench
+from .people import person
+from .test_database import two_stores
 
 NOTHING: Any = None
 ROWS: dict[int, Any] = {row: None for row in range(200)}
@@ -21,7 +27,7 @@ ROWS: dict[int, Any] = {row: None for row in range(200)}
 def run_of(seed: int) -> Run:
     """What a seed decides before anything has begun."""
     asked = Asked(200, 500, 4, 300.0, seed, 1.0, 8.0, None, "sqlite", "")
-    return Run(asked, ROWS, NOTHING, NOTHING, NOTHING, NOTHING)
+    return Run(asked, ROWS, NOTHING, NOTHING, NOTHING, NOTHING, NOTHING)
 
 
 def test_a_seed_repeats_what_is_asked_for_and_when_trouble_is_due() -> None:
@@ -96,3 +102,29 @@ def test_commands_are_of_each_kind() -> None:
     assert {line[0] for line in lines} == {"blank", "publish"} and {
         line[1] for line in lines if line[0] == "publish"
     } == {"3", "4"}
+
+
+@pytest.mark.parametrize(
+    "what",
+    ["", "brightness -7 went out once", "brightness -7 is what was asked for", "brightness -7 was sent", "ended"],
+)
+def test_what_does_not_hold_of_brightness_is_found(
+    tmp_path: pathlib.Path, monkeypatch: pytest.MonkeyPatch, what: str
+) -> None:
+    store, _, sign = two_stores(str(tmp_path / "database"))
+    person(store.database, "ann")
+    store.devices.keep([DeviceSaid(sign, -1, {CONTROL: 4, LEVEL: 8}, {}, 0, frozenset(), True)])
+    wish = Wish(BY_HAND[0], 3)
+    asked = brightness.ask(store.database, sign, "ann", wish, "a word")
+    assert store.brightness.begin(asked, -7)
+    if what != "ended":
+        store.brightness.end(asked, "accepted")
+    values = [3 if "asked for" not in what else 4]
+    bindings = [(ASKED[CONTROL], (wire.INTEGER, 4)), (ASKED[LEVEL], (wire.INTEGER, values[0]))]
+    octets = wire.written(wire.Message(wire.SET, b"administrator", -7, bindings=bindings))
+    sent = [octets] * (2 if "once" in what else 0 if "was sent" in what else 1)
+    found = Outcome()
+    if what == "ended":
+        monkeypatch.setattr(store.brightness, "to_send", list)
+    chaos_brightness.look_at_brightness(found, store, sign, LoopbackSign("one", NOTHING, NOTHING, sent))
+    assert len(found.failed) == (1 if what else 0) and all(name.endswith(what) for name in found.failed), found.failed

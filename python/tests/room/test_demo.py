@@ -17,9 +17,12 @@ from . import needs
 needs.modules("aiohttp", "jinja2")
 
 import aiohttp
+import pytest
 
 from trials.room.ports import free_port
 from wisangub.process.places import TOP
+from wisangub.refusal import Refusal
+from wisangub.room import demo
 
 from .visits import PROGRAM, Visitor
 
@@ -50,15 +53,51 @@ async def seen(url: str, password: str) -> None:
         assert all(name in page for name in NAMES) and "2 signs, 0 lit, 0 silent" in page
 
 
-def test_the_whole_with_one_command(tmp_path: pathlib.Path) -> None:
-    ports, listen = [free_port(socket.SOCK_DGRAM) for _ in NAMES], free_port()
-    (tmp_path / "fleet.toml").write_text(
+def fleet_at(folder: pathlib.Path, ports: list[int]) -> str:
+    """The file of a fleet of signs at these ports."""
+    (folder / "fleet.toml").write_text(
         "\n".join(
             f'[[sign]]\nname = "{name}"\naddress = "127.0.0.1:{port}"\ndescription = "{TOP}/signs/roadside.sign"\n'
             for name, port in zip(NAMES, ports)
         )
     )
-    words = ["--fleet", str(tmp_path / "fleet.toml"), "--listen", f"127.0.0.1:{listen}", "--signtool", PROGRAM]
+    return str(folder / "fleet.toml")
+
+
+def refused(fleet: str) -> str:
+    """What it says of a fleet whose signs do not all stand."""
+    words = ["--fleet", fleet, "--listen", f"127.0.0.1:{free_port()}", "--signtool", PROGRAM]
+    command = [sys.executable, "-m", "wisangub.room.demo", *words]
+    ran = subprocess.run(command, cwd=TOP, stdin=subprocess.DEVNULL, capture_output=True, timeout=2 * PATIENCE)
+    assert ran.returncode == 1 and b"log in" not in ran.stdout
+    return ran.stderr.decode()
+
+
+def test_a_sign_whose_port_is_taken_is_named(tmp_path: pathlib.Path) -> None:
+    with socket.socket(socket.AF_INET, socket.SOCK_DGRAM) as held:
+        held.bind(("127.0.0.1", 0))
+        fleet = fleet_at(tmp_path, [free_port(socket.SOCK_DGRAM), held.getsockname()[1]])
+        assert "no sign stands for south: is its port in use?" in refused(fleet)
+
+
+def test_a_sign_that_does_not_come_up_is_named(tmp_path: pathlib.Path) -> None:
+    sleeps = ["sleep", "60"]
+    (tmp_path / "up").write_bytes(b"a sign at 127.0.0.1:1161\n")
+    (tmp_path / "down").write_bytes(b"")
+    with subprocess.Popen(sleeps) as first, subprocess.Popen(sleeps) as second:
+        signs = [demo.Sign("north", first, tmp_path / "up"), demo.Sign("south", second, tmp_path / "down")]
+        try:
+            demo.await_signs(signs[:1], 0.0)
+            with pytest.raises(Refusal, match="no sign stands for south after 0 s"):
+                demo.await_signs(signs, 0.1)
+        finally:
+            first.kill()
+            second.kill()
+
+
+def test_the_whole_with_one_command(tmp_path: pathlib.Path) -> None:
+    ports, listen = [free_port(socket.SOCK_DGRAM) for _ in NAMES], free_port()
+    words = ["--fleet", fleet_at(tmp_path, ports), "--listen", f"127.0.0.1:{listen}", "--signtool", PROGRAM]
     with subprocess.Popen(
         [sys.executable, "-m", "wisangub.room.demo", *words], cwd=TOP, stdin=subprocess.DEVNULL, stdout=subprocess.PIPE
     ) as process:

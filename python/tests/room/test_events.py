@@ -47,7 +47,7 @@ def test_what_has_changed_is_told(tmp_path: pathlib.Path, where: str) -> None:
             parts = await told(stream)
             assert set(parts) == {"counts", f"sign-{bench.two}"} and "shows NEW" in parts[f"sign-{bench.two}"]
         sign = await listened(one, f"sign/{bench.one}")
-        assert set(await told(sign)) == {"shown", "device", "commands"}
+        assert set(await told(sign)) == {"shown", "device", "brightness", "commands"}
         bench.store.commands.ask(bench.one, "operator", "blank 1 65535 255 127.0.0.1")
         parts = await told(sign)
         assert set(parts) == {"commands"} and "waits for its turn" in parts["commands"]

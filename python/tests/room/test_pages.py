@@ -23,6 +23,7 @@ PAGES = {
     "/": Role.READER,
     "/signs/{one}": Role.READER,
     "/signs/{one}/table": Role.READER,
+    "/signs/{one}/brightness?control=4&level=3": Role.OPERATOR,
     "/signs/{one}/ledger": Role.READER,
     "/signs/{one}/shown": Role.READER,
     "/signs/{one}/log": Role.READER,
@@ -51,6 +52,7 @@ PAGES = {
 }
 POSTS = {
     "/send": Role.OPERATOR,
+    "/signs/1/brightness": Role.OPERATOR,
     "/compose": Role.OPERATOR,
     "/look": Role.OPERATOR,
     "/users": Role.ADMINISTRATOR,

@@ -15,13 +15,15 @@ from typing import Any, Iterator
 import pytest
 
 from trials.room.cluster import Cluster, cluster
+from wisangub.endpoint.sockets import Waiting
 from wisangub.process.places import TOP
 from wisangub.refusal import Refusal
 from wisangub.room import command, start
 from wisangub.room.store import backup, database
-from wisangub.room.store.database import Failed, NotYet
+from wisangub.room.store.database import Away, Failed, NotYet
 from wisangub.room.store.lines import Line
 from wisangub.room.store.store import Store
+from wisangub.room.waits import waited
 from wisangub.room.worker.session import Lost
 
 from .bench import HELLO, bench, carried
@@ -119,6 +121,41 @@ def test_who_is_stopped_within_a_transaction_loses_its_place(url: str) -> None:
             )
             assert other.lines.insert([Line(sign, 1, b"b")], "second") == {sign}, "the server ended the first one"
     assert time.monotonic() - begun < 9 and store.lines.of(sign)[2] == [b"b"]
+
+
+def test_of_two_that_wait_for_one_another_one_may_try_again(url: str) -> None:
+    first, second, sign = two_stores(url)
+    first.readings.due([sign])
+    first.database.run("INSERT INTO hearings (sign, number, floor) VALUES (?, 0, 0)", sign + 1)
+    write = "UPDATE hearings SET minutes = 1 WHERE sign = ?"
+    faults: list[Exception] = []
+
+    def crossed(store: Store, one: int, other: int, both: threading.Barrier) -> None:
+        try:
+            with store.database.transaction(is_lasting=False):
+                store.database.run(write, one)
+                both.wait(30)
+                store.database.run(write, other)
+        except Failed as fault:
+            faults.append(fault)
+
+    both = threading.Barrier(2)
+    crosses = threading.Thread(target=crossed, args=(second, sign + 1, sign, both))
+    crosses.start()
+    crossed(first, sign, sign + 1, both)
+    crosses.join(60)
+    assert len(faults) == 1 and isinstance(faults[0], Away) and "deadlock" in str(faults[0])
+    tries = iter([faults[0], None])
+
+    def begun() -> str:
+        if (fault := next(tries)) is not None:
+            raise fault
+        return "begun"
+
+    assert waited(Waiting(), begun) == "begun", "so it is when a worker begins"
+    for store in (first, second):
+        store.readings.anew([sign + 1, sign])
+        assert store.database.run("SELECT count(*) FROM hearings WHERE number = floor") == [(2,)]
 
 
 def test_a_server_that_is_started_again(tmp_path: pathlib.Path, own: Cluster) -> None:

@@ -2,6 +2,9 @@
 
 import pathlib
 import time
+from typing import Sequence
+
+import pytest
 
 from wisangub.room.store import queries
 from wisangub.room.store.connection import Database, Row
@@ -67,6 +70,27 @@ def test_rows_of_a_table_that_say_what_they_said_are_not_written(where: str) -> 
         first.messages.keep([changed])
         assert writes.are_some()
         assert first.messages.of(sign)[1][:4] == (3, 1, changed.status, changed.held)
+
+
+def test_what_many_rows_say_is_a_few_statements(where: str, monkeypatch: pytest.MonkeyPatch) -> None:
+    first, _, sign = two_stores(where)
+    first.messages.keep([RowSaid(sign, 3, number, -number, 4, "{}") for number in range(1, 1201)])
+    put, sent = first.database.put, []
+
+    def counted(sql: str, values: Sequence[Row]) -> None:
+        sent.append(len(values))
+        put(sql, values)
+
+    monkeypatch.setattr(first.database, "put", counted)
+    rows = [RowSaid(sign, 3, number, -2000 - number, 4 - number % 2, None) for number in range(1, 2001)]
+    rows += [RowSaid(sign, 4, number, -number, 4, "{}") for number in range(1, 1001)]
+    first.messages.keep([*rows, RowSaid(sign, 3, 1, -1999, 5, "late"), RowSaid(sign, 3, 2, -5000, 5, "newest")])
+    assert sum(sent) <= 9 and len(first.messages.of(sign)) == 2200
+    assert {row[2:4] for row in first.messages.of(sign) if row[0] == 3 and row[1] > 2} == {(4, None), (3, None)}
+    assert [row[2:4] for row in first.messages.of(sign)[:2]] == [(3, None), (5, "newest")]
+    first.devices.keep([])
+    first.messages.keep([])
+    assert sum(sent) <= 9
 
 
 def test_rows_are_known_where_the_server_lost_when_they_were_heard(where: str) -> None:

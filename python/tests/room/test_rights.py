@@ -28,7 +28,7 @@ from .test_library import written
 from .visits import Bench, Visitor, Visitors, run
 
 BEFORE = 27  # the last migration of a database in which a role was all that a user had
-NO_BUTTON = r'href="/compose|="/blank|Withdraw|Acknowledge<|type="checkbox"|"may-command'
+NO_BUTTON = r'href="/compose|="/blank|Withdraw|Acknowledge<|type="checkbox"|"may-command|Set the brightness'
 FOG, ICE = b"FOG".hex(), b"ICE".hex()
 
 
@@ -205,6 +205,9 @@ def test_a_sign_that_is_not_one_s_own_is_nowhere(tmp_path: pathlib.Path, where: 
         assert (await one.post("/compose", {**GOOD, "sign": str(bench.gantry)}))[0] == 422
         both = {**GOOD, "sign": str(bench.gantry), "kind": "publish", "confirmation": "x" * 24}
         assert (await one.post("/send", both))[0] == 422
+        bench.itself(bench.gantry)
+        assert (await one.get(f"/signs/{bench.gantry}/brightness?control=4&level=3"))[0] == 404
+        assert (await one.post(f"/signs/{bench.gantry}/brightness", {"control": "4", "level": "3"}))[0] == 404
         answer = await one.client.post(
             "/look", json={"signs": [bench.gantry], "text": "A"}, headers={"X-Token": await one.token()}
         )
@@ -229,6 +232,7 @@ def test_no_button_without_a_right(tmp_path: pathlib.Path) -> None:
         group = narrowed(bench, "operator", Level.SEE, bench.one, bench.gantry)
         for row in (bench.one, bench.gantry):
             bench.read(row)
+            bench.itself(row, shortErrorStatus=0)
         bench.store.commands.ask(bench.one, "boss", BLANK)
         bench.store.alarms.look()
         one = await bench.logged_in(visitor, "operator")
@@ -247,6 +251,10 @@ def test_no_button_without_a_right(tmp_path: pathlib.Path) -> None:
         assert page.count('type="checkbox"') == 1 and "B 300" in page and 'href="/compose"' in page
         assert "Blank" in (await one.get(f"/signs/{bench.one}"))[1]
         assert "Blank" not in (await one.get(f"/signs/{bench.gantry}"))[1]
+        assert "Set the brightness" in (await one.get(f"/signs/{bench.one}"))[1]
+        assert "Set the brightness" not in (await one.get(f"/signs/{bench.gantry}"))[1]
+        assert (await one.get(f"/signs/{bench.gantry}/brightness?control=4&level=3"))[0] == 403
+        assert (await one.post(f"/signs/{bench.gantry}/brightness", {"control": "4", "level": "3"}))[0] == 403
         assert "Withdraw" in (await one.get("/history"))[1]
         assert (await one.get("/alarms"))[1].count("Acknowledge<") == 1
         groups.remove(bench.store.database, group, "boss")

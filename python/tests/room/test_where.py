@@ -134,6 +134,19 @@ def test_the_second_that_comes_to_one_address_stands_still(
     held.close()
 
 
+def test_where_nothing_resolves_anew_no_sign_is_looked_at(
+    where: str, names: Names, monkeypatch: pytest.MonkeyPatch
+) -> None:
+    names.of.update({"a.example": ["127.0.0.1"]})
+    store = Store(database.opened(where))
+    held = Where(store, store.signs.enter([named("a", "a.example"), named("b", "127.0.0.2")]), AGAIN)
+    assert looks(held, store) == [None, None]
+    asked: list[object] = []
+    monkeypatch.setattr(held.addresses, "of", asked.append)
+    assert held.look() == set() and asked == []
+    held.close()
+
+
 def test_two_that_change_places_go_on_above_one_another(where: str, names: Names) -> None:
     names.of.update({"a.example": ["127.0.0.1"], "b.example": ["127.0.0.2"]})
     store = Store(database.opened(where))

@@ -71,9 +71,11 @@ class Addresses:
     places: Iterable[_Place]
     again: float = AGAIN
     found: dict[_Place, Found] = field(default_factory=dict)
+    changes: int = 0  # how often a host came to stand for something else
     is_done: bool = False
 
     def __post_init__(self) -> None:
+        self.turn = threading.Lock()
         names = []
         for place in dict.fromkeys(self.places):
             found = looked_up(place, socket.AI_NUMERICHOST)
@@ -92,14 +94,20 @@ class Addresses:
             for place in places:
                 if self.is_done:
                     break
-                found = looked_up(place)
-                if not found.fault or self.found.get(place, found).fault:
-                    self.found[place] = found
+                self._take(place, looked_up(place))
             first.set()
             time.sleep(self.again)
 
+    def _take(self, place: _Place, found: Found) -> None:
+        """What a host stands for now."""
+        before = self.found.get(place)
+        if found != before and (not found.fault or before is None or before.fault):
+            self.found[place] = found
+            with self.turn:
+                self.changes += 1
+
     def of(self, place: _Place) -> Found:
-        return self.found.get(place, Found(fault=f"{place[0]}: it is being looked up"))
+        return self.found.get(place) or Found(fault=f"{place[0]}: it is being looked up")
 
     def wait(self, seconds: float = PATIENCE) -> "Addresses":
         """Waits until each name was looked up once, but not for longer."""

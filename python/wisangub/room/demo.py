@@ -12,8 +12,10 @@ import signal
 import subprocess
 import sys
 import tempfile
+import time
 import tomllib
-from typing import Iterator
+from dataclasses import dataclass
+from typing import BinaryIO, Iterator
 
 from wisangub.endpoint.sockets import host_and_port
 from wisangub.process.places import SIGNTOOL, TOP, environment
@@ -26,7 +28,21 @@ from .serve import LISTEN
 from .store import database, users
 
 _FLEET = TOP / "signs/fleet.toml"
-_SILENCE = 2.0  # seconds in which a sign that cannot begin ends
+_PATIENCE = 60.0  # seconds that a sign has to begin on a busy machine
+_STANDS = b"a sign at "  # what it prints then
+
+
+@dataclass(frozen=True)
+class Sign:
+    """A sign that was begun, and the file of what it prints."""
+
+    name: str
+    process: subprocess.Popen[bytes]
+    said: pathlib.Path
+
+    @property
+    def is_up(self) -> bool:
+        return self.said.read_bytes().startswith(_STANDS)
 
 
 def _entries(path: pathlib.Path) -> list[tuple[str, int, pathlib.Path]]:
@@ -52,24 +68,42 @@ def _ended(processes: list[subprocess.Popen[bytes]]) -> Iterator[None]:
                 process.wait()
 
 
-def _begun(words: list[str]) -> subprocess.Popen[bytes]:
+def _begun(words: list[str], out: BinaryIO | None = None) -> subprocess.Popen[bytes]:
     """A process of this Python, in a group of its own, so that an interrupt comes to this one alone."""
     return subprocess.Popen(
-        [sys.executable, "-m", *words], env=environment(), cwd=TOP, stdin=subprocess.DEVNULL, process_group=0
+        [sys.executable, "-m", *words],
+        env=environment(),
+        cwd=TOP,
+        stdin=subprocess.DEVNULL,
+        stdout=out,
+        process_group=0,
     )
 
 
-def _begin_signs(path: pathlib.Path, program: str, running: list[subprocess.Popen[bytes]]) -> None:
-    """The signs are among what runs; refused where one does not stand."""
-    found = _entries(path)
-    for _, port, description in found:
-        words = ["--signtool", program, "--sign", str(description), "--port", str(port), "--quiet"]
-        running.append(_begun(["wisangub.endpoint.sign", *words]))
-    with contextlib.suppress(subprocess.TimeoutExpired):
-        running[-1].wait(_SILENCE)
-    dead = [entry[0] for entry, process in zip(found, running) if process.poll() is not None]
-    if dead:
-        raise Refusal(f"no sign stands for {', '.join(dead)}: is its port in use?", 1)
+def await_signs(signs: list[Sign], patience: float = _PATIENCE) -> None:
+    """Each of the signs stands; refused by their names where some ended, or do not stand after so many seconds."""
+    ends = time.monotonic() + patience
+    while waited := [sign for sign in signs if not sign.is_up]:
+        dead = [sign.name for sign in waited if sign.process.poll() is not None]
+        if dead:
+            raise Refusal(f"no sign stands for {', '.join(dead)}: is its port in use?", 1)
+        if time.monotonic() > ends:
+            raise Refusal(f"no sign stands for {', '.join(sign.name for sign in waited)} after {patience:.0f} s", 1)
+        time.sleep(0.05)
+
+
+def _begin_signs(
+    path: pathlib.Path, program: str, folder: pathlib.Path, running: list[subprocess.Popen[bytes]]
+) -> None:
+    """The signs are among what runs, and stand; what they print is in files of the folder."""
+    signs = []
+    for number, (name, port, description) in enumerate(_entries(path)):
+        words = ["--signtool", program, "--sign", str(description), "--port", str(port)]
+        said = folder / f"sign-{number}"
+        with said.open("wb") as out:
+            running.append(_begun(["wisangub.endpoint.sign", *words], out))
+        signs.append(Sign(name, running[-1], said))
+    await_signs(signs)
 
 
 def _enter(where: str) -> None:
@@ -95,11 +129,12 @@ def main() -> int:
     start.needed("wisangub.room.demo", "aiohttp", "jinja2")
     signal.signal(signal.SIGTERM, signal.default_int_handler)
     path, running = asked.fleet.resolve(), list[subprocess.Popen[bytes]]()
-    with tempfile.TemporaryDirectory(prefix="control-") as folder:
-        where = str(pathlib.Path(folder) / "room.sqlite")
+    with tempfile.TemporaryDirectory(prefix="control-") as made:
+        folder = pathlib.Path(made)
+        where = str(folder / "room.sqlite")
         rest = ["--listen", asked.listen, "--signtool", asked.signtool]
         with contextlib.suppress(KeyboardInterrupt), _ended(running):
-            _begin_signs(path, asked.signtool, running)
+            _begin_signs(path, asked.signtool, folder, running)
             _enter(where)
             running.append(_begun(["wisangub.room", "--fleet", str(path), "--database", where, *rest]))
             running[-1].wait()

@@ -8,15 +8,17 @@ from wisangub.snmp.names import Name
 _COLUMNS = ("moduleMake", "moduleModel", "moduleVersion")  # of the first module
 _PLACES = {"CtrlCabinet": "control cabinet", "Ambient": "air around it", "SignHousing": "housing"}
 ERRORS = "shortErrorStatus"
+CONTROL, LEVEL, LEVELS = "dmsIllumControl", "dmsIllumManLevel", "dmsIllumNumBrightLevels"
+MOST_LEVEL = 255
 LASTING = (
     "sysName",
     "sysDescr",
     *_COLUMNS,
     "dmsSignWidth",
     "dmsSignHeight",
-    "dmsIllumControl",
-    "dmsIllumNumBrightLevels",
-    "dmsIllumManLevel",
+    CONTROL,
+    LEVELS,
+    LEVEL,
     "dmsStatDoorOpen",
     ERRORS,
 )
@@ -27,6 +29,11 @@ MEASURED = (
     *(name for pair in TEMPERATURES.values() for name in pair),
 )  # which may be another at each reading
 ASKED: dict[str, Name] = {name: (*known(name).numbers, 1 if name in _COLUMNS else 0) for name in (*LASTING, *MEASURED)}
+
+SET = (CONTROL, LEVEL)  # the objects that a worker writes beside a centre: of the device alone (docs/CONTROL.md)
+_CONTROLS = {word: number for number, word in known(CONTROL).words.items()}
+BY_HAND = (_CONTROLS["manual"], _CONTROLS["manualIndexed"])
+CONTROLS = (_CONTROLS["photocell"], _CONTROLS["timer"], *BY_HAND)  # that may be asked for
 
 
 def bits(number: int) -> list[int]:
@@ -49,5 +56,10 @@ def errors(status: int) -> list[str]:
 
 def control(number: int) -> str:
     """What sets the brightness, in words."""
-    word = known("dmsIllumControl").words.get(number)
+    word = known(CONTROL).words.get(number)
     return _apart(word) if word else f"mode {number}"
+
+
+def brightness(number: int, level: int | None) -> str:
+    """What sets the brightness, and the level where it is set by hand, in words."""
+    return control(number) + ("" if level is None or number not in BY_HAND else f", level {level}")

@@ -58,6 +58,11 @@ class Sign:
         return f"{self.host}:{self.port}"
 
     @property
+    def writer(self) -> bytes:
+        """The writing community."""
+        return description.communities_of(self.text)[1]
+
+    @property
     def digest(self) -> str:
         return description.digest(self.text)
 

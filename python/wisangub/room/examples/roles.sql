@@ -7,5 +7,6 @@ GRANT UPDATE ON addresses, alarm_looks, alarms, device_hearings, devices, failed
     logins, messages, notices, plan_looks, plan_runs, plan_texts, plans, purposes, readings, rights,
     row_hearings, second_factors, signs, texts, tokens, users TO control;
 GRANT UPDATE (line_number, step, outcome, ended, why) ON commands TO control;
-GRANT DELETE ON approvals, failed_logins, forbidden_words, group_members, plan_runs, plan_texts, plans, purposes,
+GRANT UPDATE (number, sent_at, outcome, ended, said, said_at) ON brightness TO control;
+GRANT DELETE ON approvals, brightness, failed_logins, forbidden_words, group_members, plan_runs, plan_texts, plans, purposes,
     rights, schedules, second_factors, sign_groups, texts TO control;

@@ -12,6 +12,7 @@ from wisangub.refusal import Refusal
 from wisangub.room.fleet import LAST_NUMBER
 from wisangub.room.worker.session import PACE, RESTORED
 
+from . import brightness
 from .audit import note
 from .store import Store
 from .values import CLOCK, LEAST_NUMBER, whole
@@ -21,6 +22,7 @@ LEAST_STEP = 1_000_000  # numbers that are left out at least
 _TIMES = (
     "at FROM lines",
     "asked_at FROM commands",
+    "asked_at FROM brightness",
     "ended FROM commands",
     "at FROM ledger",
     "heard FROM readings",
@@ -129,6 +131,7 @@ def _end_all(store: Store) -> int:
     waiting = store.database.run(
         f"UPDATE commands SET outcome = ?, ended = {CLOCK} WHERE outcome IS NULL RETURNING id", NOT_DONE
     )
+    brightness.end_all(store.database, NOT_DONE)
     store.database.run(f"UPDATE ledger SET outcome = 'unknown', at = {CLOCK} WHERE outcome = 'waiting'")
     store.database.run(
         f"UPDATE logins SET ended = {CLOCK} WHERE ended IS NULL"

@@ -17,6 +17,7 @@ TRIES, AGAIN = 6, 60.0  # how often it is tried to tell somebody, and seconds to
 _MOST_TOLD = 50  # alarms of one message
 EVERY = 5.0  # seconds from one look for alarms to the next, of all workers together
 _CENTRAL = 8  # the mode of what a central system activated
+_MOST_READ = 1000  # signs that are asked for at once
 _MOST_TEXT = 60  # characters of a text that an alarm says
 _FOUND = """
 SELECT alarms.id, alarms.sign, signs.name, alarms.kind, alarms.what, alarms.begun, alarms.ended, alarms.seen_by,
@@ -137,6 +138,7 @@ class Alarms:
         self.database = database
         self._run = database.run
         self._ours: set[tuple[int, bytes, bytes]] = set()  # signs with what they showed that a ledger has
+        self._views: dict[int, tuple[int, SignView]] = {}  # by signs, with the number of the reading that said so
 
     def look(self) -> None:
         """Begins and ends alarms, where none of the workers has looked just before."""
@@ -159,11 +161,13 @@ class Alarms:
     def _found(self) -> dict[tuple[int, str], str]:
         """What is wrong now, in words, by signs and kinds."""
         found: dict[tuple[int, str], str] = {}
-        for sign in queries.signs(self.database):
-            if words := f"it stands still: {sign.still}" if sign.still else sign.fault:
-                found[sign.id, SILENT] = words
+        for sign in self._read():
+            if sign.fault:
+                found[sign.id, SILENT] = sign.fault
             if words := self._other(sign):
                 found[sign.id, OTHER] = words
+        for sign_id, still in self._run("SELECT id, still FROM signs WHERE still IS NOT NULL"):
+            found[whole(sign_id), SILENT] = f"it stands still: {still}"
         rows = self._run(
             "SELECT sign, memory, number FROM messages WHERE status = ? ORDER BY sign, memory DESC, number DESC",
             RowStatus.ERROR,
@@ -180,6 +184,17 @@ class Alarms:
         for sign_id, status in devices.with_errors(self.database).items():
             found[sign_id, DEVICE] = f"it says that something is wrong with it: {', '.join(errors(status))}"
         return found
+
+    def _read(self) -> list[SignView]:
+        """What was read of each sign; of those alone that were read anew it is asked for."""
+        newest = queries.newest_readings(self.database)
+        known = {sign: held for sign, held in self._views.items() if held[0] == newest.get(sign)}
+        anew = sorted(newest.keys() - known.keys())
+        for at in range(0, len(anew), _MOST_READ):
+            for view in queries.signs_of(self.database, anew[at : at + _MOST_READ]):
+                known[view.id] = newest[view.id], view
+        self._views = known
+        return [view for _, view in known.values()]
 
     def _other(self, sign: SignView) -> str | None:
         """Whose text a sign shows that none of its centres here has activated; None where it shows none or ours."""

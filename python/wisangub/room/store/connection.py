@@ -25,6 +25,7 @@ from typing import Iterator, Sequence
 from wisangub.refusal import Refusal
 
 PATIENCE = 10.0  # seconds that a transaction waits for another one's end
+_MOST_ROWS = 1000  # of one statement
 Value = str | int | float | None
 Row = tuple[Value, ...]
 
@@ -71,6 +72,14 @@ class Database:
         if values:
             with self.turn, self.watched():
                 self.put(self.own(sql), values)
+
+    def run_rows(self, sql: str, place: str, rows: Sequence[Row]) -> None:
+        """Runs a statement once for many rows: {rows} in it stands for `place`, such as `(?, {clock})`, as often as
+        there are rows."""
+        for at in range(0, len(rows), _MOST_ROWS):
+            part = rows[at : at + _MOST_ROWS]
+            held = tuple(value for row in part for value in row)
+            self.run_all(sql.replace("{rows}", ", ".join([place] * len(part))), [held])
 
     def count_all(self, sql: str, values: Sequence[Row]) -> int:
         """The same: how many rows it changed in all."""

@@ -109,13 +109,14 @@ class Devices:
 
     def _hear(self, said: Sequence[DeviceSaid]) -> None:
         """Each was heard now, but for what comes late."""
-        self.database.run_all(
+        self.database.run_rows(
             "INSERT INTO device_hearings (sign, asked_at, enough, number, heard, measured, lacking, all_asked_at)"
-            f" VALUES (?, {CLOCK}, ?, ?, {CLOCK}, ?, ?, {CLOCK}) ON CONFLICT (sign) DO UPDATE"
+            " VALUES {rows} ON CONFLICT (sign) DO UPDATE"
             " SET enough = excluded.enough, number = excluded.number, heard = excluded.heard,"
             " measured = excluded.measured, lacking = excluded.lacking, all_asked_at ="
-            " CASE WHEN CAST(? AS BIGINT) = 1 THEN device_hearings.asked_at ELSE device_hearings.all_asked_at END"
+            " CASE WHEN excluded.all_asked_at > 0 THEN device_hearings.asked_at ELSE device_hearings.all_asked_at END"
             " WHERE device_hearings.number > excluded.number",
+            f"(?, {CLOCK}, ?, ?, {CLOCK}, ?, ?, CASE WHEN CAST(? AS BIGINT) = 1 THEN {CLOCK} ELSE 0 END)",
             [
                 (
                     one.sign,
@@ -131,12 +132,13 @@ class Devices:
 
     def _write(self, said: Sequence[DeviceSaid]) -> None:
         """Rows of those that say something else than they did."""
-        self.database.run_all(
-            f"INSERT INTO devices (sign, number, since, said, errors) VALUES (?, ?, {CLOCK}, ?, ?) ON CONFLICT (sign)"
+        self.database.run_rows(
+            "INSERT INTO devices (sign, number, since, said, errors) VALUES {rows} ON CONFLICT (sign)"
             " DO UPDATE SET number = excluded.number, since = excluded.since, said = excluded.said,"
             " errors = excluded.errors WHERE devices.number > excluded.number AND devices.said <> excluded.said"
             " AND EXISTS (SELECT 1 FROM device_hearings WHERE device_hearings.sign = devices.sign"
             " AND device_hearings.number = excluded.number)",
+            f"(?, ?, {CLOCK}, ?, ?)",
             [(one.sign, one.number, _json(one.lasting), one.errors) for one in said],
         )
 

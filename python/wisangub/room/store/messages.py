@@ -8,17 +8,12 @@ from .values import CLOCK, places, text_or_none, time_of, whole
 
 # a table that was asked for at a time to come is due: the clock jumped
 _DUE = f"(table_wanted = 1 OR table_read_at + ? <= {CLOCK} OR table_read_at > {CLOCK})"
+_SAME = "{0}.sign = {1}.sign AND {0}.memory = {1}.memory AND {0}.number = {1}.number"  # one row, in two tables
+_IN_HEARINGS = _SAME.format("row_hearings", "messages")
 # nothing newer was heard of the row
-_NEWEST = (
-    "EXISTS (SELECT 1 FROM row_hearings WHERE row_hearings.sign = messages.sign"
-    " AND row_hearings.memory = messages.memory AND row_hearings.number = messages.number"
-    " AND row_hearings.reading = {reading})"
-)
+_NEWEST = f"EXISTS (SELECT 1 FROM row_hearings WHERE {_IN_HEARINGS} AND row_hearings.reading = {{reading}})"
 HEARD = "COALESCE(row_hearings.heard, messages.heard)"  # when a row was heard last, of OF_ROWS
-OF_ROWS = (
-    "FROM messages LEFT JOIN row_hearings ON row_hearings.sign = messages.sign"
-    " AND row_hearings.memory = messages.memory AND row_hearings.number = messages.number"
-)
+OF_ROWS = f"FROM messages LEFT JOIN row_hearings ON {_IN_HEARINGS}"
 
 
 @dataclass(frozen=True)
@@ -67,45 +62,52 @@ class Messages:
         when each was heard stands apart."""
         if not said:
             return
-        said = sorted(said, key=lambda one: (one.sign, one.memory, one.number, -one.reading))
-        unused = [one for one in said if one.held is None]
-        used = [one for one in said if one.held is not None]
+        newest = {(one.sign, one.memory, one.number): one for one in sorted(said, key=lambda one: -one.reading)}
+        unused = [one for _, one in sorted(newest.items()) if one.held is None]
+        used = [one for _, one in sorted(newest.items()) if one.held is not None]
         with self.database.transaction(is_lasting=False):
             self._hear(unused, used)
             self._write(unused, used)
 
     def _hear(self, unused: Sequence[RowSaid], used: Sequence[RowSaid]) -> None:
         """Each row was heard now, but for what comes late; from here on its row here is this transaction's."""
-        self.database.run_all(
-            f"UPDATE row_hearings SET reading = ?, heard = {CLOCK}"
-            " WHERE sign = ? AND memory = ? AND number = ? AND reading > ?",
-            [(one.reading, one.sign, one.memory, one.number, one.reading) for one in unused],
+        self.database.run_rows(
+            "WITH found (sign, memory, number, reading) AS (VALUES {rows}), older AS MATERIALIZED (SELECT"
+            " row_hearings.sign, row_hearings.memory, row_hearings.number, found.reading FROM row_hearings JOIN found"
+            f" ON {_SAME.format('row_hearings', 'found')} WHERE row_hearings.reading > found.reading"
+            f" ORDER BY row_hearings.sign, row_hearings.memory, row_hearings.number {{lock}})"
+            f" UPDATE row_hearings SET reading = older.reading, heard = {CLOCK} FROM older"
+            f" WHERE {_SAME.format('row_hearings', 'older')}",
+            "(?, ?, ?, ?)",
+            [(one.sign, one.memory, one.number, one.reading) for one in unused],
         )
-        self.database.run_all(
-            f"INSERT INTO row_hearings (sign, memory, number, reading, heard) VALUES (?, ?, ?, ?, {CLOCK})"
+        self.database.run_rows(
+            "INSERT INTO row_hearings (sign, memory, number, reading, heard) VALUES {rows}"
             " ON CONFLICT (sign, memory, number) DO UPDATE SET reading = excluded.reading, heard = excluded.heard"
             " WHERE row_hearings.reading > excluded.reading",
+            f"(?, ?, ?, ?, {CLOCK})",
             [(one.sign, one.memory, one.number, one.reading) for one in used],
         )
 
     def _write(self, unused: Sequence[RowSaid], used: Sequence[RowSaid]) -> None:
         """Rows that say something else than they did; what comes late is let be."""
-        self.database.run_all(
-            f"UPDATE messages SET reading = ?, heard = {CLOCK}, status = ?, held = NULL"
-            " WHERE sign = ? AND memory = ? AND number = ? AND reading > ?"
-            f" AND (status <> ? OR held IS NOT NULL) AND {_NEWEST.format(reading='?')}",
-            [
-                (one.reading, one.status, one.sign, one.memory, one.number, one.reading, one.status, one.reading)
-                for one in unused
-            ],
+        self.database.run_rows(
+            "WITH found (sign, memory, number, reading, status) AS (VALUES {rows})"
+            f" UPDATE messages SET reading = found.reading, heard = {CLOCK}, status = found.status, held = NULL"
+            f" FROM found WHERE {_SAME.format('messages', 'found')} AND messages.reading > found.reading"
+            " AND (messages.status <> found.status OR messages.held IS NOT NULL)"
+            f" AND {_NEWEST.format(reading='found.reading')}",
+            "(?, ?, ?, ?, ?)",
+            [(one.sign, one.memory, one.number, one.reading, one.status) for one in unused],
         )
-        self.database.run_all(
-            f"INSERT INTO messages (sign, memory, number, reading, heard, status, held)"
-            f" VALUES (?, ?, ?, ?, {CLOCK}, ?, ?) ON CONFLICT (sign, memory, number) DO UPDATE"
+        self.database.run_rows(
+            "INSERT INTO messages (sign, memory, number, reading, heard, status, held)"
+            " VALUES {rows} ON CONFLICT (sign, memory, number) DO UPDATE"
             " SET reading = excluded.reading, heard = excluded.heard, status = excluded.status, held = excluded.held"
             " WHERE messages.reading > excluded.reading"
             " AND (messages.status <> excluded.status OR messages.held IS NULL OR messages.held <> excluded.held)"
             f" AND {_NEWEST.format(reading='excluded.reading')}",
+            f"(?, ?, ?, ?, {CLOCK}, ?, ?)",
             [(one.sign, one.memory, one.number, one.reading, one.status, one.held) for one in used],
         )
 

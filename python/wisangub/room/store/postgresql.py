@@ -89,6 +89,8 @@ class Postgresql(Database):
             yield self.connect()
         except psycopg.IntegrityError as fault:
             raise Taken(_worded(fault)) from fault
+        except (psycopg.errors.DeadlockDetected, psycopg.errors.LockNotAvailable) as fault:
+            raise Away(_worded(fault)) from fault  # which may be done later
         except psycopg.Error as fault:
             self.let_go()
             raise (Away if self.connection is None else Failed)(_worded(fault)) from fault

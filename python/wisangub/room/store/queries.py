@@ -3,6 +3,7 @@
 import functools
 import json
 from dataclasses import dataclass, replace
+from typing import Sequence
 
 from .database import Database, Row, Value
 from .messages import HEARD, OF_ROWS
@@ -120,9 +121,24 @@ def signs(database: Database) -> list[SignView]:
     return [_sign_view(row) for row in database.run(f"{_SIGNS} ORDER BY signs.id")]
 
 
+def signs_of(database: Database, numbers: Sequence[int]) -> list[SignView]:
+    """Those of the signs that are there."""
+    if not numbers:
+        return []
+    return [_sign_view(row) for row in database.run(f"{_SIGNS} WHERE signs.id IN ({places(numbers)})", *numbers)]
+
+
 def sign(database: Database, number: int) -> SignView | None:
-    rows = database.run(f"{_SIGNS} WHERE signs.id = ?", number)
-    return _sign_view(rows[0]) if rows else None
+    return next(iter(signs_of(database, [number])), None)
+
+
+def newest_readings(database: Database) -> dict[int, int]:
+    """The signs that were ever read, each with the number of the newest row of its readings."""
+    rows = database.run(
+        "SELECT id, number FROM (SELECT id, (SELECT MIN(number) FROM readings WHERE sign = signs.id) AS number"
+        " FROM signs) AS newest WHERE number IS NOT NULL"
+    )
+    return {whole(sign): whole(number) for sign, number in rows}
 
 
 @dataclass(frozen=True)

@@ -124,7 +124,11 @@ class Readings:
         """New numbers for the signs from now on: which were used last may be forgotten where the machine lost its
         power."""
         if signs:
-            self._run(f"UPDATE hearings SET number = floor WHERE sign IN ({places(signs)})", *signs)
+            self._run(
+                f"WITH held AS MATERIALIZED (SELECT sign FROM hearings WHERE sign IN ({places(signs)})"
+                " ORDER BY sign {lock}) UPDATE hearings SET number = floor WHERE sign IN (SELECT sign FROM held)",
+                *signs,
+            )
 
     def numbers(self, signs: Sequence[int]) -> dict[int, int]:
         """A request's number for each of the signs, below all that its readings had; none where they are used up."""
@@ -170,6 +174,7 @@ class Readings:
             return
         try:
             with self.database.transaction(is_lasting=False):
+                self._hold(sorted({one.sign for one in left}))
                 while left:
                     first = {one.sign: one for one in reversed(left)}
                     left = [one for one in left if first[one.sign] is not one]
@@ -177,6 +182,15 @@ class Readings:
         except BaseException:
             self._known.clear()  # rows that it may have written are not there
             raise
+
+    def _hold(self, signs: Sequence[int]) -> None:
+        """The rows of hearings are this transaction's, in the order in which all take them, so that none waits for one
+        that waits for it."""
+        self._run(
+            f"SELECT count(*) FROM (SELECT sign FROM hearings WHERE sign IN ({places(signs)})"
+            " ORDER BY sign {lock}) AS held",
+            *signs,
+        )
 
     def _keep(self, said: Sequence[Said]) -> None:
         """One of a sign each."""

@@ -2,6 +2,7 @@
 
 from .addresses import Addresses
 from .alarms import Alarms
+from .brightness import Brightness
 from .commands import Commands
 from .connection import Database
 from .devices import Devices
@@ -26,5 +27,6 @@ class Store:
         self.readings = Readings(database)
         self.messages = Messages(database)
         self.devices = Devices(database)
+        self.brightness = Brightness(database)
         self.alarms = Alarms(database)
         self.plans = Plans(database)

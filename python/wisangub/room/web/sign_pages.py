@@ -4,8 +4,10 @@ from dataclasses import dataclass
 
 from aiohttp import web
 
-from wisangub.room.store import alarms, devices, queries
+from wisangub.room import device as of_itself
+from wisangub.room.store import alarms, brightness, devices, queries
 from wisangub.room.store.alarms import Alarm
+from wisangub.room.store.brightness import Asked
 from wisangub.room.store.database import Database
 from wisangub.room.store.devices import DeviceView
 from wisangub.room.store.messages import Messages
@@ -13,7 +15,7 @@ from wisangub.room.store.queries import CommandView, SignView, TableView, Wanted
 
 from .service import Service, rights_of, service_of, sign_of
 
-_FEW = 8
+_FEW, _FEW_SETTINGS = 8, 3
 
 
 @dataclass(frozen=True)
@@ -26,6 +28,7 @@ class Overview:
     commands: list[CommandView]
     alarms: list[Alarm]
     device: DeviceView | None
+    brightness: list[Asked]
     now: float
 
 
@@ -36,7 +39,8 @@ def _overviewed(service: Service, database: Database, sign_id: int) -> Overview:
     commands = queries.commands(database, Wanted(sign=sign_id, most=_FEW))
     picture = service.picture(sign_id, sign.shown.text) if sign.shown else None
     stands, device = alarms.listed(database, sign_id), devices.view(database, sign_id)
-    return Overview(sign, picture, sign.is_stale(now), commands, stands, device, now)
+    asked = brightness.listed(database, sign_id, _FEW_SETTINGS)
+    return Overview(sign, picture, sign.is_stale(now), commands, stands, device, asked, now)
 
 
 async def overview(request: web.Request) -> web.Response:
@@ -50,6 +54,9 @@ async def overview(request: web.Request) -> web.Response:
         now=found.now,
         face=service.faces[sign_id],
         tab="overview",
+        most_level=brightness.most_level(found.device),
+        controls=of_itself.CONTROLS,
+        control_word=of_itself.control,
         may_command=rights_of(request).may_command(sign_id),
         view=f"sign/{sign_id}",
     )
@@ -62,6 +69,7 @@ def parts(service: Service, database: Database, sign_id: int) -> dict[str, str]:
         "shown": service.part("parts.html", "shown", found),
         "commands": service.part("parts.html", "commands", found),
         "device": service.part("parts.html", "device", found),
+        "brightness": service.part("parts.html", "brightness", found),
     }
 
 

@@ -1,8 +1,7 @@
 """What signs say of themselves: each is asked once a minute, and once a day for what it has not."""
 
-import time
 from functools import partial
-from typing import Iterable
+from typing import Iterable, Mapping
 
 from wisangub.endpoint.asking import Refused, Values
 from wisangub.room.device import ASKED, ERRORS, LASTING, MEASURED
@@ -12,18 +11,18 @@ from wisangub.room.store.store import Store
 from wisangub.snmp import wire
 
 from .gets import Gets
+from .passes import Pass, Passes
 
-_LOOK = 1.0  # seconds from one look for signs that are due to the next
-_MOST = 20  # signs that are asked at a time
 _Held = dict[str, int | str]
 
 
-class Pass:
+class DevicePass(Pass):
     """One reading of what a sign says of itself, a Get after the other: in SNMPv1 a name that the sign has not fails
     the whole Get, so it is asked again without that one."""
 
     def __init__(self, devices: "Devices", sign_id: int, sign: Sign, lacking: frozenset[str] | None) -> None:
-        self.devices, self.sign_id, self.sign = devices, sign_id, sign
+        super().__init__(sign_id, sign)
+        self.devices = devices
         self.is_of_all, self.lacking = lacking is None, set(lacking or ())
         names = [name for name in ASKED if name not in self.lacking]
         self.to_ask = [names] if names else []  # those of each Get
@@ -35,7 +34,6 @@ class Pass:
         return not self.to_ask
 
     def go_on(self, number: int) -> None:
-        """The next Get."""
         names, self.number = self.to_ask.pop(0), number
         asked = [ASKED[name] for name in names]
         self.devices.gets.begin(self.sign, number, asked, partial(self.end, names))
@@ -80,41 +78,23 @@ class Pass:
         return {name: self.values[name] for name in names if name in self.values}
 
 
-class Devices:
+class Devices(Passes[DevicePass]):
     """The readings that are under way."""
 
     def __init__(self, store: Store, signs: dict[int, Sign], gets: Gets) -> None:
-        self.store, self.signs, self.gets = store, signs, gets
-        self.going: set[int] = set()
-        self.ready: list[Pass] = []
+        super().__init__(store, signs, gets)
         self.said: list[DeviceSaid] = []
-        self.next_look = 0.0
 
-    def begin(self) -> None:
-        """Begins those that are due, and has those go on that heard something."""
-        now = time.monotonic()
-        if now >= self.next_look and len(self.going) < _MOST:
-            self.next_look = now + _LOOK
-            signs = dict(self.signs)
-            due = [one for one in self.store.devices.to_read() if one in signs and one not in self.going]
-            for sign_id, lacking in self.store.devices.due(due[: _MOST - len(self.going)]).items():
-                self.going.add(sign_id)
-                self.ready.append(Pass(self, sign_id, signs[sign_id], lacking))
-        self.go_on()
+    def to_read(self) -> list[int]:
+        return self.store.devices.to_read()
 
-    def go_on(self) -> None:
-        """The next Get of each that heard something; a reading that cannot go on is let go."""
-        ready, self.ready = self.ready, []
-        for one in ready:
-            self.going.discard(one.sign_id)
-            if one.is_done and one.number:
-                self.said.append(one.said())
-        more = [one for one in ready if not one.is_done and self.signs.get(one.sign_id) is one.sign]
-        numbers = self.store.readings.numbers([one.sign_id for one in more])
-        for one in more:
-            if one.sign_id in numbers:
-                self.going.add(one.sign_id)
-                one.go_on(numbers[one.sign_id])
+    def due(self, signs: Mapping[int, Sign]) -> Iterable[DevicePass]:
+        found = self.store.devices.due([*signs])
+        return [DevicePass(self, sign_id, signs[sign_id], lacking) for sign_id, lacking in found.items()]
+
+    def ended(self, one: DevicePass) -> None:
+        if one.number:
+            self.said.append(one.said())
 
     def keep(self) -> None:
         """Puts what was said since the last time into the database."""

@@ -1,5 +1,5 @@
 """What a worker reads: what signs show, their tables, what they say of themselves, and what they found wrong with a
-message; alarms, and plans.
+message; brightness, alarms, and plans.
 
 In a thread of its own, over a connection of its own, so that lines do not wait for it. A worker without one has it do
 its work between two rounds.
@@ -17,6 +17,7 @@ from wisangub.room.store.database import Failed, Taken
 from wisangub.room.store.store import Store
 from wisangub.snmp.mib import Mib
 
+from .brightness import Brightness
 from .devices import Devices
 from .gets import Gets
 from .readings import Readings
@@ -35,6 +36,7 @@ class Reader:
         self.readings = Readings(store, signs, self.gets, most)
         self.tables = Tables(store, signs, self.gets)
         self.devices = Devices(store, signs, self.gets)
+        self.brightness = Brightness(store, signs, self.gets)
         self.verdicts = Verdicts(store, signs, self.gets, mib, program)
         self.next_look, self.next_alarms, self.next_plans = 0.0, time.monotonic() + EVERY, 0.0
         self.failing: float | None = None  # since when
@@ -86,10 +88,12 @@ class Reader:
         self.readings.keep()
         self.tables.keep()
         self.devices.keep()
+        self.brightness.keep()
         self.verdicts.keep()
         self.readings.begin()
         self.tables.begin()
         self.devices.begin()
+        self.brightness.begin()
         self.verdicts.begin()
         self.gets.again()
         if time.monotonic() >= self.next_alarms:

@@ -2,8 +2,8 @@
 
 import json
 import re
-import time
 from functools import partial
+from typing import Iterable, Mapping
 
 from wisangub.endpoint.asking import Name, Values
 from wisangub.room.fleet import Sign
@@ -12,11 +12,10 @@ from wisangub.room.store.store import Store
 from wisangub.snmp.names import Memory, RowStatus, cell
 
 from .gets import Gets
+from .passes import Pass, Passes
 
 _EVERY = 600.0  # seconds from one reading of a sign's table to the next, where nobody wants it before
-_LOOK = 1.0  # seconds from one look for tables that are due to the next
 _STATUSES = 30  # rows whose status one Get asks for, so that its reply fits a datagram
-_MOST = 20  # signs whose tables are read at a time
 _STATUS = "dmsMessageStatus"
 _CELLS = {
     "text": "dmsMessageMultiString",
@@ -43,11 +42,12 @@ def _places(sign: Sign) -> list[_Place]:
     return [(memory, number) for memory, count in counts.items() for number in range(1, count + 1)]
 
 
-class Pass:
+class TablePass(Pass):
     """One reading of one sign's table, a Get after the other."""
 
     def __init__(self, tables: "Tables", sign_id: int, sign: Sign) -> None:
-        self.tables, self.sign_id, self.sign = tables, sign_id, sign
+        super().__init__(sign_id, sign)
+        self.tables = tables
         self.to_ask = _places(sign)
         self.used: list[tuple[_Place, int]] = []
 
@@ -89,39 +89,18 @@ class Pass:
         self.tables.said.append(RowSaid(self.sign_id, *place, number, status, cells))
 
 
-class Tables:
+class Tables(Passes[TablePass]):
     """The tables that are being read."""
 
     def __init__(self, store: Store, signs: dict[int, Sign], gets: Gets) -> None:
-        self.store, self.signs, self.gets = store, signs, gets
-        self.going: set[int] = set()
-        self.ready: list[Pass] = []
+        super().__init__(store, signs, gets)
         self.said: list[RowSaid] = []
-        self.next_look = 0.0
 
-    def begin(self) -> None:
-        """Begins those that are due, and has those go on that heard something."""
-        now = time.monotonic()
-        if now >= self.next_look and len(self.going) < _MOST:
-            self.next_look = now + _LOOK
-            signs = dict(self.signs)
-            due = [one for one in self.store.messages.to_read(_EVERY) if one in signs and one not in self.going]
-            for sign_id in self.store.messages.due(due[: _MOST - len(self.going)], _EVERY):
-                self.going.add(sign_id)
-                self.ready.append(Pass(self, sign_id, signs[sign_id]))
-        self.go_on()
+    def to_read(self) -> list[int]:
+        return self.store.messages.to_read(_EVERY)
 
-    def go_on(self) -> None:
-        """The next Get of each that heard something; a reading that ended or cannot go on is let go."""
-        ready, self.ready = self.ready, []
-        for one in ready:
-            self.going.discard(one.sign_id)
-        more = [one for one in ready if not one.is_done and self.signs.get(one.sign_id) is one.sign]
-        numbers = self.store.readings.numbers([one.sign_id for one in more])
-        for one in more:
-            if one.sign_id in numbers:
-                self.going.add(one.sign_id)
-                one.go_on(numbers[one.sign_id])
+    def due(self, signs: Mapping[int, Sign]) -> Iterable[TablePass]:
+        return [TablePass(self, one, signs[one]) for one in self.store.messages.due([*signs], _EVERY)]
 
     def keep(self) -> None:
         """Puts what was said since the last time into the database."""

@@ -20,19 +20,23 @@ class Where:
         self.known: dict[int, Found] = {}
         self.still: dict[int, str] = {}
         self.next_look = 0.0
+        self.changes = -1  # of the addresses that were looked at
 
     def look(self) -> set[int]:
         """Takes addresses that resolved anew, and those that another sign had, once it has them no more: the signs that
         stand still from now on, or are elsewhere."""
-        found = {sign_id: self.addresses.of((sign.host, sign.port)) for sign_id, sign in self.fleet.items()}
-        now = time.monotonic()
+        now, changes = time.monotonic(), self.addresses.changes
         is_due = now >= self.next_look
+        if changes == self.changes and not (is_due and self.still):
+            return set()
+        found = {sign_id: self.addresses.of((sign.host, sign.port)) for sign_id, sign in self.fleet.items()}
         to_take = [
             sign_id
             for sign_id in found
             if found[sign_id] != self.known.get(sign_id) or is_due and sign_id in self.still
         ]
         if not to_take:
+            self.changes = changes
             return set()
         self.next_look = now + self.again
         still = self.store.addresses.placed(
@@ -41,7 +45,9 @@ class Where:
                 for sign_id in to_take
             }
         )
-        return {sign_id for sign_id in to_take if self._is_moved(sign_id, found[sign_id], still.get(sign_id, ""))}
+        moved = {sign_id for sign_id in to_take if self._is_moved(sign_id, found[sign_id], still.get(sign_id, ""))}
+        self.changes = changes
+        return moved
 
     def _is_moved(self, sign_id: int, found: Found, why: str) -> bool:
         """Whether the sign is no more where it was."""

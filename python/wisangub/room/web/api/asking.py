@@ -6,7 +6,9 @@ from typing import Any, Callable
 from aiohttp import web
 
 from wisangub.refusal import Refusal
-from wisangub.room.store import alarms, history, library, plans, queries, rules
+from wisangub.room import device
+from wisangub.room.store import alarms, brightness, history, library, plans, queries, rules
+from wisangub.room.store.brightness import Wish
 from wisangub.room.store.commands import Commands
 from wisangub.room.store.database import Database
 from wisangub.room.store.rules import Purpose
@@ -32,6 +34,7 @@ _FIELDS = {
     "beacon": "beacon",
     "pixel_service": "pixel",
 }  # properties by the names that forms have for them
+_CONTROLS = {device.control(number): number for number in device.CONTROLS}
 _RULED = ("memory", "row", "priority_while_shown", "activation_priority")  # what a purpose chooses
 
 
@@ -157,6 +160,27 @@ async def _send(request: web.Request, draft: Draft, key: str) -> web.Response:
         if asked != sorted(_content(*one) for one in lines):
             raise Wrong(409, "Nothing was done: this key was used for something else.")
         return views.batch(found, found.commands)
+
+    try:
+        return answered(await service.connections.run(done), 202)
+    except Refusal as refused:
+        raise Wrong(422, f"Nothing was done: {refused}.") from None
+
+
+async def dim(request: web.Request) -> web.Response:
+    """What sets a sign's brightness from now on."""
+    service, visitor, key = service_of(request), visitor_of(request), key_of(request)
+    asked, sign_id = await body(request, "Dim"), int(request.match_info["sign"])
+    signs_of(request, [sign_id], "/sign")
+    wish = Wish(_CONTROLS[asked["control"]], asked.get("level"))
+
+    def done(database: Database) -> views.Value:
+        through = f"token “{request['holder'].name}”"
+        number = brightness.ask(database, sign_id, visitor.name, wish, f"{visitor.login} {key}", through)
+        found = brightness.found(database, number)
+        if found is None or (found.sign, found.wish) != (sign_id, wish):
+            raise Wrong(409, "Nothing was done: this key was used for something else.")
+        return views.setting(found)
 
     try:
         return answered(await service.connections.run(done), 202)

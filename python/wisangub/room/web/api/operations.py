@@ -62,6 +62,7 @@ OPERATIONS = (
     Operation("GET", "/signs/{sign}/picture", reading.picture, "A picture of what a sign shows", kind=SVG),
     Operation("GET", "/signs/{sign}/table", reading.table, "A sign's message table, as it was last read", "Rows"),
     Operation("GET", "/signs/{sign}/device", reading.device, "What a sign says of itself", "Device"),
+    Operation("GET", "/signs/{sign}/brightness", reading.brightness_list, "What was asked for of it", "Settings"),
     Operation(
         "GET", "/signs/{sign}/readings", reading.readings, "What a sign showed before", "Readings", query=("most",)
     ),
@@ -77,6 +78,16 @@ OPERATIONS = (
     _asks("/publish", asking.publish, "Has signs show a text", "Publish"),
     _asks("/blank", asking.blank, "Has signs show nothing", "Blank"),
     _asks("/show", asking.show, "Has a sign show a row that it has", "Show"),
+    Operation(
+        "POST",
+        "/signs/{sign}/brightness",
+        asking.dim,
+        "Sets a sign's brightness",
+        "Setting",
+        _OPERATOR,
+        body="Dim",
+        counts=True,
+    ),
     _does("/commands/{command}/withdraw", asking.withdraw, "Withdraws a command that waits for its turn", "Command"),
     _does("/alarms/{alarm}/acknowledge", asking.acknowledge, "Acknowledges an alarm", "Nothing"),
     _does("/plans/{plan}/begin", asking.begin_plan, "Begins a plan", "Plan"),

@@ -5,7 +5,7 @@ from typing import Any, Callable
 
 from aiohttp import web
 
-from wisangub.room.store import alarms, devices, groups, history, library, plans, queries, rules
+from wisangub.room.store import alarms, brightness, devices, groups, history, library, plans, queries, rules
 from wisangub.room.store.database import Database
 from wisangub.room.store.queries import Wanted
 from wisangub.room.web import wall
@@ -79,6 +79,13 @@ async def device(request: web.Request) -> web.Response:
         return views.device(found) if found else None
 
     return await _made(request, made)
+
+
+async def brightness_list(request: web.Request) -> web.Response:
+    sign_id = sign_of(request)
+    return await _made(
+        request, lambda database: {"settings": list(map(views.setting, brightness.listed(database, sign_id)))}
+    )
 
 
 async def readings(request: web.Request) -> web.Response:

@@ -2,6 +2,7 @@
 
 from typing import Any
 
+from wisangub.room import device
 from wisangub.room.store.alarms import KINDS as ALARM_KINDS
 from wisangub.room.web.wall import STATES
 from wisangub.room.web.words import NO_END
@@ -154,6 +155,28 @@ _DEVICE = thing(
         "temperatures": many(of("Temperature")),
     },
 )
+_CONTROL_WORDS = list(map(device.control, device.CONTROLS))
+_SETTING = thing(
+    "What was asked for of a sign's brightness",
+    {
+        "id": _NUMBER,
+        "sign": _NUMBER,
+        "who": text("the user who asked"),
+        "asked": time("when it was asked for"),
+        "control": text("what is to set it", enum=_CONTROL_WORDS),
+        "state": text("where it is", enum=["under way", "accepted", "failed"]),
+    },
+    {
+        "level": whole("where it is set by hand", 0, device.MOST_LEVEL),
+        "outcome": text("how it ended, in words"),
+        "read_back": of("ReadBack"),
+    },
+)
+_READ_BACK = thing(
+    "What the sign read afterwards",
+    {"at": time("when")},
+    {"control": text("what sets its brightness"), "level": number("that a manager asked for")},
+)
 _ALARM = thing(
     "An alarm",
     {
@@ -215,6 +238,7 @@ _NAMES = {
     "purposes": "Purpose",
     "plans": "Plan",
     "readings": "Reading",
+    "settings": "Setting",
     "entries": "Entry",
 }
 _FAULT = thing(
@@ -249,6 +273,11 @@ _SHOW = thing(
     {"sign": _NUMBER, "memory": text("of the row", enum=list(MEMORIES)), "row": _ROW},
     {"minutes": _MINUTES, "activation_priority": _ACTIVATION},
 )
+_DIM = thing(
+    "What sets a sign's brightness from now on, and the level where it is set by hand; once in ten seconds a sign",
+    {"control": text("what sets it", enum=_CONTROL_WORDS)},
+    {"level": whole("where it is set by hand", 0, device.MOST_LEVEL)},
+)
 _NOTHING = thing("Nothing has to be said", {})
 _BATCH = _list(
     "commands",
@@ -263,6 +292,8 @@ SCHEMAS: dict[str, Schema] = {
     "Row": _ROWS,
     "Temperature": _TEMPERATURE,
     "Device": _DEVICE,
+    "Setting": _SETTING,
+    "ReadBack": _READ_BACK,
     "Alarm": _ALARM,
     "Text": _TEXT,
     "Purpose": _PURPOSE,
@@ -274,6 +305,7 @@ SCHEMAS: dict[str, Schema] = {
     "Signs": _list("signs", "Signs, in the fleet's order", {"now": time("when this was looked at")}),
     "Rows": _list("rows", "The rows in use", {"read": time("when the table was last asked for")}),
     "Readings": _list("readings", "What a sign showed, the newest first"),
+    "Settings": _list("settings", "What was asked for of a sign's brightness, the newest first"),
     "Commands": _list("commands", "Commands, the newest first"),
     "Batch": _BATCH,
     "Alarms": _list("alarms", "Alarms that stand, or that nobody has acknowledged"),
@@ -284,5 +316,6 @@ SCHEMAS: dict[str, Schema] = {
     "Publish": _PUBLISH,
     "Blank": _BLANK,
     "Show": _SHOW,
+    "Dim": _DIM,
     "Nothing": _NOTHING,
 }

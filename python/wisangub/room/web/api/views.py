@@ -7,6 +7,7 @@ from wisangub.room import device as of_itself
 from wisangub.room.plain import plain_of
 from wisangub.room.store import history
 from wisangub.room.store.alarms import Alarm
+from wisangub.room.store.brightness import Asked
 from wisangub.room.store.devices import DeviceView
 from wisangub.room.store.history import Batch, ReadingView
 from wisangub.room.store.library import Text
@@ -173,6 +174,30 @@ def device(found: DeviceView) -> Value:
         open_doors=None if doors is None else [bit + 1 for bit in of_itself.bits(doors)],
         temperatures=heat or None,
     )
+
+
+def setting(found: Asked) -> Value:
+    """What was asked for of a sign's brightness, and what it read afterwards."""
+    state = "under way" if found.how is None else "accepted" if found.how == "accepted" else "failed"
+    return known(
+        id=found.id,
+        sign=found.sign,
+        who=found.who,
+        asked=time(found.at),
+        control=of_itself.control(found.wish.control),
+        level=found.wish.level,
+        state=state,
+        outcome=found.how,
+        read_back=_read_back(found),
+    )
+
+
+def _read_back(found: Asked) -> Value | None:
+    if found.said is None or found.said_at is None:
+        return None
+    control, level = (found.said.get(name) for name in of_itself.SET)
+    word = of_itself.control(control) if isinstance(control, int) else None
+    return known(at=time(found.said_at), control=word, level=level if isinstance(level, int) else None)
 
 
 def reading(found: ReadingView) -> Value:
