@@ -51,6 +51,14 @@ def test_it_writes_what_the_model_writes() -> None:
         assert wire.name(name) == model.name(name)
 
 
+def test_a_get_is_the_message_that_asks() -> None:
+    names: list[wire.Name] = [(1, 3, 6, 1, at) for at in (1, 127, 128, 2**32 - 1)]
+    for number in (0, -1, 2**31 - 1, -(2**31), -1):
+        for asked in (names, names[1:], names[:0]):
+            message = wire.Message(wire.GET, b"public", number, bindings=[(one, (wire.NULL, b"")) for one in asked])
+            assert wire.get(b"public", number, iter(asked)) == wire.written(message)
+
+
 def test_constants_are_those_of_the_model() -> None:
     for word, held in vars(model).items():
         if word.isupper():

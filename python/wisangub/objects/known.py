@@ -1,7 +1,7 @@
 """Objects beside the profile's that managers ask a sign for: names, numbers, types and words.
 
 They were written from memory of the public MIBs (RFC 1213, NTCIP 1201 and NTCIP 1203 v03), and not from their texts.
-mibs/ and docs/OBJECTS.md are made of this table by tools/objects.py."""
+mibs/DMS-DEVICE-MIB and mibs/RFC1213-MIB are made of this table by tools/objects.py."""
 
 from __future__ import annotations
 

@@ -226,14 +226,25 @@ def binding(bound: Binding) -> bytes:
 
 def written(message: Message) -> bytes:
     """The octets of a message in its shortest form; more than a datagram has where it is too big."""
+    return _written(message, element(SEQUENCE, *map(binding, message.bindings)))
+
+
+def _written(message: Message, listed: bytes) -> bytes:
+    """The octets of a message with this list of bindings."""
     numbers = map(integer, (message.number, message.status, message.index))
-    pdu = element(message.kind, *numbers, element(SEQUENCE, *map(binding, message.bindings)))
+    pdu = element(message.kind, *numbers, listed)
     return element(SEQUENCE, integer(0), element(OCTETS, message.community), pdu)
+
+
+@functools.lru_cache(maxsize=512)
+def _asked(names: tuple[Name, ...]) -> bytes:
+    """The list of bindings that asks for these names."""
+    return element(SEQUENCE, *(binding((one, (NULL, b""))) for one in names))
 
 
 def get(community: bytes, number: int, names: Iterable[Name]) -> bytes:
     """The octets of a Get of these names under a request's number."""
-    return written(Message(GET, community, number, bindings=[(one, (NULL, b"")) for one in names]))
+    return _written(Message(GET, community, number), _asked(tuple(names)))
 
 
 # --- what is known before a message is read ---------------------------------------------------------------------------
