@@ -7,7 +7,7 @@
 
 A bar is a name of tools/upkeep/bars.py, such as "links"; without names all of BARS are looked at. What is below a bar
 is printed with its file and line. With --all what is left for later is printed too, and fails. That no measure takes
-more instructions than before is looked at by `measures/measured.py --compare measures/MEASURED.md`, in some minutes.
+more instructions than before is looked at by `measures/measured.py --compare`, in some minutes.
 """
 
 import argparse

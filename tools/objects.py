@@ -1,7 +1,7 @@
 #!/usr/bin/env python3
-"""Writes what is made of the table of objects: the objects of mibs/DMS-PROFILE-MIB, and the tables of docs/PROFILE.md.
+"""Writes what is made of the table of objects: the objects of mibs/DMS-PROFILE-MIB, and the table of docs/PROFILE.md.
 Of python/wisangub/objects/known.py are made the objects beside a sign's: those of mibs/DMS-DEVICE-MIB and
-mibs/RFC1213-MIB, and the table of docs/OBJECTS.md.
+mibs/RFC1213-MIB.
 
 With --code it writes what the crates have of it too: the types of objects and of columns, the rows, and the matches of
 their numbers. The table is crates/dms_mib/specs/Objects.antt, whose limits have their numbers in
@@ -15,25 +15,18 @@ from collections.abc import Callable
 
 from mib_table import device
 from mib_table.code import CODE
-from mib_table.pages import mib_objects, profile_columns, profile_objects
+from mib_table.pages import mib_objects, profile_objects
 from mib_table.table import TABLE, BadTable, Object, read
 
 TOP = pathlib.Path(__file__).resolve().parent.parent
 _MIB, _PROFILE = "mibs/DMS-PROFILE-MIB", "docs/PROFILE.md"
-_DEVICE, _SYSTEM, _OBJECTS = "mibs/DMS-DEVICE-MIB", "mibs/RFC1213-MIB", "docs/OBJECTS.md"
+_DEVICE, _SYSTEM = "mibs/DMS-DEVICE-MIB", "mibs/RFC1213-MIB"
 _BEGIN, _END = "-- the objects, made by tools/objects.py:", "-- the end of what is made"
 _PAGES: tuple[tuple[str, str, str, Callable[[list[Object]], str]], ...] = (
     (_MIB, _BEGIN, _END, mib_objects),
     (_PROFILE, "<!-- objects, made by tools/objects.py -->", "<!-- the end of objects -->", profile_objects),
-    (_PROFILE, "<!-- columns, made by tools/objects.py -->", "<!-- the end of columns -->", profile_columns),
     (_DEVICE, _BEGIN, _END, lambda _: device.device_objects()),
     (_SYSTEM, _BEGIN, _END, lambda _: device.system_objects()),
-    (
-        _OBJECTS,
-        "<!-- objects, made by tools/objects.py -->",
-        "<!-- the end of objects -->",
-        lambda _: device.page_objects(),
-    ),
 )
 _CODE = tuple((name, "// made by tools/objects.py --code", "// the end of what is made", make) for name, make in CODE)
 

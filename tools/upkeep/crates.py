@@ -6,7 +6,7 @@ from .tree import Tree
 
 LIST = "crates.txt"
 _PAGES = ("docs/ARCHITECTURE.md", "docs/MAP.md", "docs/PROVED.md")
-_REASONS = "docs/DECISIONS.md"
+_REASONS, _OLDER = "docs/DECISIONS.md", "tools/upkeep/older_paths.txt"
 # the line of a house: its name, and the families of its crates
 HOUSE = re.compile(r"## (?P<house>[a-z][a-z ]*): (?P<families>\w+(?:, \w+)*)")
 _FEWEST = 10
@@ -137,12 +137,12 @@ def unsaid(tree: Tree) -> list[str]:
 
 
 def paths(tree: Tree) -> list[str]:
-    """Public modules whose names the crate's first page hands out too, but for the paths that a page says are kept."""
-    kept, found = tree.text(_REASONS), []
+    """Public modules whose names the crate's first page hands out too, but for the paths that are kept."""
+    kept, found = tree.text(_OLDER).split("\n"), []
     for crate in names(tree):
         page = f"crates/{crate}/src/lib.rt"
         for module in _MODULE.findall(tree.text(page)) if tree.has(page) else ():
             handed_out = re.search(rf"(?m)^pub use {module}::", tree.text(page))
-            if handed_out and f"`{crate}::{module}`" not in kept:
-                found.append(f"{page}: two paths lead to the names of {module}, and {_REASONS} does not say why")
+            if handed_out and f"{crate}::{module}" not in kept:
+                found.append(f"{page}: two paths lead to the names of {module}, and {_OLDER} does not have this one")
     return found

@@ -66,9 +66,9 @@ def test_crates(made: MakesTree) -> None:
 
 def test_houses(made: MakesTree) -> None:
     listed = "# NAME: a sentence.\n\n## octets: one\n\n# words\none: two\n\n## both ends: two\n\ntwo:\n"
-    heads = "# Page\n## Octets\none\n## Both ends\ntwo\n"
     table = "| **Octets**: one | |\n| **Both ends**: none | |\n"
     other = "## Both ends\none two\n## Octets\ntwo\n"
+    heads = "# Page\n## Octets\none\n## Both ends\ntwo\n"
     tree = made(crates_txt=listed, docs__ARCHITECTURE_md=heads, docs__MAP_md=table, docs__PROVED_md=other)
     assert crates.houses(tree) == {"octets": ["one"], "both ends": ["two"]}
     assert crates.ordered(tree) == [
@@ -99,10 +99,11 @@ def test_paths(made: MakesTree) -> None:
     modules = "pub mod meant;\npub mod kept;\npub mod open;\nmod shut;\n"
     page = f"{modules}\npub use kept::A;\npub use open::{{B, C}};\npub use shut::D;\n"
     tree = made(
-        crates_txt="one:\n", crates__one__src__lib_rt=page, docs__DECISIONS_md="Two paths lead to `one::kept`.\n"
+        crates_txt="one:\n", crates__one__src__lib_rt=page, tools__upkeep__older_paths_txt="# Kept.\none::kept\n"
     )
     assert crates.paths(tree) == [
-        "crates/one/src/lib.rt: two paths lead to the names of open, and docs/DECISIONS.md does not say why"
+        "crates/one/src/lib.rt: two paths lead to the names of open, "
+        "and tools/upkeep/older_paths.txt does not have this one"
     ]
 
 
