@@ -1,10 +1,9 @@
 #!/usr/bin/env python3
-"""Writes what is made of the table of objects: the objects of mibs/DMS-PROFILE-MIB, and the table of docs/PROFILE.md.
-Of python/wisangub/objects/known.py are made the objects beside a sign's: those of mibs/DMS-DEVICE-MIB and
-mibs/RFC1213-MIB.
+"""Writes what is made of the tables of objects: of that of the sign's the objects of mibs/DMS-PROFILE-MIB, and of
+python/wisangub/objects/known.py, those beside a sign's, the objects of mibs/DMS-DEVICE-MIB and mibs/RFC1213-MIB.
 
-With --code it writes what the crates have of it too: the types of objects and of columns, the rows, and the matches of
-their numbers. The table is crates/dms_mib/specs/Objects.antt, whose limits have their numbers in
+With --code it writes what the crates have of the first too: the types of objects and of columns, the rows, and the
+matches of their numbers. That table is crates/dms_mib/specs/Objects.antt, whose limits have their numbers in
 crates/dms_codes/specs/Limits.antt. What is made stands between two marks; all else in a file is kept.
 With --check nothing is written, and the status is 1 where one of these files is not up to date."""
 
@@ -15,16 +14,14 @@ from collections.abc import Callable
 
 from mib_table import device
 from mib_table.code import CODE
-from mib_table.pages import mib_objects, profile_objects
+from mib_table.pages import mib_objects
 from mib_table.table import TABLE, BadTable, Object, read
 
 TOP = pathlib.Path(__file__).resolve().parent.parent
-_MIB, _PROFILE = "mibs/DMS-PROFILE-MIB", "docs/PROFILE.md"
-_DEVICE, _SYSTEM = "mibs/DMS-DEVICE-MIB", "mibs/RFC1213-MIB"
+_MIB, _DEVICE, _SYSTEM = "mibs/DMS-PROFILE-MIB", "mibs/DMS-DEVICE-MIB", "mibs/RFC1213-MIB"
 _BEGIN, _END = "-- the objects, made by tools/objects.py:", "-- the end of what is made"
 _PAGES: tuple[tuple[str, str, str, Callable[[list[Object]], str]], ...] = (
     (_MIB, _BEGIN, _END, mib_objects),
-    (_PROFILE, "<!-- objects, made by tools/objects.py -->", "<!-- the end of objects -->", profile_objects),
     (_DEVICE, _BEGIN, _END, lambda _: device.device_objects()),
     (_SYSTEM, _BEGIN, _END, lambda _: device.system_objects()),
 )

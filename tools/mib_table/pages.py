@@ -1,17 +1,13 @@
-"""The objects as the MIB module and docs/PROFILE.md have them."""
+"""The objects as the MIB module has them."""
 
 from __future__ import annotations
 
-import itertools
 import textwrap
 
 from mib_table.table import BadTable, Object, Syntax
 
 _WIDTH = 120
 _ACCESS = {"Read": "read-only", "Write": "read-write", "Command": "read-write"}
-_MARKS = {"Read": "", "Write": " (w)", "Command": " (c)"}
-_CELLS = ".c.t.n, column c of row n of type t"
-_ROW = 200  # columns of the page's table
 _HEAD = """\
 dmsMessageTable OBJECT-TYPE
     SYNTAX  SEQUENCE OF DmsMessageEntry
@@ -75,21 +71,3 @@ def mib_objects(objects: list[Object]) -> str:
     blocks = [_object_in_mib(entry) for entry in objects]
     blocks.insert(objects.index(columns[0]), _HEAD % sequence)
     return "\n\n".join(blocks)
-
-
-def _rows(front: str, objects: list[str]) -> list[str]:
-    """Rows of a page's table: as many of a node's objects in each as it has room for."""
-    words = ", ".join(words.replace(" ", "\0") for words in objects)
-    lines = textwrap.wrap(words, _ROW - len(f"{front} |"), break_on_hyphens=False)
-    return [front + line.replace("\0", " ") + " |" for line in lines]
-
-
-def profile_objects(objects: list[Object]) -> str:
-    """The rows of docs/PROFILE.md, by node."""
-    rows = ["| below dms | objects, each after its number |", "|---|---|"]
-    by_place = sorted(objects, key=lambda entry: entry.place)
-    for place, of_place in itertools.groupby(by_place, lambda entry: entry.place):
-        listed = list(of_place)
-        front = f"| {place}{_CELLS if listed[0].is_column else ''} | "
-        rows += _rows(front, [f"{entry.number} {entry.name}{_MARKS[entry.access]}" for entry in listed])
-    return "\n".join(rows)

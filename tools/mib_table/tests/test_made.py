@@ -5,7 +5,7 @@ import shutil
 
 import pytest
 from mib_table.code import CODE, COLUMN, OBJECTS, OCTETS, SCALAR
-from mib_table.pages import mib_objects, profile_objects
+from mib_table.pages import mib_objects
 from mib_table.table import TABLE, BadTable, Object, read
 
 TOP = pathlib.Path(__file__).resolve().parents[3]
@@ -36,8 +36,8 @@ def test_an_object_of_the_table_is_in_each_file_that_is_made(tmp_path: pathlib.P
     assert "7 => Some(Scalar::Trial)," in made[OCTETS]
     assert "2 => 7," in made[OCTETS]
     assert "Trial" not in made[COLUMN]
-    assert "| 2 | 3 vmsSignHeightPixels, 4 vmsSignWidthPixels, 7 vmsTrial (w) |" in profile_objects(objects)
     assert "vmsTrial OBJECT-TYPE\n    SYNTAX  INTEGER (3..9)\n    ACCESS  read-write\n" in mib_objects(objects)
+    assert '"A number."\n    ::= { vmsCfg 7 }' in mib_objects(objects)
 
 
 @pytest.mark.parametrize(
