@@ -33,8 +33,8 @@ def of_description(octets: bytes) -> Cause | None:
     kept, after = text.kept_lines(octets)
     found, at = first(kept, after)
     if found is None and at < len(kept):
-        return kept[at][0], "no line may stand after `end`"
-    return found
+        found = kept[at][0], "no line may stand after `end`"
+    return _with_unseen(found, kept)
 
 
 def before_lines(octets: bytes) -> Cause | None:
@@ -50,9 +50,20 @@ def of_script(octets: bytes) -> Cause | None:
     """Why these octets are no script; None where they are."""
     kept, after = text.kept_lines(octets)
     found, at = (None, 1) if kept and kept[0][1] == b"bench" else first(kept, after)
-    if found is not None:
-        return found
-    return next(((number, why) for number, line in kept[at:] if (why := _of_event(line)) is not None), None)
+    if found is None:
+        found = next(((number, why) for number, line in kept[at:] if (why := _of_event(line)) is not None), None)
+    return _with_unseen(found, kept)
+
+
+def _with_unseen(cause: Cause | None, kept: list[tuple[int, bytes]]) -> Cause | None:
+    """A cause, and what nobody sees in its line."""
+    line = b"" if cause is None else dict(kept).get(cause[0], b"")
+    if cause is not None and line.startswith(b"\xef\xbb\xbf"):
+        return cause[0], f"{cause[1]}; it begins with a byte order mark, the octets EF BB BF"
+    if cause is not None and b"\t" in line:
+        place = line.index(b"\t") + 1
+        return cause[0], f"{cause[1]}; its octet {place} is a tab, and words have a space between them"
+    return cause
 
 
 def _of_event(line: bytes) -> str | None:

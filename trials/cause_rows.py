@@ -30,6 +30,16 @@ _WORDS: list[Row] = [
     (10, b"glyph 49 2 zz 1", 10, "word 4: a picture in hexadecimal is wanted"),
     (17, b"end now", 17, "word 2: no more words are wanted"),
 ]
+_TAB = "; its octet %d is a tab, and words have a space between them"
+_MARK = "; it begins with a byte order mark, the octets EF BB BF"
+_UNSEEN: list[Row] = [
+    (1, b"\xef\xbb\xbfsize 23 14", 1, "word 1: the word size is wanted" + _MARK),
+    (1, b"\xef\xbb\xbfsize\t23 14", 1, "word 1: the word size is wanted" + _MARK),
+    (1, b"\xef\xbbsize\t23 14", 1, "word 1: the word size is wanted" + _TAB % 7),
+    (3, b"rows 2\t3\t4", 3, "word 2: a number from 0 to 255 is wanted" + _TAB % 7),
+    (17, b"end\t", 17, "a row, a font, a character or `end` is wanted" + _TAB % 4),
+    (17, b"end\n\n\tend", 19, "no line may stand after `end`" + _TAB % 1),
+]
 _PLACES: list[Row] = [
     (8, b"glyph 49 2 7554", 8, "a character stands after its font"),
     (10, b"glyph 49 2 zz", 10, "bits that do not fit the picture"),
@@ -91,6 +101,7 @@ _EVENTS: list[tuple[bytes, str]] = [
     (b"stop", "no event begins with this word"),
     (b" sign-tick", "no event begins with this word"),
     (b"sign-tick now", "word 2: no more words are wanted"),
+    (b"power-back\t5", "no event begins with this word" + _TAB % 11),
     (b"centre-tick ", "word 2: two spaces, or a space at an end of the line"),
     (b"to-sign", "word 2: the line ends where a number from 0 to 4294967295 is wanted"),
     (b"power-back -1", "word 2: a number from 0 to 4294967295 is wanted"),
@@ -114,7 +125,10 @@ def described() -> list[tuple[bytes, int, str]]:
     without = [b"#" if line.startswith((b"font ", b"glyph ")) else line for line in _LINES]
     beacons = _edited(8, b"permanent 42 - 1 0 100").replace(b"\nhas 1 0\n", b"\nhas 0 0\n")
     return [
-        *((_edited(number, line), at, words) for number, line, at, words in (*_WORDS, *_PLACES, *_SIGNS, *_ROWS)),
+        *(
+            (_edited(number, line), at, words)
+            for number, line, at, words in (*_WORDS, *_UNSEEN, *_PLACES, *_SIGNS, *_ROWS)
+        ),
         (b"\n".join(without), 17, "there is no font"),
         (beacons, 17, "permanent row 1: the sign has no beacons"),
         (b"", 1, "the text ends before its line `end`"),
@@ -125,7 +139,7 @@ def scripts() -> list[tuple[bytes, int, str]]:
     """The same of scripts: each event at fault, and a sign at fault."""
     return [
         *((b"bench\nsign-tick\n# more\n%s\nstop\n" % line, 4, words) for line, words in _EVENTS),
-        *((octets, at, words) for octets, at, words in described() if words != "no line may stand after `end`"),
+        *((octets, at, words) for octets, at, words in described() if not words.startswith("no line may stand")),
         (b"bench now\n", 1, "word 1: the word size is wanted"),
         (BENCH + b"stop\n", 18, "no event begins with this word"),
     ]

@@ -20,6 +20,7 @@ use Rattle.dms_replay.specs.RefusedScript.{IsRefusedIn}
 use Rattle.dms_replay.specs.Replayed.{NoScript}
 use Rattle.signtool_acts.specs.declared.refusal.Refusal.{Refusal}
 use Rattle.signtool_acts.specs.Refused.{names_line, says_empty}
+use Rattle.signtool_acts.specs.Unseen.{unseen_in}
 
 -- ---- an input that is read to its end: `slice` is lent of the octets that were read, which are all
 
@@ -91,3 +92,18 @@ pub empty_of_text : (slice text : List ℕ) (old new : Option (List ℕ)) (resul
     → IfErr result (λ refusal. IfSome old (λ octets. refusal.is_empty ≡ says_empty refusal.fault octets))
 empty_of_text slice text old new (Ok setup) lent taken holds = tt
 empty_of_text slice text old new (Err refusal) lent taken holds = empty_if_taken slice text old new refusal lent taken holds
+
+-- ---- what nobody sees in the line: the lines of what is taken are those up to and with the first `end`
+
+unseen_if_taken : (slice text : List ℕ) (old new : Option (List ℕ)) (refusal : Refusal) → slice ≡ text → TakesDescription old text new
+    → refusal.unseen ≡ unseen_in refusal.fault (lines slice) → IfSome old (λ octets. refusal.unseen ≡ unseen_in refusal.fault (lines_through_end (lines octets)))
+unseen_if_taken slice text None new refusal lent taken holds = tt
+unseen_if_taken slice text (Some octets) None refusal lent taken holds = absurd taken
+unseen_if_taken slice text (Some octets) (Some rest) refusal lent taken holds =
+    holds ∙ ap (λ t. unseen_in refusal.fault (lines t)) lent ∙ ap (λ l. unseen_in refusal.fault l) taken.1
+
+pub unseen_of_text : (slice text : List ℕ) (old new : Option (List ℕ)) (result : Result Setup Refusal) → slice ≡ text → TakesDescription old text new
+    → IfErr result (λ refusal. refusal.unseen ≡ unseen_in refusal.fault (lines slice))
+    → IfErr result (λ refusal. IfSome old (λ octets. refusal.unseen ≡ unseen_in refusal.fault (lines_through_end (lines octets))))
+unseen_of_text slice text old new (Ok setup) lent taken holds = tt
+unseen_of_text slice text old new (Err refusal) lent taken holds = unseen_if_taken slice text old new refusal lent taken holds

@@ -6,6 +6,8 @@ use Rattle.dms_sign_text.specs.declared.reading_fault.ReplayFault.TheVariants as
 use Rattle.dms_replay.specs.Reasons.{script_cause_text}
 use Rattle.dms_replay.specs.declared.reasons.ScriptCause.{ScriptCause}
 use Rattle.signtool_acts.specs.declared.refusal.Refusal.{Refusal}
+use Rattle.signtool_acts.specs.declared.unseen.Unseen.{Unseen}
+use Rattle.signtool_acts.specs.Unseen.{unseen_text}
 
 -- the line of the fault
 abbrev pub fault_line : ReplayFault → List ℕ
@@ -19,10 +21,16 @@ bare_line faults.Write = codes "the standard output could not be written\n"
 bare_line faults.TooLong = codes "the standard input has more than 1048576 octets\n"
 bare_line faults.Memory = codes "there is not enough memory\n"
 
+-- what nobody sees in the line, behind why it is refused
+abbrev pub unseen_words : Option Unseen → List ℕ
+unseen_words None = []
+unseen_words (Some unseen) = codes "; " ++ unseen_text unseen
+
 -- why the line that the fault names is refused; of another fault what it is
-abbrev pub cause_line : ReplayFault → Option ScriptCause → List ℕ
-cause_line fault None = bare_line fault
-cause_line fault (Some cause) = replay_fault_text fault ++ (codes ": " ++ script_cause_text cause ++ codes "\n")
+abbrev pub cause_line : ReplayFault → Option ScriptCause → Option Unseen → List ℕ
+cause_line fault None unseen = bare_line fault
+cause_line fault (Some cause) unseen =
+    replay_fault_text fault ++ (codes ": " ++ script_cause_text cause) ++ unseen_words unseen ++ codes "\n"
 
 -- what may help where there is nothing
 abbrev pub empty_line : Bool → List ℕ
@@ -31,4 +39,4 @@ empty_line true = codes "the standard input is empty: < FILE gives it one\n"
 
 -- what is said of the line
 abbrev pub said : Refusal → List ℕ
-said refusal = cause_line refusal.fault refusal.cause ++ empty_line refusal.is_empty
+said refusal = cause_line refusal.fault refusal.cause refusal.unseen ++ empty_line refusal.is_empty

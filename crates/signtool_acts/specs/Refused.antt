@@ -1,5 +1,5 @@
--- What the refusal of an input says: its fault, why the line that the fault names is refused, and whether the input has
--- nothing at all (this profile).
+-- What the refusal of an input says: its fault, why the line that the fault names is refused, what nobody sees in that
+-- line, and whether the input has nothing at all (this profile).
 use Rattle.std.specs.Prelude.{◌≡◌, ℕ, ◌==◌, ◌&&◌, Bool, true, false, List, length, None, Some, Result, Ok, Err}
 use Rattle.dms_sign_text.specs.Causes.{first_cause}
 use Rattle.dms_sign_text.specs.ReadingFaults.{IsLine}
@@ -12,7 +12,7 @@ use Rattle.signtool_acts.specs.declared.refusal.Refusal.{Refusal}
 
 -- a fault, and nothing beside it
 abbrev pub fault_alone : ReplayFault → Refusal
-fault_alone fault = record { fault = fault; cause = None; is_empty = false }
+fault_alone fault = record { fault = fault; cause = None; unseen = None; is_empty = false }
 
 -- what is answered, of a refusal the fault alone
 abbrev pub with_fault : {A : Type 0} → Result A Refusal → Result A ReplayFault

@@ -16,8 +16,11 @@ ghost use Rattle.dms_replay.specs.RefusedScript.{IsRefusedIn};
 ghost use Rattle.dms_replay.specs.Replayed.{Replayed, ReplayedPrefix, RunsLawfully, HasNoRoom, NoScript};
 ghost use Rattle.signtool_acts.specs.Refused.{with_fault, says_empty, SaysMoreOfLines, IsDescriptionCause};
 ghost use Rattle.signtool_acts.specs.Refused.{IsScriptCause};
+ghost use Rattle.signtool_acts.specs.Unseen.{unseen_in};
+ghost use Rattle.dms_text_streams.specs.DescriptionText.{lines_through_end};
 
 use crate::refusal::Refusal;
+use crate::unseen::unseen_in;
 use dms_replay::{ScriptCause, replay};
 use dms_sign_text::{DescriptionFault, ReplayFault, Setup, description, text_before, whole_input};
 use dms_text_streams::{Input, Sink, Source};
@@ -39,6 +42,8 @@ pub fn described_whole<R: Source>(alloc: Global, reader: &mut R) -> Result<Setup
     ensures no_write { with_fault result ≢ Err faults.Write }
     ensures cause { IfErr result (λ refusal. IfSome refusal.cause (λ cause. IfSome (R.remaining reader.old) (λ octets.
         IsDescriptionCause (kept_lines octets) refusal.fault cause))) }
+    ensures unseen { IfErr result (λ refusal. IfSome (R.remaining reader.old) (λ octets.
+        refusal.unseen ≡ unseen_in refusal.fault (lines octets))) }
     ensures empty { IfErr result (λ refusal. IfSome (R.remaining reader.old) (λ octets.
         refusal.is_empty ≡ says_empty refusal.fault octets)) }
     ensures more { IfErr result SaysMoreOfLines }
@@ -64,6 +69,8 @@ pub fn described_before<S: Source>(alloc: Global, input: &mut Input<S>) -> Resul
     ensures no_write { with_fault result ≢ Err faults.Write }
     ensures cause { IfErr result (λ refusal. IfSome refusal.cause (λ cause. IfSome (left S.remaining input.old)
         (λ octets. IsDescriptionCause (description_lines (lines octets)) refusal.fault cause))) }
+    ensures unseen { IfErr result (λ refusal. IfSome (left S.remaining input.old) (λ octets.
+        refusal.unseen ≡ unseen_in refusal.fault (lines_through_end (lines octets)))) }
     ensures empty { IfErr result (λ refusal. IfSome (left S.remaining input.old) (λ octets.
         refusal.is_empty ≡ says_empty refusal.fault octets)) }
     ensures more { IfErr result SaysMoreOfLines }
@@ -102,6 +109,8 @@ pub fn replayed<R: Source, W: Sink>(
     ensures all_written { with_fault result ≢ Err faults.Write → W.failed writer.new ≡ W.failed writer.old }
     ensures cause { IfErr result (λ refusal. IfSome refusal.cause (λ cause. IfSome (R.remaining reader.old) (λ octets.
         IsScriptCause octets refusal.fault cause))) }
+    ensures unseen { IfErr result (λ refusal. IfSome (R.remaining reader.old) (λ octets.
+        refusal.unseen ≡ unseen_in refusal.fault (lines octets))) }
     ensures empty { IfErr result (λ refusal. IfSome (R.remaining reader.old) (λ octets.
         refusal.is_empty ≡ says_empty refusal.fault octets)) }
     ensures more { IfErr result SaysMoreOfLines }
@@ -124,6 +133,7 @@ fn described_text(alloc: Global, octets: &[u8]) -> Result<Setup, Refusal>
     ensures short { with_fault result ≢ Err faults.TooLong }
     ensures cause { IfErr result (λ refusal.
         IfSome refusal.cause (IsDescriptionCause (kept_lines octets.now) refusal.fault)) }
+    ensures unseen { IfErr result (λ refusal. refusal.unseen ≡ unseen_in refusal.fault (lines octets.now)) }
     ensures empty { IfErr result (λ refusal. refusal.is_empty ≡ says_empty refusal.fault octets.now) }
     ensures more { IfErr result SaysMoreOfLines }
 {
@@ -132,6 +142,7 @@ fn described_text(alloc: Global, octets: &[u8]) -> Result<Setup, Refusal>
         Err(DescriptionFault::Line(number)) => Err(Refusal {
             fault: ReplayFault::Line(number),
             cause: description_cause(alloc, octets, number),
+            unseen: unseen_in(ReplayFault::Line(number), octets),
             is_empty: octets.is_empty(),
         }),
         Err(DescriptionFault::Memory) => Err(Refusal::from(ReplayFault::Memory)),
@@ -166,6 +177,7 @@ fn replayed_text<W: Sink>(alloc: Global, octets: &[u8], writer: &mut W) -> Resul
     ensures no_room { with_fault result ≡ Err faults.Write → HasNoRoom octets.now (W.room writer.old) }
     ensures all_written { with_fault result ≢ Err faults.Write → W.failed writer.new ≡ W.failed writer.old }
     ensures cause { IfErr result (λ refusal. IfSome refusal.cause (IsScriptCause octets.now refusal.fault)) }
+    ensures unseen { IfErr result (λ refusal. refusal.unseen ≡ unseen_in refusal.fault (lines octets.now)) }
     ensures empty { IfErr result (λ refusal. refusal.is_empty ≡ says_empty refusal.fault octets.now) }
     ensures more { IfErr result SaysMoreOfLines }
 {
@@ -181,6 +193,7 @@ fn script_refusal(alloc: Global, octets: &[u8], fault: ReplayFault) -> Refusal
     requires { length octets.now ≤ longest_input }
     ensures fault { result.fault ≡ fault }
     ensures cause { IfSome result.cause (IsScriptCause octets.now fault) }
+    ensures unseen { result.unseen ≡ unseen_in fault (lines octets.now) }
     ensures empty { result.is_empty ≡ says_empty fault octets.now }
     ensures more { SaysMoreOfLines result }
 {
@@ -188,6 +201,7 @@ fn script_refusal(alloc: Global, octets: &[u8], fault: ReplayFault) -> Refusal
         ReplayFault::Line(number) => Refusal {
             fault,
             cause: script_cause(alloc, octets, number),
+            unseen: unseen_in(fault, octets),
             is_empty: octets.is_empty(),
         },
         _ => Refusal::from(fault),

@@ -15,6 +15,7 @@ pub mod act;
 mod centre;
 mod inputs;
 mod refusal;
+mod unseen;
 
 pub use act::act_saying;
 pub use centre::live_centre;
@@ -22,3 +23,4 @@ pub use dms_text_streams::Counted;
 pub use inputs::{described_before, described_whole, replayed};
 pub use refusal::Refusal;
 pub use signtool_print::ExitStatus;
+pub use unseen::Unseen;

@@ -2,8 +2,9 @@
 
 ghost use Rattle.std.specs.Prelude.{OnOk, Some};
 ghost use Rattle.std.specs.Io.KnownBytes.{Appends};
-ghost use Rattle.signtool_acts.specs.RefusalText.{bare_line, cause_line};
+ghost use Rattle.signtool_acts.specs.RefusalText.{bare_line, cause_line, unseen_words};
 
+use crate::unseen::Unseen;
 use dms_replay::ScriptCause;
 use dms_sign_text::{ReplayFault, write_fault};
 use dms_text_streams::{Failed, Sink};
@@ -19,6 +20,8 @@ pub struct Refusal {
     pub fault: ReplayFault,
     /// Why the line that the fault names is refused.
     pub cause: Option<ScriptCause>,
+    /// What nobody sees in that line.
+    pub unseen: Option<Unseen>,
     /// Whether the input has nothing at all.
     pub is_empty: bool,
 }
@@ -33,6 +36,7 @@ impl From<ReplayFault> for Refusal {
         Refusal {
             fault,
             cause: None,
+            unseen: None,
             is_empty: false,
         }
     }
@@ -96,10 +100,10 @@ impl Refusal {
 
     fn say_cause<E: Write>(&self, errors: &mut E) -> io::Result<()>
         ensures { OnOk result (Appends (E.contents errors.old) (E.contents errors.new)
-            (cause_line self.now.fault self.now.cause)) }
+            (cause_line self.now.fault self.now.cause self.now.unseen)) }
     {
         match self.cause {
-            Some(cause) => say_line(self.fault, cause, errors),
+            Some(cause) => say_line(self.fault, cause, self.unseen, errors),
             None => say_bare(self.fault, errors),
         }
     }
@@ -115,13 +119,31 @@ impl Refusal {
     }
 }
 
-/// Says why the line that the fault names is refused.
+/// Says why the line that the fault names is refused, and what nobody sees in it.
 #[tactic(auto, using(crate::proofs::Parts::two_parts))]
-fn say_line<E: Write>(fault: ReplayFault, cause: ScriptCause, errors: &mut E) -> io::Result<()>
-    ensures { OnOk result (Appends (E.contents errors.old) (E.contents errors.new) (cause_line fault (Some cause))) }
+fn say_line<E: Write>(
+    fault: ReplayFault,
+    cause: ScriptCause,
+    unseen: Option<Unseen>,
+    errors: &mut E,
+) -> io::Result<()>
+    ensures { OnOk result
+        (Appends (E.contents errors.old) (E.contents errors.new) (cause_line fault (Some cause) unseen)) }
 {
     write_fault(errors, fault)?;
-    writeln!(errors, ": {cause}")
+    write!(errors, ": {cause}")?;
+    say_unseen(unseen, errors)?;
+    writeln!(errors)
+}
+
+/// Says what nobody sees in a line.
+fn say_unseen<E: Write>(unseen: Option<Unseen>, errors: &mut E) -> io::Result<()>
+    ensures { OnOk result (Appends (E.contents errors.old) (E.contents errors.new) (unseen_words unseen)) }
+{
+    match unseen {
+        Some(unseen) => write!(errors, "; {unseen}"),
+        None => Ok(()),
+    }
 }
 
 /// Says in words what a fault is that is of no line.

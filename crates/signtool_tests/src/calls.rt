@@ -101,13 +101,20 @@ fn calls_with_input(rt: HostRuntime) {
     }
 }
 
-/// The status of the call that a line is, and whether this is printed and that is said on the standard error.
-fn called_saying(alloc: Global, line: &str, printed: &str, said: &str) -> Option<(u8, bool, bool)> {
+/// The status of the call that a line is on this input, and whether this is printed and that is said on the standard
+/// error.
+fn told_on_input(
+    alloc: Global,
+    line: &str,
+    octets: &str,
+    printed: &str,
+    said: &str,
+) -> Option<(u8, bool, bool)> {
     let words = words_of(alloc, line).ok()?;
     let call = call_of(alloc, &words)?;
     let mut output = Vec::new(alloc);
     let mut errors = Vec::new(alloc);
-    let mut input: &[u8] = &[];
+    let mut input = octets.as_bytes();
     let status = act_saying(
         alloc,
         &call,
@@ -120,6 +127,20 @@ fn called_saying(alloc: Global, line: &str, printed: &str, said: &str) -> Option
         output.as_slice() == printed.as_bytes(),
         errors.as_slice() == said.as_bytes(),
     ))
+}
+
+/// The same on an empty input.
+fn called_saying(alloc: Global, line: &str, printed: &str, said: &str) -> Option<(u8, bool, bool)> {
+    told_on_input(alloc, line, "", printed, said)
+}
+
+/// A byte order mark and a tab, which nobody sees, are named behind why their line is refused.
+#[test]
+fn a_tab_and_a_byte_order_mark_are_named(rt: HostRuntime) {
+    for (line, input, printed, said) in cases::UNSEEN {
+        let found = told_on_input(rt.alloc(), line, input, printed, said);
+        assert_eq!(rt; found, Some((1, true, true)), "for {line}");
+    }
 }
 
 #[test]

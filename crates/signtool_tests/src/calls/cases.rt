@@ -817,6 +817,34 @@ code 3 1 A --address 1.2.3|bad address|2|an address is four numbers from 0 to 25
 activation 3 1 9a6|bad checksum|2|a checksum is four hexadecimal digits, and not `9a6`
 ";
 
+/// Inputs with what nobody sees in the line that is refused: the call, its input, what it prints, and what it says.
+pub static UNSEEN: [(&str, &str, &str, &str); 4] = [
+    (
+        "check --sign A",
+        "\u{FEFF}size 5 7\n",
+        "line 1\n",
+        "line 1: word 1: the word size is wanted; it begins with a byte order mark, the octets EF BB BF\n",
+    ),
+    (
+        "check --sign A",
+        "# a comment\nsize 5\t7\n",
+        "line 2\n",
+        "line 2: word 2: a number from 0 to 65535 is wanted; its octet 7 is a tab, and words have a space between them\n",
+    ),
+    (
+        "sign --sign",
+        "size 5 7\n\tcommunities public admin\nend\n",
+        "line 2\n",
+        "line 2: word 1: the word communities is wanted; its octet 1 is a tab, and words have a space between them\n",
+    ),
+    (
+        "replay",
+        "bench\nsign-tick\npower-back\t5\n",
+        "line 3\n",
+        "line 3: no event begins with this word; its octet 11 is a tab, and words have a space between them\n",
+    ),
+];
+
 /// What is said of a call on the standard error, beside what it prints.
 pub static SAID: [(&str, &str, u8, &str); 4] = [
     // the version
