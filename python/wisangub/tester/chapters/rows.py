@@ -127,21 +127,26 @@ def _settling(context: Context, row: Row) -> Iterator[Block]:
 
 
 def _at_their_edges(context: Context, row: Row) -> Iterator[Block]:
-    """A row with the most that its fields hold is stored, validated and shown, and then, while that is shown, the same
-    row with the least, and with the most but for its text; all of it is read. Last it is emptied of the most."""
+    """A row with the most that its fields hold is stored, validated and shown; while that is shown the same row with
+    the least; and the most but for its text: all of it is read. Last it is emptied of the most."""
     sides = (int(context.described.beacons), int(context.described.pixels))
-    text, owner = b"[cf]" * (MOST_TEXT // 4), b"o" * 127
-    current = Row(Memory.CURRENT, 1)
-    steps: list[Step] = [
+    text, owner, current = b"[cf]" * (MOST_TEXT // 4), b"o" * 127, Row(Memory.CURRENT, 1)
+    least: list[Step] = [modify(row), fill(row, b"", b"", 0, 0, 1), *look_at_each(current, rule="shown")]
+    most: list[Step] = [
         *_shown(context, row, text, owner, sides, 255),
-        *[activate(context.blank_code(1, 254)), reports()],
-        *[modify(row), fill(row, b"", b"", 0, 0, 1), *look_at_each(current, rule="shown")],
+        *[activate(context.blank_code(1, 254)), reports(), *least],
+    ]
+    yield Block("the most is stored and shown", "set", most, True)
+    after_the_most: list[Step] = [
+        *message(row, text, owner, *sides, 255),
+        *[activate(context.code(row, context.crc(text, *sides), minutes=30)), *least],
         *_shown(context, row, b"", b"", (0, 0), 1),
         *[activate(context.blank_code(1, 0)), activate(context.blank_code(1, 1)), reports()],
         *look_at_each(current, rule="shown"),
-        *_shown(context, row, b"", owner, sides, 255),
     ]
-    yield Block("the most, and then the least, is stored and shown", "set", steps, True)
+    yield Block("the least is stored and shown after the most", "set", after_the_most, True)
+    but_for_its_text = _shown(context, row, b"", owner, sides, 255)
+    yield Block("the most is stored and shown, but for its text", "set", but_for_its_text, True)
     lengths: list[Step] = [modify(row)]
     for length in (1, 63, 64, 65, 126, 127, 128, 255, 256, 257, 511):
         lengths += [put(row.text(b"t" * length), row.owner(b"o" * min(length, 127))), *look_at_each(row)[2:4]]
