@@ -30,6 +30,7 @@ MODULES = tuple(
         "load",
         "files",
         "claims",
+        "device_claims",
         "besides",
         "ways",
         "seconds",

@@ -16,12 +16,15 @@ from wisangub.tester.findings.classify import rule_of
 from wisangub.tester.findings.compare import Kind, fields, mismatch
 from wisangub.tester.findings.rules import CHAPTERS, RULES, is_in_profile
 from wisangub.tester.requests.objects import integer
-from wisangub.tester.requests.steps import Wait, get, put
+from wisangub.tester.requests.steps import Wait, datagrams, get, put
 from wisangub.tester.runs.repeat import steps_of
 from wisangub.tester.sign.clock import SimulatedClock
 from wisangub.tester.sign.described import described
 from wisangub.tester.sign.ticks import Ticks
 
+from .short import MODULES
+
+_LONGEST = 80  # datagrams of a case: on a way that loses one in five, longer ones are begun again too often
 HEIGHT = scalar("vmsSignHeightPixels")
 
 
@@ -128,6 +131,18 @@ def test_chapters_are_made_for_any_sign() -> None:
             assert all(step.rule == "" or step.rule in RULES for step in block.steps), block.name
             assert block.rule == "" or block.rule in RULES, block.name
     assert bench.run(bench.session(bare, requests=100, is_slow=True)).is_clean()
+
+
+def test_no_case_is_too_long_for_a_way_that_loses_some() -> None:
+    sign = described(text.BENCH)
+    context = Context(sign, (sign.reader, sign.writer), bench.ModelJudge(text.BENCH))
+    blocks = [block for chapter in ALL if not chapter.is_of_claims for block in chapter.blocks(context)]
+    assert len(blocks) > 1000 and not [block.name for block in blocks if datagrams(block.steps) > _LONGEST]
+
+
+def test_the_short_form_has_all_tests() -> None:
+    files = (TOP / "python/tests/tester").glob("test_*.py")
+    assert {f"tests.tester.{path.stem}" for path in files} == set(MODULES)
 
 
 def test_each_mutant_is_one_edit_of_a_rule() -> None:
