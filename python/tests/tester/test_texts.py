@@ -120,7 +120,7 @@ def test_there_are_six_wrong_signs_of_each_group() -> None:
     groups = Counter(mutant.group for mutant in MUTANTS if mutant.group)
     assert len(groups) == 8 and set(groups.values()) == {6}
     further = Counter(mutant.group for mutant in FURTHER)
-    assert len(further) == 8 and min(further.values()) >= 19 and sum(further.values()) == len(FURTHER) == 319
+    assert len(further) == 8 and min(further.values()) >= 20 and sum(further.values()) == len(FURTHER) == 320
     assert len({mutant.name for mutant in [*MUTANTS, *FURTHER]}) == len(MUTANTS) + len(FURTHER)
 
 
