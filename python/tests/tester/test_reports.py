@@ -172,6 +172,7 @@ def test_junit_has_a_case_a_difference_and_skips_what_was_not_asked_for() -> Non
     assert len(failed) == len(results.differences()) and failed[0].get("classname") == "conform.communities"
     skipped = [case.get("name") for case in suite.iter("testcase") if case.find("skipped") is not None]
     assert "silence" in skipped and suite.get("skipped") == str(len(skipped)) and suite.get("hostname") == ABOUT.to
+    assert [held.get("value") for held in suite[0].iter("property")] == [words.head(ABOUT)]
 
 
 def test_a_description_of_another_sign_ends_the_test_unless_it_goes_on_anyway() -> None:

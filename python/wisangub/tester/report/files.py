@@ -139,6 +139,8 @@ def as_junit(results: Results, about: About) -> str:
     """A test case a difference, one for each chapter that shows none, and the verdict as the last."""
     found = results.verdict()
     suite = ET.Element("testsuite", name="conform", hostname=about.to, timestamp=about.when.replace(" ", "T"))
+    properties = ET.SubElement(suite, "properties")
+    ET.SubElement(properties, "property", name="about", value=_printable(head(about)))
     for name in dict.fromkeys(["before", *CHAPTERS]):
         if name != "device" or results.trace.device:
             _chapter_cases(suite, name, results, about)
