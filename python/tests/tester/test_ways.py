@@ -202,6 +202,32 @@ def test_a_late_request_to_any_row_is_seen_on_the_way_back() -> None:
     assert status == {ROW.cell(Column.STATUS): integer(1)}
 
 
+@dataclass
+class Haunted(Losing):
+    """Up to a moment a request that was sent long ago comes once more before each."""
+
+    late: bytes = b""
+    until: float = 0.0
+
+    def send(self, sent: bytes) -> None:
+        if self.link.clock.now() < self.until:
+            waiting = len(self.link.waiting)
+            self.link.send(self.late)
+            del self.link.waiting[waiting:]
+        super().send(sent)
+
+
+def test_late_requests_that_undo_the_way_back_are_no_difference() -> None:
+    session, losing = begun()
+    late = put(ROW.status(RowStatus.MODIFY_REQ)).octets(session.pair.port.new_number(), WRITER)
+    haunted = Haunted(losing.link, late=late, until=session.pair.clock.now() + 0.9)
+    session.pair.port.link, session.pair.port.passed_over = haunted, 1
+    session.pair.is_dirty = True
+    unreached = session.reset.bring(False)
+    assert [held.name for held in unreached][:1] == [ROW.cell(Column.STATUS)]
+    assert session.pair.clock.now() < haunted.until and session.reset.reach() == []
+
+
 def answered(session: Session, *asks: Ask) -> None:
     """Requests whose replies come, on a way that lost some before: what is like them is known to be answered."""
     session.pair.port.passed_over = 1

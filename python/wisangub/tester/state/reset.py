@@ -15,6 +15,7 @@ from .unanswered import ours_reads
 from .validation_ticks import ValidationTicks
 
 _ROUNDS, _LOSSY_ROUNDS = 4, 12  # times that the sign is read and repaired; more where requests are lost
+_MORE = 3  # times that all of this is done once more there, each after what was late
 _MOST_KEPT = 400  # datagrams after which ours is begun anew
 _Read = dict[Name, Value | None]
 
@@ -98,6 +99,21 @@ class Reset:
         ]
         return sorted(unreached, key=lambda held: not held.is_refused())
 
+    def _brought(self, observe: bool) -> list[Unreached]:
+        """What cannot be brought to the known state. Where requests may come late, one of before may have undone it:
+        then it is tried again after time for what is still on its way."""
+        unreached = self.bring(observe)
+        for _ in range(_MORE if self.pair.port.is_lossy() else 0):
+            if not unreached:
+                break
+            self._listen()
+            unreached = self.bring(False)
+        return unreached
+
+    def _listen(self) -> None:
+        """Time for what is still on its way."""
+        self.pair.port.listen(max(self.pair.port.way.slowest, self.pair.port.wait))
+
     def _notice_reboot(self, have: _Read) -> None:
         """The sign shows what it shows when power comes back, and ours does not: it began anew by itself."""
         mode = scalar("dmsMsgSourceMode")
@@ -143,7 +159,7 @@ class Reset:
             if not looks_left:
                 return []
             if not wrong:
-                self.pair.port.listen(max(self.pair.port.way.slowest, self.pair.port.wait))
+                self._listen()
         return wrong
 
     def put(self, request: Ask, *names: Name) -> bool:
@@ -182,7 +198,7 @@ class Reset:
             return []
         unreached: list[Unreached] = []
         if observe or not is_alike or len(self.pair.log) > _MOST_KEPT or not self.go_together():
-            unreached = self.bring(observe)
+            unreached = self._brought(observe)
             self.pair.restart_ours()
             for request in (activate(self.context.refused_code), activate(self.context.known_code)):
                 self.pair.hand(request.octets(self.pair.port.new_number(), self.pair.communities))
@@ -208,7 +224,7 @@ class Reset:
         reached once more."""
         if self.pair.port.is_lossy():
             self.reach_or_end()
-            self.pair.port.listen(max(self.pair.port.way.slowest, self.pair.port.wait))
+            self._listen()
             self.pair.is_dirty = True
 
     def go_together(self) -> bool:
