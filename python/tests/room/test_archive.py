@@ -55,6 +55,7 @@ class Room:
         for table, column in (
             *(("lines", "at"), ("readings", "at"), ("readings", "heard"), ("audit", "at"), ("hearings", "heard")),
             *(("commands", "asked_at"), ("commands", "ended")),
+            *(("latest_readings", "at"), ("latest_readings", "shown_at"), ("latest_readings", "heard")),
         ):
             self.held.run(f"UPDATE {table} SET {column} = {column} - ?", days * DAY)
 

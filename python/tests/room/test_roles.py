@@ -1,5 +1,6 @@
 """The roles of PostgreSQL of the example roles.sql: a service works, and changes neither audit nor journals."""
 
+import datetime
 import pathlib
 import re
 from typing import Iterator
@@ -13,7 +14,8 @@ needs.modules("aiohttp", "jinja2", "psycopg")
 from trials.room.cluster import Cluster
 from wisangub.process.places import TOP
 from wisangub.refusal import Refusal
-from wisangub.room.store import database
+from wisangub.room.store import database, months
+from wisangub.room.store.audit import note
 from wisangub.room.store.database import Failed
 
 from .bench import HELLO, bench
@@ -26,6 +28,10 @@ DENIED = (
     "TRUNCATE audit",
     "DROP TABLE audit",
     "ALTER TABLE audit DISABLE TRIGGER ALL",
+    "DELETE FROM audit_other",
+    "UPDATE audit_other SET what = 'nothing'",
+    "DROP TABLE audit_other",
+    "ALTER TABLE audit DETACH PARTITION audit_other",
     "UPDATE lines SET line = ''",
     "DELETE FROM lines",
     "DELETE FROM commands",
@@ -71,6 +77,26 @@ def test_a_worker_of_the_service_s_role_changes_no_record(tmp_path: pathlib.Path
             with pytest.raises(Failed, match="permission denied|must be owner"):
                 held.run(statement)
         assert (held.run("SELECT * FROM audit"), held.run("SELECT * FROM lines")) == before and all(before)
+
+
+def test_the_service_s_role_makes_months_and_takes_none_away(role: str) -> None:
+    month = f"audit_{datetime.datetime.now(datetime.timezone.utc):%Y_%m}"
+    owner = database.connected(role.replace(f"{SERVICE}@", f"{OWNER}@"))
+    owner.run(f"DROP TABLE {month}")
+    service = database.opened(role)
+    note(service, "ann", "a thing")
+    assert service.run("SELECT tableoid::regclass::text FROM audit") == [(month,)]
+    assert len(service.run(f"SELECT * FROM {month}")) == 1, "so that it may make copies"
+    for statement in (f"DELETE FROM {month}", f"UPDATE {month} SET what = ''", f"DROP TABLE {month}"):
+        with pytest.raises(Failed, match="permission denied|must be owner"):
+            service.run(statement)
+    service.run("CREATE TEMPORARY TABLE audit_other (LIKE audit)")
+    service.run("CREATE TEMPORARY TABLE signs (id BIGINT PRIMARY KEY)")
+    owner.run(f"DROP TABLE {month}")
+    months.make(service)
+    assert owner.run("SELECT count(*) FROM pg_class WHERE relname = ?", month) == [(1,)], "no temporary table is taken"
+    service.close()
+    owner.close()
 
 
 def test_pages_of_the_service_s_role(tmp_path: pathlib.Path, role: str) -> None:

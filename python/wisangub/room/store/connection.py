@@ -9,7 +9,8 @@ How SQL is written, so that SQLite and PostgreSQL both take it:
   hexadecimal digits. A text holds no character of number 0.
 - `INSERT .. ON CONFLICT .. DO UPDATE`, `RETURNING` and partial indexes are there in both. `LIKE` differs (case), and a
   sum of BIGINT is written `CAST(sum(a) AS BIGINT)`.
-- A migration is `migrations/NNN_name.sql`: comments are lines of their own, a statement ends with `;` at a line's end.
+- A migration is `migrations/NNN_name.sql`: comments are lines of their own, a statement ends with `;` at a line's end,
+  but within a pair of `$$`. One that begins with `{postgresql}` is run by PostgreSQL alone.
 - PostgreSQL runs a transaction as "read committed", so others may write between two of its statements: what was looked
   at is looked at again by the statement that writes (`UPDATE .. WHERE .. RETURNING`), or a key decides, or
   `transaction(is_alone=True)` keeps out all others that are alone.
@@ -54,6 +55,7 @@ class Database:
     unlogged = ""  # before the word TABLE: it may be empty after a crash
     lock = ""  # at the end of a SELECT: its rows are this transaction's, in their order, until it ends
     skip = ""  # the same, without those that are another one's now
+    has_months = False  # whether some tables stand in a partition a month (months.py)
 
     def __init__(self) -> None:
         self.turn = threading.RLock()

@@ -7,6 +7,7 @@ from wisangub.process.places import called
 from wisangub.refusal import Refusal
 from wisangub.room.output import LOG
 
+from . import months
 from .connection import Away, Database, Failed, NotYet, Row, Taken, Value
 from .sqlite import Sqlite
 
@@ -29,6 +30,7 @@ RESTORING = (
     "restoring"  # a table of this name keeps all out of a database that python/wisangub/room/store/backup.py restores
 )
 _URLS = ("postgresql://", "postgres://")
+_POSTGRESQL = "{postgresql}"  # at the beginning of a statement that is PostgreSQL's alone
 _CARRIED = (
     f"From now on an earlier program refuses it: that one takes a copy that {called('wisangub-control backup copy')}"
     " made before"
@@ -41,9 +43,24 @@ def migrations(folder: pathlib.Path = _MIGRATIONS) -> list[tuple[int, str]]:
 
 
 def _statements(text: str) -> list[str]:
-    """The statements of a migration: comments are lines of their own, and a statement ends with a line's end."""
-    lines = [line for line in text.splitlines() if not line.startswith("--")]
-    return [one.strip() for one in "\n".join(lines).split(";\n") if one.strip(" ;\n")]
+    """The statements of a migration: comments are lines of their own, and a statement ends with a line's end, but for
+    those of a body between two `$$`."""
+    found = [""]
+    for line in text.splitlines():
+        if line.startswith("--"):
+            continue
+        found[-1] += line + "\n"
+        if line.endswith(";") and found[-1].count("$$") % 2 == 0:
+            found.append("")
+    return [one.strip(" ;\n") for one in found if one.strip(" ;\n")]
+
+
+def _own(database: Database, statement: str) -> str:
+    """A statement of a migration in a database's words; none where it is for another one."""
+    if statement.startswith(_POSTGRESQL) and not database.has_months:
+        return ""
+    statement = statement.removeprefix(_POSTGRESQL).strip()
+    return statement.replace("{key}", database.key).replace("{unlogged}", database.unlogged)
 
 
 def _numbers_of(database: Database) -> set[int]:
@@ -65,8 +82,8 @@ def migrate(database: Database, known: list[tuple[int, str]]) -> list[int]:
         for number, text in known:
             if number in found:
                 continue
-            for statement in _statements(text):
-                database.run(statement.replace("{key}", database.key).replace("{unlogged}", database.unlogged))
+            for statement in filter(None, (_own(database, one) for one in _statements(text))):
+                database.run(statement)
             database.run("INSERT INTO migrations (number, at) VALUES (?, {clock})", number)
             done.append(number)
     return done
@@ -103,6 +120,7 @@ def opened(where: str, may_create: bool = True) -> Database:
             LOG.info(
                 f"{_named(where)}: its tables are carried over by migration {', '.join(map(str, done))}. {_CARRIED}"
             )
+        months.make(database)
     except Away as away:
         raise NotYet(f"{_named(where)}: {away}", 1) from away
     except Failed as fault:

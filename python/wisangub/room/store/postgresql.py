@@ -52,6 +52,7 @@ class Postgresql(Database):
     unlogged = "UNLOGGED "
     lock = "FOR NO KEY UPDATE"
     skip = "FOR NO KEY UPDATE SKIP LOCKED"
+    has_months = True
 
     def __init__(self, url: str) -> None:
         super().__init__()

@@ -12,16 +12,13 @@ from .values import SLACK, places, text_or_none, time_of, time_or_none, whole, w
 _NEAR = 1000  # rows
 _SIGNS = """
 SELECT signs.id, signs.name, signs.place, signs.address, signs.poll,
-       last.at, last.fault, said.shown,
-       CASE WHEN hearings.newest = said.number THEN hearings.minutes ELSE said.minutes END, said.at,
-       CASE WHEN hearings.newest = said.number THEN COALESCE(hearings.heard, said.heard) ELSE said.heard END,
+       last.at, last.fault, last.shown,
+       CASE WHEN hearings.newest = last.shown_number THEN hearings.minutes ELSE last.minutes END, last.shown_at,
+       CASE WHEN hearings.newest = last.shown_number THEN COALESCE(hearings.heard, last.heard) ELSE last.heard END,
        signs.still
 FROM signs
 LEFT JOIN hearings ON hearings.sign = signs.id
-LEFT JOIN readings AS last ON last.sign = signs.id
-     AND last.number = (SELECT MIN(number) FROM readings WHERE sign = signs.id)
-LEFT JOIN readings AS said ON said.sign = signs.id
-     AND said.number = (SELECT MIN(number) FROM readings WHERE sign = signs.id AND shown IS NOT NULL)
+LEFT JOIN latest_readings AS last ON last.sign = signs.id
 """
 COMMANDS = (
     "SELECT commands.id, commands.sign, signs.name, commands.who, commands.asked_at, commands.line,"
@@ -134,10 +131,7 @@ def sign(database: Database, number: int) -> SignView | None:
 
 def newest_readings(database: Database) -> dict[int, int]:
     """The signs that were ever read, each with the number of the newest row of its readings."""
-    rows = database.run(
-        "SELECT id, number FROM (SELECT id, (SELECT MIN(number) FROM readings WHERE sign = signs.id) AS number"
-        " FROM signs) AS newest WHERE number IS NOT NULL"
-    )
+    rows = database.run("SELECT sign, number FROM latest_readings")
     return {whole(sign): whole(number) for sign, number in rows}
 
 

@@ -10,13 +10,29 @@ from dataclasses import dataclass
 from typing import Sequence
 
 from .connection import Database
-from .values import CLOCK, LEAST_NUMBER, places, text_or_none, whole, whole_or_none
+from .values import CLOCK, LEAST_NUMBER, places, text_or_none, time_of, whole, whole_or_none
 
 BLOCK = 64  # numbers that are taken for a sign at once
 _WRITTEN = 3600.0  # seconds after which a row says when it was heard, though nothing in it is new
 # one that was asked at a time to come is due: the clock jumped
 _DUE = (
     f"(hearings.read_at + (SELECT poll FROM signs WHERE id = hearings.sign) <= {CLOCK} OR hearings.read_at > {CLOCK})"
+)
+
+
+# a sign's newest row, which is written next
+_LATEST = (
+    "WITH found (sign, number, at, minutes, shown, fault) AS (SELECT CAST(? AS BIGINT), CAST(? AS BIGINT),"
+    f" {CLOCK}, CAST(? AS BIGINT), CAST(? AS TEXT), CAST(? AS TEXT))"
+    " INSERT INTO latest_readings (sign, number, at, fault, shown_number, shown_at, shown, minutes, heard)"
+    " SELECT sign, number, at, fault, CASE WHEN shown IS NOT NULL THEN number END,"
+    " CASE WHEN shown IS NOT NULL THEN at END, shown, minutes, CASE WHEN shown IS NOT NULL THEN at END"
+    " FROM found WHERE 1 = 1 ON CONFLICT (sign) DO UPDATE SET number = excluded.number, at = excluded.at,"
+    " fault = excluded.fault, shown_number = COALESCE(excluded.shown_number, latest_readings.shown_number),"
+    " shown_at = COALESCE(excluded.shown_at, latest_readings.shown_at),"
+    " shown = COALESCE(excluded.shown, latest_readings.shown),"
+    " minutes = CASE WHEN excluded.shown IS NULL THEN latest_readings.minutes ELSE excluded.minutes END,"
+    " heard = COALESCE(excluded.heard, latest_readings.heard)"
 )
 
 
@@ -33,12 +49,14 @@ class Said:
 
 @dataclass(frozen=True)
 class _Known:
-    """A sign's newest row, as this process knows it, and when it was written, in seconds since some time."""
+    """A sign's newest row, as this process knows it, and when it was written, in seconds since some time; `at` is its
+    own time, where it was read."""
 
     number: int
     shown: str | None
     fault: str | None
     written: float
+    at: float = 0.0
 
 
 class Readings:
@@ -185,12 +203,15 @@ class Readings:
 
     def _hold(self, signs: Sequence[int]) -> None:
         """The rows of hearings are this transaction's, in the order in which all take them, so that none waits for one
-        that waits for it."""
-        self._run(
+        that waits for it: so of two that have the same to say one comes after the other."""
+        held = (
             f"SELECT count(*) FROM (SELECT sign FROM hearings WHERE sign IN ({places(signs)})"
-            " ORDER BY sign {lock}) AS held",
-            *signs,
+            " ORDER BY sign {lock}) AS held"
         )
+        if whole(self._run(held, *signs)[0][0]) < len(signs):
+            sql = "INSERT INTO hearings (sign) VALUES (?) ON CONFLICT (sign) DO NOTHING"
+            self.database.run_all(sql, [(sign,) for sign in signs])
+            self._run(held, *signs)
 
     def _keep(self, said: Sequence[Said]) -> None:
         """One of a sign each."""
@@ -223,14 +244,9 @@ class Readings:
         if not said:
             return
         signs = [one.sign for one in said]
-        rows = self._run(
-            "SELECT sign, number, shown, fault FROM readings WHERE (sign, number) IN (SELECT sign, min(number)"
-            f" FROM readings WHERE sign IN ({places(signs)}) GROUP BY sign)",
-            *signs,
-        )
-        last = {whole(row[0]): _Known(whole(row[1]), text_or_none(row[2]), text_or_none(row[3]), now) for row in rows}
+        last = self._last(signs, now)
         said = [one for one in said if one.sign not in last or one.number < last[one.sign].number]
-        before = [(last[one.sign].number, one.sign) for one in said if one.sign in last]
+        before = [(last[one.sign].number, one.sign, last[one.sign].at) for one in said if one.sign in last]
         newest = {one.sign: last[one.sign] for one in said if one.sign in last}
         changed = [
             one
@@ -241,19 +257,41 @@ class Readings:
         self._write(before, changed, [(one, newest[one.sign].number) for one in said])
         self._known.update(newest)
 
-    def _write(self, before: list[tuple[int, int]], changed: Sequence[Said], heard: Sequence[tuple[Said, int]]) -> None:
+    def _last(self, signs: Sequence[int], now: float) -> dict[int, _Known]:
+        """The newest row of each of the signs that has one."""
+        rows = self._run(
+            "SELECT sign, number, CASE WHEN number = shown_number THEN shown END, fault, at FROM latest_readings"
+            f" WHERE sign IN ({places(signs)})",
+            *signs,
+        )
+        return {
+            whole(row[0]): _Known(whole(row[1]), text_or_none(row[2]), text_or_none(row[3]), now, time_of(row[4]))
+            for row in rows
+        }
+
+    def _write(
+        self, before: list[tuple[int, int, float]], changed: Sequence[Said], heard: Sequence[tuple[Said, int]]
+    ) -> None:
         """The rows before say until when they were heard; new ones begin; and signs were heard, with their rows."""
         run_all = self.database.run_all
         run_all(
             "UPDATE readings SET heard = hearings.heard, minutes = hearings.minutes FROM hearings"
-            " WHERE readings.number = ? AND readings.sign = ? AND hearings.sign = readings.sign"
+            " WHERE readings.number = ? AND readings.sign = ? AND readings.at = ? AND hearings.sign = readings.sign"
             " AND hearings.newest = readings.number AND hearings.heard IS NOT NULL",
-            before,
+            list(before),
         )
         run_all(
-            f"INSERT INTO readings (sign, number, at, heard, minutes, shown, fault)"
-            f" VALUES (?, ?, {CLOCK}, {CLOCK}, ?, ?, ?) ON CONFLICT (sign, number) DO NOTHING",
-            [(one.sign, one.number, one.minutes, one.shown, one.fault) for one in changed],
+            "UPDATE latest_readings SET heard = hearings.heard, minutes = hearings.minutes FROM hearings"
+            " WHERE latest_readings.sign = ? AND hearings.sign = latest_readings.sign"
+            " AND hearings.newest = latest_readings.shown_number AND hearings.heard IS NOT NULL",
+            [(sign,) for _, sign, _ in before],
+        )
+        run_all(_LATEST, [(one.sign, one.number, one.minutes, one.shown, one.fault) for one in changed])
+        run_all(
+            "INSERT INTO readings (sign, number, at, heard, minutes, shown, fault) SELECT sign, number, at, at,"
+            " CAST(? AS BIGINT), CAST(? AS TEXT), CAST(? AS TEXT) FROM latest_readings WHERE sign = ? AND number = ?"
+            " ON CONFLICT DO NOTHING",
+            [(one.minutes, one.shown, one.fault, one.sign, one.number) for one in changed],
         )
         run_all(
             f"INSERT INTO hearings (sign, newest, said, heard, minutes) VALUES (?, ?, ?, {CLOCK}, ?) ON CONFLICT (sign)"

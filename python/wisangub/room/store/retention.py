@@ -12,7 +12,7 @@ from typing import Any, Callable, Iterator
 
 from wisangub.refusal import Refusal
 
-from . import archives
+from . import archives, months
 from .archives import AUDIT, COMMAND, LINE, READING, Entry, Head, Sum
 from .audit import note
 from .connection import Database, Row, Value
@@ -83,20 +83,15 @@ def _commands(database: Database, until: float) -> Iterator[Row]:
 
 def _readings(database: Database, sign: int, until: float) -> Iterator[Row]:
     """Numbers of readings go down: those stay that say what the sign shows, and what was said since."""
-    newest = database.run(
-        "SELECT COALESCE((SELECT min(number) FROM readings WHERE sign = ? AND shown IS NOT NULL), min(number))"
-        " FROM readings WHERE sign = ?",
-        sign,
-        sign,
-    )[0][0]
-    if newest is None:
+    newest = database.run("SELECT COALESCE(shown_number, number) FROM latest_readings WHERE sign = ?", sign)
+    if not newest:
         return iter(())
     sql = (
         "SELECT sign, number, at, heard, minutes, shown, fault FROM readings WHERE sign = ? AND number > ?"
         " AND heard < ? AND number <> COALESCE((SELECT newest FROM hearings WHERE hearings.sign = readings.sign), 0)"
         " ORDER BY number LIMIT ?"
     )
-    return _sliced(lambda after: database.run(sql, sign, after, until, _SLICE), 1, whole(newest))
+    return _sliced(lambda after: database.run(sql, sign, after, until, _SLICE), 1, whole(newest[0][0]))
 
 
 def _lines(database: Database, sign: int, until: float) -> Iterator[Row]:
@@ -141,11 +136,18 @@ def take_out(database: Database, path: pathlib.Path, who: str) -> Sum:
     if head.database != identity(database):
         raise Refusal(f"{path} is an archive of another database")
     note(database, who, f"what {path.name} has is taken out: {found.told()}; SHA-256 {found.digest.hexdigest()}")
-    for kind, rows in itertools.groupby(archives.rows(path), key=lambda row: str(row["kind"])):
+    gone = months.drop(database, path, head.older_than)
+    left = (row for row in archives.rows(path) if not gone or (row["kind"], _month(row)) not in gone)
+    for kind, rows in itertools.groupby(left, key=lambda row: str(row["kind"])):
         while some := list(itertools.islice(rows, _TAKEN)):
             with database.transaction():
                 TAKERS[kind](database, some)
     return found
+
+
+def _month(row: Entry) -> str:
+    """The month of a row that stands in one."""
+    return months.month_of(row["at"]) if row["kind"] in months.TABLES else ""
 
 
 def _values(rows: list[Entry], *names: str) -> list[tuple[Any, ...]]:

@@ -1,5 +1,5 @@
 """What a worker reads: what signs show, their tables, what they say of themselves, and what they found wrong with a
-message; brightness, alarms, and plans.
+message; brightness, alarms, plans, and the coming months of the database.
 
 In a thread of its own, over a connection of its own, so that lines do not wait for it. A worker without one has it do
 its work between two rounds.
@@ -11,7 +11,7 @@ import time
 
 from wisangub.room.fleet import Sign
 from wisangub.room.output import LOG
-from wisangub.room.store import plans
+from wisangub.room.store import months, plans
 from wisangub.room.store.alarms import EVERY
 from wisangub.room.store.database import Failed, Taken
 from wisangub.room.store.store import Store
@@ -39,6 +39,7 @@ class Reader:
         self.brightness = Brightness(store, signs, self.gets)
         self.verdicts = Verdicts(store, signs, self.gets, mib, program)
         self.next_look, self.next_alarms, self.next_plans = 0.0, time.monotonic() + EVERY, 0.0
+        self.next_months = time.monotonic() + months.EVERY  # who opened the database has made those of now
         self.failing: float | None = None  # since when
         self.is_stopped = threading.Event()
         self.thread: threading.Thread | None = None
@@ -102,6 +103,9 @@ class Reader:
         if time.monotonic() >= self.next_plans:
             self.next_plans = time.monotonic() + plans.EVERY
             self.store.plans.look()
+        if time.monotonic() >= self.next_months:
+            self.next_months = time.monotonic() + months.EVERY
+            months.make(self.store.database)
 
     def stop(self) -> None:
         """Ends the thread, and lets all Gets go."""
