@@ -325,12 +325,16 @@ def test_a_sign_is_driven_on_after_an_archive(tmp_path: pathlib.Path, where: str
 
 
 @pytest.mark.parametrize(
-    "wanted", [{"who": "ann"}, {"outcome": "failed"}, {"outcome": "open"}, {"sign": 1}, {"before": 9}]
+    "wanted",
+    [
+        *({"who": "ann"}, {"outcome": "failed"}, {"outcome": "open"}, {"sign": 1}, {"before": 9}),
+        *({"sign": 1, "who": "ann"}, {"sign": 1, "outcome": "failed"}, {"who": "ann", "outcome": "failed"}),
+    ],
 )
 def test_the_history_is_by_an_index(tmp_path: pathlib.Path, wanted: dict[str, Any]) -> None:
     held = database.opened(str(tmp_path / "database"))
-    where, values = queries.Wanted(**wanted).where()
-    plan = str(held.run(f"EXPLAIN QUERY PLAN {queries.COMMANDS}{where} ORDER BY commands.id DESC LIMIT 50", *values))
+    sql, values = queries.asked_for(queries.Wanted(**wanted))
+    plan = str(held.run(f"EXPLAIN QUERY PLAN {sql}", *values))
     assert "SEARCH commands" in plan or "SCAN commands USING INDEX" in plan, plan
     assert "TEMP B-TREE" not in plan, "nothing is sorted"
     held.close()

@@ -10,6 +10,7 @@ from .messages import HEARD, OF_ROWS
 from .values import SLACK, places, text_or_none, time_of, time_or_none, whole, whole_or_none
 
 _NEAR = 1000  # rows
+_FEW = 20  # signs
 _SIGNS = """
 SELECT signs.id, signs.name, signs.place, signs.address, signs.poll,
        last.at, last.fault, last.shown,
@@ -203,7 +204,8 @@ class Wanted:
         )
         parts = [where.removeprefix(" WHERE ")] if where else []
         if self.signs is not None:
-            parts.append(f"commands.sign IN ({places(self.signs)})" if self.signs else "1 = 0")
+            # `+ 0`, so that it is by number or by what is open, of which there are few: see `_of_few`
+            parts.append(f"commands.sign + 0 IN ({places(self.signs)})" if self.signs else "1 = 0")
             values.extend(sorted(self.signs))
         outcome = {
             "accepted": "commands.outcome = 'accepted'",
@@ -238,10 +240,30 @@ def least(*numbers: int | None) -> int | None:
 def commands(database: Database, wanted: Wanted) -> list[CommandView]:
     first, last = within(database, "commands", "asked_at", wanted.since, wanted.until)
     wanted = replace(wanted, first=first, before=least(wanted.before, last))
+    sql, values = asked_for(wanted)
+    return list(map(command_view, database.run(sql, *values)))
+
+
+def asked_for(wanted: Wanted) -> tuple[str, list[Value]]:
+    """The statement that has these commands, and its values."""
+    if wanted.signs is not None and wanted.sign is not None:  # it is seen, or nothing is
+        wanted = replace(wanted, signs=None if wanted.sign in wanted.signs else frozenset())
+    if wanted.signs and len(wanted.signs) <= _FEW and wanted.outcome != "open":
+        return _of_few(wanted, sorted(wanted.signs))
     where, values = wanted.where()
-    return list(
-        map(command_view, database.run(f"{COMMANDS}{where} ORDER BY commands.id DESC LIMIT ?", *values, wanted.most))
-    )
+    return f"{COMMANDS}{where} ORDER BY commands.id DESC LIMIT ?", [*values, wanted.most]
+
+
+def _of_few(wanted: Wanted, signs: Sequence[int]) -> tuple[str, list[Value]]:
+    """Those of a few signs: of each the newest by the sign's own index, and of these the newest. By number it were a
+    look at all that was asked for of others."""
+    parts, values = [], list[Value]()
+    for sign_id in signs:
+        where, held = replace(wanted, sign=sign_id, signs=None).where()
+        parts.append(f"SELECT id FROM (SELECT id FROM commands{where} ORDER BY commands.id DESC LIMIT ?) AS of_one")
+        values += [*held, wanted.most]
+    of_all = f"SELECT id FROM ({' UNION ALL '.join(parts)}) AS of_all ORDER BY id DESC LIMIT ?"
+    return f"{COMMANDS} WHERE commands.id IN ({of_all}) ORDER BY commands.id DESC", [*values, wanted.most]
 
 
 def command(database: Database, number: int) -> CommandView | None:
