@@ -86,7 +86,7 @@ BOUNDS = (
         5,
         "a call for each font of a face, which has at most four, and one after the last",
         *FONTS,
-        guards=(("crates/dms_device_fonts/src/fonts.rt", "let fonts = self.face.fonts();"),),
+        guards=(("crates/dms_device_fonts/src/fonts.rt", "let fonts = face.fonts();"),),
     ),
     Bound(
         ("dms_device_fonts::next::first_cell",),

@@ -1,4 +1,4 @@
--- Where nothing is published, an agent is its sign.
+-- Where nothing is published and fonts cannot be read, an agent is its sign.
 use Rattle.std.proofs.Common.{◌≡◌, ℕ, Bool, true, false, cond, List, [], ◌∷◌, Option, Some, None, refl, sym, ap, ◌∙◌}
 use Rattle.std.proofs.lemmas.Bool.{and_parts}
 use Rattle.dms_wire.specs.declared.message.Kind.{Kind}
@@ -30,10 +30,10 @@ earliest_none (Some binding) = refl
 earliest_none None = refl
 
 value_alone : (s : SignState) (name : List ℕ) → agent_value (alone s) name ≡ value_of s name
-value_alone s name = or_none (value_of s name)
+value_alone s name = or_none (or_else (value_of s name) None) ∙ or_none (value_of s name)
 
 after_alone : (s : SignState) (name : List ℕ) → agent_after (alone s) name ≡ value_after s name
-after_alone s name = earliest_none (value_after s name)
+after_alone s name = earliest_none (earliest (value_after s name) None) ∙ earliest_none (value_after s name)
 
 values_alone : (s : SignState) → agent_value (alone s) ≡ value_of s
 values_alone s = λ i name. value_alone s name i
@@ -47,7 +47,7 @@ abbrev answer_to : SignState → SnmpMessage → Answer → AgentReceived
 answer_to s m x = of_sign (alone s) (record { reply = Some (sign.reply_to m x); after = sign.awake x.after; accepted = x.accepted })
 
 abbrev made : SignState → List ℕ → SignState → Option Activation → AgentReceived
-made s octets after accepted = record { reply = Some octets; after = record { sign = after; device = [] }; accepted = accepted }
+made s octets after accepted = record { reply = Some octets; after = alone after; accepted = accepted }
 
 same : (s : SignState) (one other : List ℕ) (x y : SignState) (o p : Option Activation) → one ≡ other → x ≡ y → o ≡ p
     → made s one x o ≡ made s other y p

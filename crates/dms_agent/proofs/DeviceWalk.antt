@@ -4,11 +4,11 @@ use Rattle.std.specs.Prelude.{option_map}
 use Rattle.std.specs.List.{list_all}
 use Rattle.std.proofs.lemmas.Bool.{and_parts, both_ways, false_from_ne_true}
 use Rattle.dms_wire.specs.Message.{ObjectValue, VarBind}
+use Rattle.dms_mib_replies.specs.Walk.{is_before, IsNext, Follows, IsWalk}
 use Rattle.dms_device.specs.Object.{DeviceObject}
-use Rattle.dms_device.specs.Objects.{is_before, has_name, comes_after, rises, device_value, device_after, binding_of}
+use Rattle.dms_device.specs.Objects.{has_name, comes_after, rises, device_value, device_after, binding_of}
 use Rattle.dms_device.proofs.Order.{same_name, names_itself, before_differs, none_of, all_after}
 use Rattle.dms_device.proofs.Found.{none_found}
-use Rattle.dms_agent.specs.Promises.{IsNext, Follows, IsWalk}
 
 -- the same is read after a name
 alike : (r t : List ℕ → Option ObjectValue) (name : List ℕ) (o : Option VarBind) → ((n : List ℕ) → is_before name n ≡ true → t n ≡ r n)

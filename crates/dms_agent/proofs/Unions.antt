@@ -5,10 +5,9 @@ use Rattle.std.proofs.lemmas.Bool.{both_ways}
 use Rattle.std.proofs.lemmas.Cmp.{nat_list_cmp_total, alike_right}
 use Rattle.dms_wire_ber.specs.NameOrder.{numbers_cmp}
 use Rattle.dms_wire.specs.Message.{ObjectValue, VarBind}
-use Rattle.dms_device.specs.Objects.{is_before}
+use Rattle.dms_mib_replies.specs.Walk.{is_before, IsNext, Follows, IsWalk}
 use Rattle.dms_device.proofs.Order.{before_trans}
 use Rattle.dms_agent.specs.Values.{or_else, earliest}
-use Rattle.dms_agent.specs.Promises.{IsNext, Follows, IsWalk}
 
 -- ---- the order of three names
 
@@ -73,3 +72,9 @@ joined r t name (Some b) (Some c) one other = chosen r t name b c (is_before c.n
 pub union : (r t : List ℕ → Option ObjectValue) (f g : List ℕ → Option VarBind) → IsWalk r f → IsWalk t g
     → IsWalk (λ name. or_else (r name) (t name)) (λ name. earliest (f name) (g name))
 union r t f g one other = λ name. joined r t name (f name) (g name) (one name) (other name)
+
+-- a walk of what is read, or of nothing
+pub walk_if : (b : Bool) (r : List ℕ → Option ObjectValue) (f : List ℕ → Option VarBind) → IsWalk r f
+    → IsWalk (λ name. cond b (r name) None) (λ name. cond b (f name) None)
+walk_if true r f is = λ name. is name
+walk_if false r f is = λ name other after. refl

@@ -29,7 +29,7 @@ pub record AgentReceived : Type 0 where
 abbrev pub dropped : Agent → AgentReceived
 dropped a = record { reply = None; after = a; accepted = None }
 
--- what came of it for the sign: the device stays
+-- what came of it for the sign: all else stays
 abbrev pub of_sign : Agent → sign.Received → AgentReceived
 of_sign a r = record { reply = r.reply; after = record a { sign = r.after }; accepted = r.accepted }
 
@@ -57,7 +57,7 @@ set_reply m (Some refusal) = reply_with m (error_status_number refusal.status) r
 abbrev pub device_set : Agent → SnmpMessage → Option Refusal → AgentReceived
 device_set a m refusal = record {
   reply = Some (set_reply m refusal);
-  after = record { sign = sign.after_get a.sign; device = written_unless a.device m.bindings refusal };
+  after = record a { sign = sign.after_get a.sign; device = written_unless a.device m.bindings refusal };
   accepted = None;
 }
 

@@ -1,47 +1,51 @@
-//! An agent: a sign, and the objects that firmware publishes beside it.
+//! An agent: a sign, perhaps with the objects of its fonts, and the objects that firmware publishes beside it.
 
-ghost use Rattle.std.specs.Prelude.{◌≡◌, false, [], None, map, Err, IsSome, OnOk, OnErr};
+ghost use Rattle.std.specs.Prelude.{◌≡◌, false, [], None, map, option_map, Err, IsSome, OnOk, OnErr};
 ghost use Rattle.std.specs.Borrow.{sem, follows};
 ghost use Rattle.std.specs.List.{list_any};
-ghost use Rattle.dms_sign.specs.Values.{value_of};
+ghost use Rattle.dms_wire.specs.View.{object_value};
 ghost use Rattle.dms_sign.specs.Events.{after_tick, after_ticks, after_power_loss, after_power_return};
 ghost use Rattle.dms_sign.specs.contracts.sign.Sign.{the_row as sign_row};
 ghost use Rattle.dms_agent.specs.contracts.agent.Agent.{the_row as agent_row};
+ghost use Rattle.dms_agent.specs.Values.{font_value, own_value, is_bare, showing_fonts};
 ghost use Rattle.dms_device.specs.Objects.{has_name};
 ghost use Rattle.dms_device.specs.Publishing.{published, withdrawn};
 ghost use Rattle.dms_agent.specs.declared.agent.PublishFault.TheVariants.{OfTheSign, OutOfMemory};
 ghost use Rattle.dms_device.specs.Taken.{told, told_first};
 
 use dms_device::{Device, Object};
+use dms_device_fonts::fonts_value;
 use dms_mib_replies::Objects;
 use dms_sign::Sign;
-use dms_wire::Oid;
+use dms_wire::{Oid, Value};
 use std::alloc::Global;
 
-/// A sign, and the objects that firmware publishes beside it.
+/// A sign, whether the objects of its fonts can be read, and the objects that firmware publishes beside it.
 #[derive(Drop)]
 pub struct Agent {
     pub(crate) sign: Sign,
     pub(crate) device: Device,
+    pub(crate) has_fonts: bool,
 }
 
 /// Why an object is not published.
 #[derive(Clone, Copy, Debug, PartialEq, Eq)]
 pub enum PublishFault {
-    /// The sign has an object of this name.
+    /// The sign has an object of this name, or its fonts have one that can be read.
     OfTheSign,
     /// There is no memory for it.
     OutOfMemory,
 }
 
 impl Agent {
-    /// A sign beside which nothing is published yet. No memory is taken.
+    /// A sign beside which nothing is published yet, and whose fonts cannot be read. No memory is taken.
     pub fn new(alloc: Global, sign: Sign) -> Agent
-        ensures { result ≡ record { sign = sign; device = [] } }
+        ensures { result ≡ record { sign = sign; device = []; has_fonts = false } }
     {
         Agent {
             sign,
             device: Device::new(alloc),
+            has_fonts: false,
         }
     }
 
@@ -68,17 +72,52 @@ impl Agent {
         &self.device
     }
 
-    /// Publishes an object, in place of the one that has its name, unless the sign has an object of that name. Where it
-    /// is refused, or there is no memory for it, nothing changes. It runs out of memory only for a new name.
+    /// From here on the objects of the sign's fonts can be read, unless an object is published already: then nothing
+    /// changes. It answers whether they can be. No memory is taken.
+    pub fn show_fonts(&mut self) -> bool
+        ensures after { self.new ≡ showing_fonts self.old }
+        ensures shown { result ≡ is_bare self.old }
+    {
+        if !self.device.objects().is_empty() {
+            return false;
+        }
+        self.has_fonts = true;
+        true
+    }
+
+    /// What a name reads of the sign's fonts, where these can be read.
+    fn font_value(&self, name: &Oid<'_>) -> Option<Value<'_>>
+        ensures { option_map object_value result ≡ font_value self.now name.now }
+    {
+        if self.has_fonts {
+            fonts_value(self.sign.face(), name)
+        } else {
+            None
+        }
+    }
+
+    /// What a name reads of the sign's own: its instances, and the objects of its fonts where these can be read.
+    pub fn own_value(&self, name: &Oid<'_>) -> Option<Value<'_>>
+        ensures { option_map object_value result ≡ own_value self.now name.now }
+    {
+        match self.sign.value(name) {
+            Some(value) => Some(value),
+            None => self.font_value(name),
+        }
+    }
+
+    /// Publishes an object, in place of the one that has its name, unless the sign has an object of that name, or its
+    /// fonts have one that can be read. Where it is refused, or there is no memory for it, nothing changes. It runs out
+    /// of memory only for a new name.
     pub fn publish(&mut self, object: Object) -> Result<(), PublishFault>
         ensures done { OnOk result (self.new ≡ record self.old { device = published self.old.device object }) }
-        ensures beside { OnOk result (value_of self.old.sign object.name ≡ None) }
+        ensures beside { OnOk result (own_value self.old object.name ≡ None) }
         ensures kept { OnErr result (self.new ≡ self.old) }
-        ensures of_the_sign { result ≡ Err OfTheSign → IsSome (value_of self.old.sign object.name) }
-        ensures memory { result ≡ Err OutOfMemory → value_of self.old.sign object.name ≡ None }
+        ensures of_the_sign { result ≡ Err OfTheSign → IsSome (own_value self.old object.name) }
+        ensures memory { result ≡ Err OutOfMemory → own_value self.old object.name ≡ None }
         ensures memory_new { result ≡ Err OutOfMemory → list_any (has_name object.name) self.old.device ≡ false }
     {
-        if self.sign.value(&object.name()).is_some() {
+        if self.own_value(&object.name()).is_some() {
             return Err(PublishFault::OfTheSign);
         }
         match self.device.publish(object) {

@@ -6,16 +6,18 @@ ghost use Rattle.dms_wire.specs.Message.{SnmpMessage};
 ghost use Rattle.dms_wire.specs.MessageOf.{message_of};
 ghost use Rattle.dms_wire.specs.Canonical.{canonical};
 ghost use Rattle.dms_wire.specs.Response.{response_to};
+ghost use Rattle.dms_mib_replies.specs.Walk.{IsWalk};
 ghost use Rattle.dms_sign.specs.State.{SignState};
 ghost use Rattle.dms_sign.specs.Reply.{received};
 ghost use Rattle.dms_agent.specs.declared.agent.Agent.{Agent};
 ghost use Rattle.dms_agent.specs.Values.{agent_value, agent_after};
 ghost use Rattle.dms_agent.specs.Received.{of_sign, agent_received};
-ghost use Rattle.dms_agent.specs.Promises.{alone, is_done, objects_after, IsWalk};
+ghost use Rattle.dms_agent.specs.Promises.{alone, is_done, objects_after};
 
 use crate::agent::Agent;
+use dms_device_fonts::laws::fonts_are_walked;
 
-/// Where nothing is published, what comes of a datagram is what comes of it for the sign.
+/// Where nothing is published and fonts cannot be read, what comes of a datagram is what comes of it for the sign.
 pub fn alone_it_is_the_sign()
     ensures { (s : SignState) (datagram : List ℕ)
         → agent_received (alone s) datagram ≡ of_sign (alone s) (received s datagram) }
@@ -33,11 +35,12 @@ pub fn what_is_done_is_never_too_big()
         → is_done a m ≡ true → (agent_received a datagram).reply ≡ Some (canonical (response_to m 0 0)) }
 {}
 
-/// A walk names each name that is read, of the sign's and the device's, once and in the order of names.
+/// A walk names each name that is read, of the sign's, its fonts' and the device's, once and in the order of names.
 pub fn walks_are_in_order(agent: &Agent)
     ensures { IsWalk (agent_value agent.now) (agent_after agent.now) }
 {
     agent.device.in_order();
+    fonts_are_walked();
 }
 
 /// Each reply fits a datagram.

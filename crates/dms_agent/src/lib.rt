@@ -1,5 +1,6 @@
-//! A sign and the objects that firmware publishes beside it, behind one address (this profile): a Get reads both, a
-//! GetNext walks both in the order of their names, and a Set whose names are all those of published objects is theirs.
+//! A sign, the objects of its fonts, and the objects that firmware publishes beside it, behind one address (this
+//! profile): a Get reads all, a GetNext walks all in the order of their names, and a Set whose names are all those of
+//! published objects is theirs. Whether fonts can be read is settled before an object is published (`show_fonts`).
 //!
 //! ```
 //! let mut agent = Agent::new(alloc, sign);

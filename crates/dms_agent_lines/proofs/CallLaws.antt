@@ -14,7 +14,7 @@ use Rattle.dms_device.specs.declared.access.Access.{Access}
 use Rattle.dms_device.specs.declared.access.Access.TheVariants.{ReadOnly, Number, Octets}
 use Rattle.dms_agent.specs.declared.agent.Agent.{Agent}
 use Rattle.dms_sign_lines.specs.Answer as sign
-use Rattle.dms_agent_lines.specs.AgentCall.{AgentCall, NewObject, receive, publish, withdraw, tell}
+use Rattle.dms_agent_lines.specs.AgentCall.{AgentCall, NewObject, receive, publish, withdraw, show_fonts, tell}
 use Rattle.dms_agent_lines.specs.AgentLine.{SpellsAccess, SpellsObject, SpellsCallWords, SpellsAgentCall, SpellsNoAgentCall}
 use Rattle.dms_agent_lines.specs.AgentReading.{number_access_at, octets_access_at, access_after, written_access_at, access_at, object_at, withdraw_at, keyword_of, call_after, call_of}
 use Rattle.dms_agent_lines.specs.AgentAnswer.{answer_text, after_line, call_text, after_call, text_if, after_if}
@@ -30,6 +30,7 @@ abbrev keyword_text : AgentKeyword → List ℕ
 keyword_text key.Datagram = codes "datagram"
 keyword_text key.Object = codes "object"
 keyword_text key.NoObject = codes "no-object"
+keyword_text key.Fonts = codes "fonts"
 keyword_text key.Objects = codes "objects"
 
 keyword_some : (keyword : AgentKeyword) → 0 < length (keyword_text keyword)
@@ -45,6 +46,7 @@ keyword_found word keyword e =
     by_text keyword_text word key.Datagram keyword _ e λ e.
     by_text keyword_text word key.Object keyword _ e λ e.
     by_text keyword_text word key.NoObject keyword _ e λ e.
+    by_text keyword_text word key.Fonts keyword _ e λ e.
     by_text keyword_text word key.Objects keyword _ e λ e.
     absurd (none-some keyword e)
 
@@ -182,6 +184,7 @@ after_found key.Object words call e =
     let made = mapped_some _ _ _ e in subst (λ call. SpellsCallWords call (codes "object" ∷ words)) made.2 (object_found words made.0 made.1)
 after_found key.NoObject words call e =
     let made = mapped_some _ _ _ e in subst (λ call. SpellsCallWords call (codes "no-object" ∷ words)) made.2 (withdraw_found words made.0 made.1)
+after_found key.Fonts words call e = bare_found SpellsCallWords (codes "fonts") (codes "fonts") show_fonts call words refl e refl
 after_found key.Objects words call e = bare_found SpellsCallWords (codes "objects") (codes "objects") tell call words refl e refl
 
 -- what is read of a line is what it spells
@@ -208,6 +211,7 @@ call_only line (publish object) spelled =
     line_read key.Object line _ spelled.words_are ∙ ap (option_map publish) (object_only object (words_of line) spelled)
 call_only line (withdraw name) spelled =
     line_read key.NoObject line _ spelled.words_are ∙ ap (option_map withdraw) (withdraw_only name spelled.word spelled.spelled)
+call_only line show_fonts spelled = line_read key.Fonts line [] spelled
 call_only line tell spelled = line_read key.Objects line [] spelled
 
 -- a line spells at most one call

@@ -5,18 +5,18 @@ use Rattle.std.specs.Prelude.{is_some}
 use Rattle.std.specs.List.{flat_map}
 use Rattle.dms_wire_ber.specs.NameText.{dotted}
 use Rattle.dms_codes.specs.declared.codes.Order.{Order}
-use Rattle.dms_sign.specs.Values.{value_of}
 use Rattle.dms_device.specs.Object.{DeviceObject, fits}
 use Rattle.dms_device.specs.Objects.{device_value}
 use Rattle.dms_device.specs.Publishing.{published, withdrawn}
 use Rattle.dms_device.specs.Taken.{told}
 use Rattle.dms_agent.specs.declared.agent.Agent.{Agent}
+use Rattle.dms_agent.specs.Values.{own_value, is_bare, showing_fonts}
 use Rattle.dms_agent.specs.Received.{AgentReceived, agent_received}
 use Rattle.dms_text_forms.specs.LineText.{ended}
 use Rattle.dms_text_streams.specs.Conversation.{ok_line}
 use Rattle.dms_text_values.specs.ValueText.{value_text}
 use Rattle.dms_sign_lines.specs.Answer as sign
-use Rattle.dms_agent_lines.specs.AgentCall.{AgentCall, NewObject, receive, publish, withdraw, tell}
+use Rattle.dms_agent_lines.specs.AgentCall.{AgentCall, NewObject, receive, publish, withdraw, show_fonts, tell}
 use Rattle.dms_agent_lines.specs.AgentReading.{call_of}
 
 -- ---- parts of answers
@@ -42,7 +42,7 @@ set_lines objects = flat_map set_line objects
 abbrev pub publish_refusal : Agent → NewObject → Option (List ℕ)
 publish_refusal a object =
     if not (fits object.access object.value) then Some (codes "the value is not one that its access takes")
-    else if is_some (value_of a.sign object.name) then Some (codes "the sign has an object of this name")
+    else if is_some (own_value a object.name) then Some (codes "the sign has an object of this name")
     else None
 
 abbrev pub refused_or_ok : Option (List ℕ) → List ℕ
@@ -73,18 +73,25 @@ abbrev pub after_withdraw : Agent → List ℕ → Agent
 after_withdraw a name =
     if is_some (device_value a.device name) then record a { device = withdrawn a.device name } else a
 
+-- ---- fonts
+
+abbrev pub fonts_text : Agent → List ℕ
+fonts_text a = if is_bare a then ok_line else refused (codes "objects are published already")
+
 -- ---- calls
 
 abbrev pub call_text : Agent → AgentCall → List ℕ
 call_text a (receive octets) = received_text a.sign.table.order (agent_received a octets)
 call_text a (publish object) = publish_text a object
 call_text a (withdraw name) = withdraw_text a name
+call_text a show_fonts = fonts_text a
 call_text a tell = set_lines a.device ++ ok_line
 
 abbrev pub after_call : Agent → AgentCall → Agent
 after_call a (receive octets) = (agent_received a octets).after
 after_call a (publish object) = after_publish a object
 after_call a (withdraw name) = after_withdraw a name
+after_call a show_fonts = showing_fonts a
 after_call a tell = record a { device = map told a.device }
 
 -- ---- lines

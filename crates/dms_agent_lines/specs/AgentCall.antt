@@ -15,5 +15,7 @@ pub data AgentCall : Type 0 where
   publish : (object : NewObject) → AgentCall
   -- the object of this name is withdrawn
   withdraw : (name : List ℕ) → AgentCall
+  -- from here on the objects of the sign's fonts can be read
+  show_fonts : AgentCall
   -- firmware is told which objects a manager set
   tell : AgentCall

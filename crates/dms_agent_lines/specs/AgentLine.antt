@@ -5,7 +5,7 @@ use Rattle.dms_text.specs.Octets.{SpellsOctets}
 use Rattle.dms_text_forms.specs.Fields.{SpellsTwoOctets, SpellsOne}
 use Rattle.dms_device.specs.declared.access.Access.{Access}
 use Rattle.dms_device.specs.declared.access.Access.TheVariants.{ReadOnly, Number, Octets}
-use Rattle.dms_agent_lines.specs.AgentCall.{AgentCall, NewObject, receive, publish, withdraw, tell}
+use Rattle.dms_agent_lines.specs.AgentCall.{AgentCall, NewObject, receive, publish, withdraw, show_fonts, tell}
 use Rattle.dms_agent_lines.specs.ObjectFields.{SpellsName, SpellsInteger}
 use Rattle.dms_agent_lines.specs.ValueLine.{SpellsValue}
 
@@ -38,6 +38,7 @@ abbrev pub SpellsCallWords : AgentCall → List (List ℕ) → Type 0
 SpellsCallWords (receive octets) words = SpellsOne (codes "datagram") (SpellsOctets octets) words
 SpellsCallWords (publish object) words = SpellsObject object words
 SpellsCallWords (withdraw name) words = SpellsOne (codes "no-object") (SpellsName name) words
+SpellsCallWords show_fonts words = words ≡ codes "fonts" ∷ []
 SpellsCallWords tell words = words ≡ codes "objects" ∷ []
 
 -- the line of a call: its words, with one space between two

@@ -7,7 +7,7 @@ use Rattle.dms_text_values.specs.NameReading.{name_of}
 use Rattle.dms_text_values.specs.ValueReading.{integer_at, value_at}
 use Rattle.dms_device.specs.declared.access.Access.{Access}
 use Rattle.dms_device.specs.declared.access.Access.TheVariants.{ReadOnly, Number, Octets}
-use Rattle.dms_agent_lines.specs.AgentCall.{AgentCall, NewObject, receive, publish, withdraw, tell}
+use Rattle.dms_agent_lines.specs.AgentCall.{AgentCall, NewObject, receive, publish, withdraw, show_fonts, tell}
 use Rattle.dms_agent_lines.specs.declared.keywords.AgentKeyword.{AgentKeyword}
 use Rattle.dms_agent_lines.specs.declared.keywords.AgentKeyword.TheVariants as key
 
@@ -66,6 +66,7 @@ keyword_of word =
     if same_octets word (codes "datagram") then Some key.Datagram
     else if same_octets word (codes "object") then Some key.Object
     else if same_octets word (codes "no-object") then Some key.NoObject
+    else if same_octets word (codes "fonts") then Some key.Fonts
     else if same_octets word (codes "objects") then Some key.Objects
     else None
 
@@ -74,6 +75,7 @@ abbrev pub call_after : AgentKeyword → List (List ℕ) → Option AgentCall
 call_after key.Datagram words = option_map receive (last_octets_at words)
 call_after key.Object words = option_map publish (object_at words)
 call_after key.NoObject words = option_map withdraw (withdraw_at words)
+call_after key.Fonts words = if_last show_fonts words
 call_after key.Objects words = if_last tell words
 
 -- the call of a line, if it is one of these

@@ -7,4 +7,5 @@ abbrev pub call_model : AgentCall → model.AgentCall
 call_model (calls.Receive octets) = model.receive octets.items
 call_model (calls.Publish object) = model.publish object
 call_model (calls.Withdraw name) = model.withdraw name
+call_model calls.ShowFonts = model.show_fonts
 call_model calls.Tell = model.tell

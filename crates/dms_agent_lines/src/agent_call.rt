@@ -13,6 +13,8 @@ pub(crate) enum AgentCall<'a> {
     Publish(ObjectWords<'a>),
     /// `no-object NAME`: the object of a name is withdrawn.
     Withdraw(NameRead),
+    /// `fonts`: the objects of the sign's fonts can be read.
+    ShowFonts,
     /// `objects`: firmware is told which objects a manager set.
     Tell,
 }

@@ -3,18 +3,18 @@
 ghost use Rattle.std.specs.Prelude.{◌≡◌, ◌++◌, true, false, None, map, codes, IfOk, IfErr, OnOk, OnErr};
 ghost use Rattle.dms_wire_ber.specs.NameText.{dotted};
 ghost use Rattle.dms_wire.specs.View.{object_value};
-ghost use Rattle.dms_sign.specs.Values.{value_of};
 ghost use Rattle.dms_device.specs.Object.{can_be_sent, fits};
 ghost use Rattle.dms_device.specs.declared.fault.ObjectFault.TheVariants.{OutOfMemory};
 ghost use Rattle.dms_device.specs.Publishing.{published};
 ghost use Rattle.dms_device.specs.Taken.{told};
+ghost use Rattle.dms_agent.specs.Values.{own_value, showing_fonts};
 ghost use Rattle.dms_agent.specs.Received.{agent_received};
 ghost use Rattle.dms_text_streams.specs.Conversation.{ok_line};
 ghost use Rattle.dms_text_values.specs.ValueText.{value_text};
 ghost use Rattle.dms_agent_lines.specs.CallView.{call_model};
 ghost use Rattle.dms_agent_lines.specs.AgentAnswer.{answer_text, after_line, call_text, after_call, received_text};
 ghost use Rattle.dms_agent_lines.specs.AgentAnswer.{publish_text, after_publish, withdraw_text, after_withdraw};
-ghost use Rattle.dms_agent_lines.specs.AgentAnswer.{refused, set_line, set_lines};
+ghost use Rattle.dms_agent_lines.specs.AgentAnswer.{fonts_text, refused, set_line, set_lines};
 
 use crate::agent_call::{AgentCall, ObjectWords};
 use crate::reading::call;
@@ -35,6 +35,7 @@ use std::io::Write;
 /// datagram OCTETS            the sign and the objects receive it: `reply OCTETS`, `accepted CODE OCTETS` or `dropped`
 /// object NAME VALUE ACCESS   an object is published: `ok`, or `refused` and why
 /// no-object NAME             the object of a name is withdrawn: `ok`, or `refused there is no object of this name`
+/// fonts                      the sign's fonts can be read: `ok`, or `refused objects are published already`
 /// objects                    firmware is told which objects a manager set: a line `set NAME VALUE` for each, and `ok`
 /// ```
 ///
@@ -61,6 +62,7 @@ fn carry_out(alloc: Global, agent: &mut Agent, call: &AgentCall<'_>) -> Result<V
         AgentCall::Receive(octets) => receive(alloc, agent, octets.as_slice()),
         AgentCall::Publish(object) => publish(alloc, agent, object),
         AgentCall::Withdraw(name) => withdraw(alloc, agent, name),
+        AgentCall::ShowFonts => show_fonts(alloc, agent),
         AgentCall::Tell => tell(alloc, agent),
     }
 }
@@ -96,7 +98,7 @@ fn publish(
         return refused(alloc, "the value is not one that its access takes");
     }
     let name = object.name.oid();
-    if agent.sign().value(&name).is_some() {
+    if agent.own_value(&name).is_some() {
         return refused(alloc, "the sign has an object of this name");
     }
     let done = ok_line(alloc)?;
@@ -126,7 +128,7 @@ fn made(
 
 /// Publishes an object whose name the sign has not, and gives the answer.
 fn published(agent: &mut Agent, object: Object, done: Vec<u8>) -> Result<Vec<u8>, AllocError>
-    requires { value_of agent.old.sign object.name ≡ None }
+    requires { own_value agent.old object.name ≡ None }
     ensures text { IfOk result (λ text. text ≡ done) }
     ensures after { OnOk result
         (agent.new ≡ record agent.old { device = published agent.old.device object }) }
@@ -152,6 +154,20 @@ fn withdraw(alloc: Global, agent: &mut Agent, name: &NameRead) -> Result<Vec<u8>
     }
     agent.withdraw(&name);
     Ok(done)
+}
+
+/// From here on the objects of fonts can be read, or it says why not.
+fn show_fonts(alloc: Global, agent: &mut Agent) -> Result<Vec<u8>, AllocError>
+    ensures text { IfOk result (λ text. text.items ≡ fonts_text agent.old) }
+    ensures after { OnOk result (agent.new ≡ showing_fonts agent.old) }
+    ensures memory { OnErr result (agent.new ≡ agent.old) }
+{
+    let done = ok_line(alloc)?;
+    if agent.show_fonts() {
+        Ok(done)
+    } else {
+        refused(alloc, "objects are published already")
+    }
 }
 
 /// Tells firmware which objects a manager set.

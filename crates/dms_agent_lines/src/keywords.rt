@@ -8,6 +8,7 @@ pub(crate) enum AgentKeyword {
     Datagram,
     Object,
     NoObject,
+    Fonts,
     Objects,
 }
 
@@ -26,6 +27,8 @@ impl AgentKeyword {
             Some(AgentKeyword::Object)
         } else if are_same(word, b"no-object") {
             Some(AgentKeyword::NoObject)
+        } else if are_same(word, b"fonts") {
+            Some(AgentKeyword::Fonts)
         } else if are_same(word, b"objects") {
             Some(AgentKeyword::Objects)
         } else {

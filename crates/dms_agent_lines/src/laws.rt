@@ -31,8 +31,9 @@ pub fn answers_are_those_of_calls()
         → after_line a line ≡ record a { sign = sign.after_line a.sign line } }
 {}
 
-/// Where nothing is published, the answer to a line that neither publishes nor withdraws nor asks what was set is the
-/// sign's, octet for octet, and what is left is the sign that its own line leaves.
+/// Where nothing is published and fonts cannot be read, the answer to a line that neither publishes nor withdraws, nor
+/// lets fonts be read, nor asks what was set is the sign's, octet for octet, and what is left is the sign that its own
+/// line leaves.
 pub fn alone_it_is_the_sign()
     ensures text { (s : SignState) (line : List ℕ) → IsOfSign (call_of line)
         → answer_text (alone s) line ≡ sign.answer_text s line }

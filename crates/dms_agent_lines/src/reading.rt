@@ -40,6 +40,7 @@ pub(crate) fn call(alloc: Global, line: &[u8]) -> Result<Option<AgentCall<'_>>, 
             Some(name) => Ok(Some(AgentCall::Withdraw(name))),
             None => Ok(None),
         },
+        AgentKeyword::Fonts => Ok(alone(words, AgentCall::ShowFonts)),
         AgentKeyword::Objects => Ok(alone(words, AgentCall::Tell)),
     }
 }

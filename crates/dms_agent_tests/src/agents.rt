@@ -18,6 +18,9 @@ static HEIGHT: [u8; 13] = [43, 6, 1, 4, 1, 137, 54, 4, 2, 3, 2, 3, 0];
 /// dmsIllumManLevel.0, 7.6.0 below dms (NTCIP 1203): after all objects of a sign.
 static LEVEL: [u8; 13] = [43, 6, 1, 4, 1, 137, 54, 4, 2, 3, 7, 6, 0];
 
+/// numFonts.0, 3.1.0 below dms (NTCIP 1203): the first object of a sign's fonts.
+static FONTS: [u8; 13] = [43, 6, 1, 4, 1, 137, 54, 4, 2, 3, 3, 1, 0];
+
 /// A name after both.
 static LAST: [u8; 3] = [43, 6, 2];
 
@@ -170,5 +173,38 @@ fn a_name_of_the_sign_is_not_published(rt: HostRuntime) -> Result<(), Fail> {
     assert!(rt; found == Err(PublishFault::OfTheSign));
     let name = Oid::of(&LEVEL).ok_or("no name")?;
     assert!(rt; agent.withdraw(&name) && !agent.withdraw(&name));
+    Ok(())
+}
+
+/// Fonts are read and walked once they are shown; no manager writes them, and nothing is published in their place.
+#[test]
+fn fonts_are_read_once_they_are_shown(rt: HostRuntime) -> Result<(), Fail> {
+    let mut agent = Agent::new(rt.alloc(), bench_sign(rt.alloc())?);
+    let asked = [binding(&FONTS, Value::Null)?];
+    let reply = exchange(&mut agent, b"public", Kind::Get, &asked)?;
+    check_reply(&rt, &reply, (2, 1), &asked[0])?;
+    assert!(rt; agent.show_fonts() && agent.show_fonts());
+    let two = binding(&FONTS, Value::Integer(2))?;
+    let reply = exchange(&mut agent, b"public", Kind::Get, &asked)?;
+    check_reply(&rt, &reply, (0, 0), &two)?;
+    let node = [binding(&FONTS[..11], Value::Null)?];
+    let reply = exchange(&mut agent, b"public", Kind::GetNext, &node)?;
+    check_reply(&rt, &reply, (0, 0), &two)?;
+    let three = [binding(&FONTS, Value::Integer(3))?];
+    let reply = exchange(&mut agent, b"admin", Kind::Set, &three)?;
+    check_reply(&rt, &reply, (2, 1), &three[0])
+}
+
+#[test]
+fn a_name_of_the_fonts_is_not_published(rt: HostRuntime) -> Result<(), Fail> {
+    let mut agent = Agent::new(rt.alloc(), bench_sign(rt.alloc())?);
+    let nine = Value::Integer(9);
+    let found = publish(&mut agent, rt.alloc(), &FONTS, &nine, Access::ReadOnly);
+    assert!(rt; found == Ok(()) && !agent.show_fonts());
+    let name = Oid::of(&FONTS).ok_or("no name")?;
+    assert!(rt; agent.own_value(&name).is_none() && agent.withdraw(&name) && agent.show_fonts());
+    let found = publish(&mut agent, rt.alloc(), &FONTS, &nine, Access::ReadOnly);
+    assert!(rt; found == Err(PublishFault::OfTheSign));
+    assert!(rt; agent.own_value(&name) == Some(Value::Integer(2)));
     Ok(())
 }

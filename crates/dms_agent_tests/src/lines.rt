@@ -91,6 +91,29 @@ fn objects_are_refused(rt: HostRuntime) -> Result<(), Fail> {
     Ok(())
 }
 
+/// Fonts stand before objects.
+static FONTS: [(&str, &str); 9] = [
+    ("fonts", "ok\n"),
+    ("fonts 1", "bad line\n"),
+    (
+        "object 1.3.6.1.4.1.1206.4.2.3.3.1.0 INTEGER 9",
+        "refused the sign has an object of this name\n",
+    ),
+    ("object 1.3 NULL", "ok\n"),
+    ("fonts", "refused objects are published already\n"),
+    ("no-object 1.3", "ok\n"),
+    ("fonts", "ok\n"),
+    ("power-lost", "ok\n"),
+    ("fonts", "ok\n"),
+];
+
+#[test]
+fn fonts_stand_before_objects(rt: HostRuntime) -> Result<(), Fail> {
+    let mut agent = agent(rt.alloc())?;
+    assert!(rt; answers(rt.alloc(), &mut agent, &FONTS)?);
+    Ok(())
+}
+
 /// Lines that are none.
 static BAD: [(&str, &str); 8] = [
     ("object 1.3", "bad line\n"),

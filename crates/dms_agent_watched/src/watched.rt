@@ -2,7 +2,6 @@
 
 ghost use Rattle.std.specs.Prelude.{◌≡◌, false, [], None, Err, is_some, IsSome, OnOk, OnErr};
 ghost use Rattle.std.specs.List.{list_any};
-ghost use Rattle.dms_sign.specs.Values.{value_of};
 ghost use Rattle.dms_sign.specs.Events.{after_tick, after_power_loss, after_power_return};
 ghost use Rattle.dms_sign.specs.Reply.{after_get};
 ghost use Rattle.dms_sign.specs.ReplyView.{sent, accepted_by};
@@ -11,6 +10,7 @@ ghost use Rattle.dms_device.specs.Objects.{has_name};
 ghost use Rattle.dms_device.specs.Publishing.{published, withdrawn};
 ghost use Rattle.dms_device.specs.Taken.{told_first};
 ghost use Rattle.dms_agent.specs.declared.agent.PublishFault.TheVariants.{OfTheSign, OutOfMemory};
+ghost use Rattle.dms_agent.specs.Values.{own_value};
 ghost use Rattle.dms_agent.specs.Promises.{alone};
 ghost use Rattle.dms_agent.specs.Received.{agent_received};
 ghost use Rattle.dms_agent_watched.specs.Watched.{picture_of, same_defaults, same_picture, changes_after};
@@ -198,10 +198,10 @@ impl Watched {
     pub fn publish(&mut self, object: Object) -> Result<(), PublishFault>
         ensures done { OnOk result (self.new
             ≡ record self.old { agent = record self.old.agent { device = published self.old.agent.device object } }) }
-        ensures beside { OnOk result (value_of self.old.agent.sign object.name ≡ None) }
+        ensures beside { OnOk result (own_value self.old.agent object.name ≡ None) }
         ensures kept { OnErr result (self.new ≡ self.old) }
-        ensures of_the_sign { result ≡ Err OfTheSign → IsSome (value_of self.old.agent.sign object.name) }
-        ensures memory { result ≡ Err OutOfMemory → value_of self.old.agent.sign object.name ≡ None }
+        ensures of_the_sign { result ≡ Err OfTheSign → IsSome (own_value self.old.agent object.name) }
+        ensures memory { result ≡ Err OutOfMemory → own_value self.old.agent object.name ≡ None }
         ensures memory_new { result ≡ Err OutOfMemory
             → list_any (has_name object.name) self.old.agent.device ≡ false }
     {

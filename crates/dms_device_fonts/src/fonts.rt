@@ -1,7 +1,9 @@
 //! The fonts of a face as objects.
 
 ghost use Rattle.std.specs.Prelude.{◌≡◌, option_map};
+ghost use Rattle.dms_wire.specs.View.{object_value};
 ghost use Rattle.dms_mib_replies.specs.Next.{next_binding};
+ghost use Rattle.dms_device_fonts.specs.Fonts.{fonts_value, fonts_after};
 
 use crate::next::{next_at, place_after};
 use crate::reading::read_name;
@@ -41,18 +43,32 @@ impl Objects for FontObjects<'_> {
 
     ghost follows = { fonts_after };
 
-    #[tactic(auto, unfolding(crate::specs::Fonts::fonts_value))]
     fn value(&self, name: &Oid<'_>) -> Option<Value<'_>> {
-        read_name(self.face.fonts(), name)
+        fonts_value(self.face, name)
     }
 
-    #[tactic(auto, unfolding(crate::specs::Fonts::fonts_after))]
     fn next(&self, name: &Oid<'_>) -> Option<Next<'_>> {
-        faces_are_within_their_limits(self.face);
-        let fonts = self.face.fonts();
-        match place_after(fonts, name) {
-            Some(place) => Some(next_at(fonts, &place)),
-            None => None,
-        }
+        fonts_after(self.face, name)
+    }
+}
+
+/// What a name reads of the fonts of a face, for as long as the face is lent.
+#[tactic(auto, unfolding(crate::specs::Fonts::fonts_value))]
+pub fn fonts_value<'a>(face: &'a Face, name: &Oid<'_>) -> Option<Value<'a>>
+    ensures { option_map object_value result ≡ fonts_value face.now name.now }
+{
+    read_name(face.fonts(), name)
+}
+
+/// The first instance of the fonts of a face after a name, with what it reads.
+#[tactic(auto, unfolding(crate::specs::Fonts::fonts_after))]
+pub fn fonts_after<'a>(face: &'a Face, name: &Oid<'_>) -> Option<Next<'a>>
+    ensures { option_map next_binding result ≡ fonts_after face.now name.now }
+{
+    faces_are_within_their_limits(face);
+    let fonts = face.fonts();
+    match place_after(fonts, name) {
+        Some(place) => Some(next_at(fonts, &place)),
+        None => None,
     }
 }

@@ -19,4 +19,4 @@ mod place;
 mod reading;
 mod steps;
 
-pub use fonts::FontObjects;
+pub use fonts::{FontObjects, fonts_after, fonts_value};

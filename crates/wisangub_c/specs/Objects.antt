@@ -3,14 +3,13 @@ use Rattle.std.specs.Prelude.{ℕ, ◌==◌, ◌&&◌, Bool, false, if◌then◌
 use Rattle.std.specs.Prelude.{Option, Some, None, is_some, is_none}
 use Rattle.dms_wire_ber.specs.ObjectIdentifier.{name_octets}
 use Rattle.dms_wire.specs.Message.{ObjectValue, VarBind}
-use Rattle.dms_sign.specs.Values.{value_of}
 use Rattle.dms_device.specs.declared.access.Access.{Access}
 use Rattle.dms_device.specs.Object.{DeviceObject, object_fault, new_object}
 use Rattle.dms_device.specs.Objects.{device_value}
 use Rattle.dms_device.specs.Publishing.{published, withdrawn}
 use Rattle.dms_device.specs.Taken.{set_bindings, told_first}
 use Rattle.dms_agent.specs.declared.agent.Agent.{Agent}
-use Rattle.dms_agent.specs.Values.{agent_value}
+use Rattle.dms_agent.specs.Values.{own_value, agent_value}
 use Rattle.wisangub_c.specs.Answers.{done, nothing_sent, too_small, at_fault, out_of_range}
 use Rattle.wisangub_c.specs.Answers.{put_first, given_answer, given_buffer}
 use Rattle.wisangub_c.specs.declared.object_values.ValueParts.{ValueParts}
@@ -21,7 +20,7 @@ use Rattle.wisangub_c.specs.ObjectValues.{name_given, octets_of, parts_of}
 -- the sign reads nothing by this name
 abbrev pub is_free_name : Agent → Option (List ℕ) → Bool
 is_free_name a None = false
-is_free_name a (Some name) = is_none (value_of a.sign name)
+is_free_name a (Some name) = is_none (own_value a name)
 
 -- the octets are a name, by which the sign reads nothing
 abbrev pub is_free : Agent → List ℕ → Bool

@@ -2,8 +2,8 @@
 
 ghost use Rattle.std.specs.Prelude.{◌≡◌, length, if◌then◌else◌, Some, None, is_some, option_map, IfOk, IfErr, IsSome};
 ghost use Rattle.dms_wire.specs.View.{object_value, var_bind};
-ghost use Rattle.dms_sign.specs.Values.{value_of};
 ghost use Rattle.dms_device.specs.Publishing.{published};
+ghost use Rattle.dms_agent.specs.Values.{own_value};
 ghost use Rattle.wisangub_c.specs.Answers.{done, no_memory, at_fault, unless_memory, given_answer, given_buffer};
 ghost use Rattle.wisangub_c.specs.ObjectValues.{name_given, value_given, access_given, octets_of};
 ghost use Rattle.wisangub_c.specs.Objects.{is_free, object_given, publish_answer, after_publish};
@@ -31,7 +31,7 @@ fn is_free(agent: &Agent, name: &[u8]) -> bool
     ensures { result ≡ is_free agent.now name.now }
 {
     match name_given(name) {
-        Some(name) => agent.sign().value(&name).is_none(),
+        Some(name) => agent.own_value(&name).is_none(),
         None => false,
     }
 }
@@ -74,10 +74,10 @@ fn made(
 /// Publishes an object, unless its name is the sign's.
 fn published(sign: &mut Watched, object: Object) -> u32
     ensures answer { result ≡ unless_memory result no_memory
-        (if is_some (value_of sign.old.agent.sign object.name) then at_fault else done) }
+        (if is_some (own_value sign.old.agent object.name) then at_fault else done) }
     ensures after { sign.new ≡ record sign.old {
       agent = unless_memory result sign.old.agent
-          (if is_some (value_of sign.old.agent.sign object.name) then sign.old.agent
+          (if is_some (own_value sign.old.agent object.name) then sign.old.agent
           else record sign.old.agent { device = published sign.old.agent.device object });
     } }
 {

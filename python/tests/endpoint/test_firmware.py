@@ -10,7 +10,7 @@ import pytest
 from wisangub.snmp import wire
 from wisangub.snmp.names import DMS
 
-from .waiting import until
+from .waiting import PROGRAMS, until
 from .with_objects import refused, served
 
 UPTIME, CLOCK = (1, 3, 6, 1, 2, 1, 1, 3, 0), (1, 3, 6, 1, 4, 1, 1206, 4, 2, 6, 3, 1, 0)
@@ -111,9 +111,10 @@ def test_of_a_file_at_fault_nothing_is_taken(path: pathlib.Path, line: str, word
         assert refused("--objects", str(path)) == (2, f"{path}: {words}\n")
 
 
-def test_fonts_can_be_read_where_the_file_says_so(path: pathlib.Path) -> None:
+@pytest.mark.parametrize("program", PROGRAMS)
+def test_fonts_can_be_read_where_the_file_says_so(path: pathlib.Path, program: str) -> None:
     path.write_text(f"{FILE}fonts\n", encoding="ascii")
-    with served("--objects", str(path)) as front_end:
+    with served("--signtool", program, "--objects", str(path)) as front_end:
         assert front_end.get(DMS + (3, 1, 0)) == [(wire.INTEGER, 2)]
         path.write_text(FILE, encoding="ascii")
         front_end.hang_up("line 7: whether fonts can be read is settled at a start: the objects stay as they were")

@@ -1,4 +1,4 @@
-"""Net-SNMP's commands as a manager of a sign with objects and fonts beside its own, over the model."""
+"""Net-SNMP's commands as a manager of a sign with objects and fonts beside its own, over the model and the program."""
 
 import pathlib
 import re
@@ -14,7 +14,7 @@ from model.font_objects import bitmap
 from wisangub.process.places import TOP
 
 from .asked_names import ASKED, EIGHT
-from .waiting import PATIENCE, until
+from .waiting import PATIENCE, PROGRAMS, until
 from .with_objects import Served, served
 
 LACKING = [name for name in ("snmpwalk", "snmpget", "snmpset", "snmptable") if shutil.which(name) is None]
@@ -23,9 +23,10 @@ SIGN, FILE = TOP / "signs/roadside.sign", TOP / "signs/roadside.objects"
 READER, WRITER = "public", "administrator"
 
 
-@pytest.fixture(name="sign", scope="module")
-def sign_of() -> Iterator[Served]:
-    with served("--sign", str(SIGN), "--objects", str(FILE), "--no-ticks") as front_end:
+@pytest.fixture(name="sign", scope="module", params=PROGRAMS)
+def sign_of(request: pytest.FixtureRequest) -> Iterator[Served]:
+    words = ("--signtool", request.param, "--sign", str(SIGN), "--objects", str(FILE), "--no-ticks")
+    with served(*words) as front_end:
         yield front_end
 
 

@@ -1,11 +1,12 @@
-"""What tests of front ends wait for, and the model that they are run over."""
+"""What tests of front ends wait for, and what they are run over: the model, and some the program too."""
 
 import time
 from collections.abc import Callable
 
-from wisangub.process.places import TOP
+from wisangub.process.places import SIGNTOOL, TOP
 
 MODEL = str(TOP / "model/signtool")
+PROGRAMS = [MODEL, *([str(SIGNTOOL)] if SIGNTOOL.is_file() else [])]  # the program where it is built
 PATIENCE = 60.0  # seconds that a busy machine takes
 
 
