@@ -24,6 +24,7 @@ from trials.room.ports import free_port
 from wisangub.process.places import SIGNTOOL, TOP
 
 PAGE = (TOP / "docs/CONTROL.md").read_text(encoding="utf-8")
+INSTALL = (TOP / "tools/release/INSTALL").read_text(encoding="utf-8")  # the lines of services
 PASSWORD = "a long pasted password"
 PATIENCE = 120.0  # seconds that a busy machine takes
 PROMPT = "pasted> "
@@ -136,6 +137,6 @@ def test_the_lines_without_pages(tmp_path: pathlib.Path) -> None:
 
 
 def test_no_line_of_the_page_has_a_password() -> None:
-    commands = re.findall(r"(?m)^    .*wisangub-control.*$", PAGE)
+    commands = re.findall(r"(?m)^    .*wisangub-control.*$", PAGE + INSTALL)
     assert len(commands) > 12
     assert not [line for line in commands if re.search(r"echo|printf|<<<|PGPASSWORD|//[^/@]*:[^/@]*@", line)]
