@@ -35,7 +35,7 @@ _PICTURES = [
     (
         "accident",
         "roadside",
-        "[pt25o0][fo2][flt6o4]ACCIDENT[/fl][nl]AFTER 1 KM[np]LEFT LANE[nl]CLOSED",
+        "[pt25o0][fo2][pb1][cf7][flt6o4]ACCIDENT[/fl][nl]AFTER 1 KM[np][pb5][cf2]LEFT LANE[nl]CLOSED",
         None,
         [2, 7, 27],
     ),
