@@ -6,7 +6,8 @@ from collections.abc import Iterator
 from .tree import Tree
 
 WIDTH, ROW = 120, 200
-LONGEST = {"README.md": 200, "docs/MAP.md": 200}
+LONGEST = {"README.md": 200, "docs/MAP.md": 200, "docs/CAVEATS.md": 40}
+TOGETHER = 2200
 LINK = re.compile(r"\]\(([^)\s]+)\)")
 _SHOWN = re.compile(r"\[([^\]]*)\]\([^)\s]+\)")
 FENCE = "```"
@@ -53,11 +54,13 @@ def wide_rows(tree: Tree) -> list[str]:
 
 
 def long_pages(tree: Tree) -> list[str]:
-    """Pages that have more lines than they may."""
-    counts = {name: tree.text(name).count("\n") for name in LONGEST if tree.has(name)}
-    return [
-        f"{name}: {count} lines, {LONGEST[name]} at most" for name, count in counts.items() if count > LONGEST[name]
+    """Pages that have more lines than they may, each or together."""
+    counts = {name: tree.text(name).count("\n") for name in tree.documents()}
+    found = [
+        f"{name}: {counts[name]} lines, {most} at most" for name, most in LONGEST.items() if counts.get(name, 0) > most
     ]
+    total = sum(counts.values())
+    return [*found, f"all pages: {total} lines, {TOGETHER} at most"] if total > TOGETHER else found
 
 
 def anchors(text: str) -> set[str]:

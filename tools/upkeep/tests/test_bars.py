@@ -44,6 +44,16 @@ def test_lengths(made: MakesTree) -> None:
     assert documents.long_pages(tree) == ["README.md: 201 lines, 200 at most"]
 
 
+def test_pages_have_2200_lines_together(made: MakesTree) -> None:
+    tree = made(one_md="a\n" * 1_100, two_md="a\n" * 1_100)
+    assert documents.long_pages(tree) == []
+    more = made(docs__CAVEATS_md="a\n" * 41)
+    assert documents.long_pages(more) == [
+        "docs/CAVEATS.md: 41 lines, 40 at most",
+        "all pages: 2241 lines, 2200 at most",
+    ]
+
+
 def test_links(made: MakesTree) -> None:
     tree = made(
         docs__one_md="# First part, `x`\n[a](two.md) [b](three.md) [c](#first-part-x) [d](#second) <x>\n",
