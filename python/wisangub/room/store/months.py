@@ -31,16 +31,23 @@ _LACKING = (
     f" WHERE to_regclass(name || to_char(date_trunc('month', {_NOW}) + ahead * INTERVAL '1 month', '_YYYY_MM')) IS NULL"
 )
 _NAME = re.compile(r"(?:audit|readings)_(\d{4})_(\d{2})")
-_STAYS = {
-    AUDIT: "at >= ?",
+# the rows of a month with what says which of them stay, in one look at each: all of a sign of which none is known
+_ROWS = {
+    AUDIT: "{0} AS one",
     READING: (
-        "(heard >= ? OR number = COALESCE((SELECT newest FROM hearings WHERE hearings.sign = {0}.sign), 0)"
-        " OR number <= COALESCE((SELECT COALESCE(shown_number, number) FROM latest_readings"
-        " WHERE latest_readings.sign = {0}.sign), 0))"  # all of a sign of which none is known
+        "{0} AS one LEFT JOIN hearings ON hearings.sign = one.sign"
+        " LEFT JOIN latest_readings AS latest ON latest.sign = one.sign"
+    ),
+}
+_STAYS = {
+    AUDIT: "one.at >= ?",
+    READING: (
+        "(one.heard >= ? OR one.number = COALESCE(hearings.newest, 0)"
+        " OR one.number <= COALESCE(latest.shown_number, latest.number, 0))"
     ),
 }
 TABLES = {AUDIT: "audit", READING: "readings"}
-_ORDER = {AUDIT: "id", READING: "sign, number"}
+_ORDER = {AUDIT: "one.id", READING: "one.sign, one.number"}
 # the columns in their order, as whole numbers (i), times (d) and texts (t), which may be missing where it says so (?)
 _COLUMNS = {
     AUDIT: (("id", "i"), ("at", "d"), ("who", "t"), ("what", "t")),
@@ -113,7 +120,7 @@ def _row_spelled(kind: str) -> str:
     """The same of PostgreSQL."""
     parts = []
     for name, form in _COLUMNS[kind]:
-        spelled = _SPELLED[form[0]].format(name)
+        spelled = _SPELLED[form[0]].format(f"one.{name}")
         parts.append(f"COALESCE('\\x01'::bytea || {spelled}, '\\x00'::bytea)" if form.endswith("?") else spelled)
     return " || ".join(parts)
 
@@ -130,14 +137,14 @@ def _digests(path: pathlib.Path, wanted: dict[str, set[str]]) -> dict[tuple[str,
 
 def _is_had(database: Database, kind: str, name: str, until: float, digest: str) -> bool:
     """Whether the rows of a month's table but for those that stay are those of which this is the digest."""
-    goes = f"NOT {_STAYS[kind].format(name)}"
-    count = whole(database.run(f"SELECT count(*) FROM {name} WHERE {goes}", until)[0][0])
+    goes = f"{_ROWS[kind].format(name)} WHERE NOT {_STAYS[kind]}"
+    count = whole(database.run(f"SELECT count(*) FROM {goes}", until)[0][0])
     if count > _MOST:
         return False
     rows = database.run(
         f"SELECT encode(sha256(COALESCE(string_agg(sha256({_row_spelled(kind)}), ''::bytea"
         f" ORDER BY {_ORDER[kind]}), ''::bytea)), 'hex')"
-        f" FROM {name} WHERE {goes}",
+        f" FROM {goes}",
         until,
     )
     return rows == [(digest,)]
@@ -154,10 +161,9 @@ def _drop(database: Database, kind: str, name: str, until: float, digest: str) -
         database.run(f"ALTER TABLE {table} DETACH PARTITION {name}")  # nobody else writes or reads until it ends
         if not _is_had(database, kind, name, until, digest):
             raise _Changed
-        columns = ", ".join(column for column, _ in _COLUMNS[kind])
-        database.run(
-            f"INSERT INTO {table} ({columns}) SELECT {columns} FROM {name} WHERE {_STAYS[kind].format(name)}", *values
-        )
+        columns, of_one = (", ".join(f"{of}{column}" for column, _ in _COLUMNS[kind]) for of in ("", "one."))
+        stay = f"SELECT {of_one} FROM {_ROWS[kind].format(name)} WHERE {_STAYS[kind]}"
+        database.run(f"INSERT INTO {table} ({columns}) {stay}", *values)
         database.run(f"DROP TABLE {name}")
 
 
