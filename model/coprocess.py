@@ -14,6 +14,7 @@ from collections.abc import Callable
 
 from . import layout, published, text
 from .agent import Agent
+from .saved import saved
 
 _MOST_LINE = 65_536
 
@@ -74,6 +75,8 @@ def sign_answer(agent: Agent, words: list[bytes]) -> list[str]:
         sign.showing.power_lost()
     elif keyword == b"state":
         return [text.shown_line(sign), "ok"]
+    elif keyword == b"save":
+        return [*saved(sign.state), "ok"]
     elif keyword == b"show":
         shown = sign.state.shown
         pages, _ = layout.laid_out(sign.state.face, shown.defaults, shown.text)

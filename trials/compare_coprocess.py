@@ -25,6 +25,7 @@ _WORDS = [
     "ticks",
     "heard",
     "state",
+    "save",
     "show",
     "status",
     "last",
@@ -104,7 +105,8 @@ class Lines:
             ]
             return self.command() if end == "centre" else self.chance.choice(others)
         if kind < 0.95:
-            return self.chance.choice(["status", "restart", "status last"] if end == "centre" else ["state", "show"])
+            asked = ["status", "restart", "status last"] if end == "centre" else ["state", "show", "save"]
+            return self.chance.choice(asked)
         return self.other()
 
 

@@ -11,7 +11,7 @@ use Rattle.dms_text_forms.proofs.WordReading.{by_text}
 use Rattle.dms_text_forms.proofs.FieldLaws.{last_number_found, last_number_only, last_octets_found, last_octets_only}
 use Rattle.dms_text_streams.specs.Conversation.{bad_line}
 use Rattle.dms_text_streams.proofs.CallReading.{bare_found, nothing_found}
-use Rattle.dms_sign_lines.specs.SignCall.{SignCall, datagram, tick, ticks, heard, power_lost, power_back, show, state}
+use Rattle.dms_sign_lines.specs.SignCall.{SignCall, datagram, tick, ticks, heard, power_lost, power_back, show, state, save}
 use Rattle.dms_sign_lines.specs.SignLine.{SpellsCallWords, SpellsSignCall, SpellsNoSignCall}
 use Rattle.dms_sign_lines.specs.SignReading.{keyword_of, call_after, call_of}
 use Rattle.dms_sign_lines.specs.Answer.{answer_text, after_line, call_text, after_call, text_if, after_if}
@@ -29,6 +29,7 @@ keyword_text key.PowerLost = codes "power-lost"
 keyword_text key.PowerBack = codes "power-back"
 keyword_text key.Show = codes "show"
 keyword_text key.State = codes "state"
+keyword_text key.Save = codes "save"
 
 keyword_some : (keyword : SignKeyword) → 0 < length (keyword_text keyword)
 keyword_some keyword = grind arith
@@ -48,6 +49,7 @@ keyword_found word keyword e =
     by_text keyword_text word key.PowerBack keyword _ e λ e.
     by_text keyword_text word key.Show keyword _ e λ e.
     by_text keyword_text word key.State keyword _ e λ e.
+    by_text keyword_text word key.Save keyword _ e λ e.
     absurd (none-some keyword e)
 
 -- ---- calls
@@ -65,6 +67,7 @@ after_found key.PowerBack words call e =
     let made = mapped_some _ _ _ e in subst (λ call. SpellsCallWords call (codes "power-back" ∷ words)) made.2 (last_number_found (codes "power-back") words made.0 made.1)
 after_found key.Show words call e = bare_found SpellsCallWords (codes "show") (codes "show") show call words refl e refl
 after_found key.State words call e = bare_found SpellsCallWords (codes "state") (codes "state") state call words refl e refl
+after_found key.Save words call e = bare_found SpellsCallWords (codes "save") (codes "save") save call words refl e refl
 
 -- what is read of a line is what it spells
 pub call_found : (line : List ℕ) (call : SignCall) → call_of line ≡ Some call → SpellsSignCall call line
@@ -95,6 +98,7 @@ call_only line (power_back seconds) spelled =
     line_read key.PowerBack line _ spelled.words_are ∙ ap (option_map power_back) (last_number_only seconds spelled.word spelled.spelled)
 call_only line show spelled = line_read key.Show line [] spelled
 call_only line state spelled = line_read key.State line [] spelled
+call_only line save spelled = line_read key.Save line [] spelled
 
 -- a line spells at most one call
 pub one_call : (line : List ℕ) (one other : SignCall) → SpellsSignCall one line → SpellsSignCall other line → one ≡ other

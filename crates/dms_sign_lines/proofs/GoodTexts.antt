@@ -17,7 +17,7 @@ use Rattle.dms_sign.specs.Events.{after_tick, after_ticks}
 use Rattle.dms_sign.specs.Transitions.{HasFitDefaults, IsSameMessage, IsBlankedUnder, IsRowOf, ShowsNow, stayed, came_back, blanked, activated, fell_back, IsSignStep}
 use Rattle.dms_sign.proofs.StepDefaults.{received_fits, tick_fits, power_loss_fits, power_return_fits}
 use Rattle.dms_sign_laws.proofs.StepEvents.{step_received, step_tick, step_power_loss, step_power_return}
-use Rattle.dms_sign_lines.specs.SignCall.{SignCall, datagram, tick, ticks, heard, power_lost, power_back, show, state}
+use Rattle.dms_sign_lines.specs.SignCall.{SignCall, datagram, tick, ticks, heard, power_lost, power_back, show, state, save}
 use Rattle.dms_sign_lines.specs.SignReading.{call_of}
 use Rattle.dms_sign_lines.specs.Answer.{pages_or_none, shown_pages, after_call, after_if, after_line}
 use Rattle.dms_sign_lines.specs.GoodTexts.{CanBeDrawn, ShowsGoodTexts}
@@ -109,6 +109,7 @@ good_call s power_lost was = good_next s _ _ (step_power_loss s) (power_loss_fit
 good_call s (power_back seconds) was = good_next s _ _ (step_power_return s seconds) (power_return_fits s seconds was.own) was
 good_call s show was = was
 good_call s state was = was
+good_call s save was = was
 
 good_if : (s : SignState) (call : Option SignCall) → ShowsGoodTexts s → ShowsGoodTexts (after_if s call)
 good_if s None was = was

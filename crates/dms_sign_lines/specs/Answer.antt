@@ -15,9 +15,11 @@ use Rattle.dms_sign.specs.Reply.{Received, received, after_get}
 use Rattle.dms_sign.specs.Events.{after_tick, after_ticks, after_power_loss, after_power_return}
 use Rattle.dms_text_forms.specs.LineText.{ended, code_text}
 use Rattle.dms_sign_text.specs.ShownLine.{shown_line}
+use Rattle.dms_sign_state.specs.StateText.{text_of_state}
 use Rattle.dms_face_pages.specs.PageText.{pages_text}
 use Rattle.dms_text_streams.specs.Conversation.{bad_line, ok_line}
-use Rattle.dms_sign_lines.specs.SignCall.{SignCall, datagram, tick, ticks, heard, power_lost, power_back, show, state}
+use Rattle.dms_sign_lines.specs.SignCall.{SignCall, datagram, tick, ticks, heard, power_lost, power_back}
+use Rattle.dms_sign_lines.specs.SignCall.{show, state, save}
 use Rattle.dms_sign_lines.specs.SignReading.{call_of}
 
 -- ---- what comes of a datagram
@@ -70,6 +72,7 @@ call_text s power_lost = ok_line
 call_text s (power_back seconds) = ok_line
 call_text s show = pages_text (shown_pages s) ++ ok_line
 call_text s state = shown_line s.shown ++ ok_line
+call_text s save = text_of_state s ++ ok_line
 
 abbrev pub after_call : SignState → SignCall → SignState
 after_call s (datagram octets) = (received s octets).after
@@ -80,6 +83,7 @@ after_call s power_lost = after_power_loss s
 after_call s (power_back seconds) = after_power_return s seconds
 after_call s show = s
 after_call s state = s
+after_call s save = s
 
 -- ---- lines
 

@@ -12,3 +12,4 @@ call_model calls.PowerLost = model.power_lost
 call_model (calls.PowerBack seconds) = model.power_back seconds
 call_model calls.Show = model.show
 call_model calls.State = model.state
+call_model calls.Save = model.save

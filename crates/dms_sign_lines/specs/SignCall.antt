@@ -17,3 +17,5 @@ pub data SignCall : Type 0 where
   show : SignCall
   -- the line of what is shown is asked for
   state : SignCall
+  -- the text of the sign's state is asked for
+  save : SignCall

@@ -3,15 +3,17 @@ use Rattle.std.specs.Prelude.{ℕ, if◌then◌else◌, List, codes, Option, Som
 use Rattle.dms_text.specs.Words.{words_of}
 use Rattle.dms_text.specs.Reading.{same_octets, word_at, ◌>>=◌}
 use Rattle.dms_text_forms.specs.FieldsReading.{if_last, last_number_at, last_octets_at}
-use Rattle.dms_sign_lines.specs.SignCall.{SignCall, datagram, tick, ticks, heard, power_lost, power_back, show, state}
+use Rattle.dms_sign_lines.specs.SignCall.{SignCall, datagram, tick, ticks, heard, power_lost, power_back}
+use Rattle.dms_sign_lines.specs.SignCall.{show, state, save}
 use Rattle.dms_sign_lines.specs.declared.keyword.SignKeyword.{SignKeyword}
 use Rattle.dms_sign_lines.specs.declared.keyword.SignKeyword.TheVariants as key
 
--- the words that ask for what is shown
+-- the words that ask for what is shown, or for the state
 abbrev pub asking_keyword : List ℕ → Option SignKeyword
 asking_keyword word =
     if same_octets word (codes "show") then Some key.Show
     else if same_octets word (codes "state") then Some key.State
+    else if same_octets word (codes "save") then Some key.Save
     else None
 
 unfoldable pub keyword_of : List ℕ → Option SignKeyword
@@ -34,6 +36,7 @@ call_after key.PowerLost words = if_last power_lost words
 call_after key.PowerBack words = option_map power_back (last_number_at words)
 call_after key.Show words = if_last show words
 call_after key.State words = if_last state words
+call_after key.Save words = if_last save words
 
 -- the keyword of a line
 unfoldable pub keyword_in : List ℕ → Option SignKeyword

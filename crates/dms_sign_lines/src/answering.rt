@@ -8,6 +8,7 @@ ghost use Rattle.dms_sign.specs.Reply.{received};
 ghost use Rattle.dms_sign.specs.ReplyView.{sent, accepted_by};
 ghost use Rattle.dms_text_forms.specs.LineText.{ended};
 ghost use Rattle.dms_sign_text.specs.ShownLine.{shown_line};
+ghost use Rattle.dms_sign_state.specs.StateText.{text_of_state};
 ghost use Rattle.dms_face_pages.specs.PageText.{pages_text};
 ghost use Rattle.dms_text_streams.specs.Conversation.{ok_line};
 ghost use Rattle.dms_sign_lines.specs.CallView.{call_model};
@@ -19,6 +20,7 @@ use crate::sign_call::{SignCall, call};
 use dms_codes::Order;
 use dms_face_pages::{Page, PagesFault, pages_with, put_pages};
 use dms_sign::{Receipt, Sign};
+use dms_sign_state::saved;
 use dms_sign_text::put_shown;
 use dms_text_streams::{bad_line, ok_line, put, put_digits};
 use dms_wire::{MAX_DATAGRAM, Out};
@@ -44,6 +46,7 @@ pub const LONGEST_RECEIPT: usize = 8 + 2 * 12 + 2 * MAX_DATAGRAM + 3;
 /// power-back SECONDS   the power is back after so many seconds, 0 to 4294967295: `ok`
 /// show                 the pages of what is shown, and `ok`
 /// state                the line of what is shown, as a report has it, and `ok`
+/// save                 the text of the sign's state, and `ok`
 /// ```
 ///
 /// Any other line is answered `bad line`, and changes nothing. Octets are pairs of hexadecimal digits, or `-` for none.
@@ -94,6 +97,7 @@ fn carry_out(alloc: Global, sign: &mut Sign, call: &SignCall) -> Result<Vec<u8>,
         }
         SignCall::Show => show(alloc, sign),
         SignCall::State => state(alloc, sign),
+        SignCall::Save => save(alloc, sign),
     }
 }
 
@@ -199,4 +203,13 @@ fn put_state(alloc: Global, text: &mut Vec<u8>, sign: &Sign) -> io::Result<()>
 {
     put_shown(alloc, text, sign.shown())?;
     writeln!(text, "ok")
+}
+
+/// The text of the sign's state.
+fn save(alloc: Global, sign: &Sign) -> Result<Vec<u8>, AllocError>
+    ensures { IfOk result (λ text. text.items ≡ text_of_state sign.now ++ ok_line) }
+{
+    let mut text = saved(alloc, sign)?;
+    text.extend_from_slice(b"ok\n")?;
+    Ok(text)
 }

@@ -13,6 +13,7 @@ pub(crate) enum SignKeyword {
     PowerBack,
     Show,
     State,
+    Save,
 }
 
 impl SignKeyword {
@@ -41,7 +42,7 @@ impl SignKeyword {
         }
     }
 
-    /// The keyword of a line that asks for what is shown.
+    /// The keyword of a line that asks for what is shown, or for the state.
     fn asking(word: &[u8]) -> Option<SignKeyword>
         ensures { result ≡ asking_keyword word.now }
     {
@@ -49,6 +50,8 @@ impl SignKeyword {
             Some(SignKeyword::Show)
         } else if are_same(word, b"state") {
             Some(SignKeyword::State)
+        } else if are_same(word, b"save") {
+            Some(SignKeyword::Save)
         } else {
             None
         }

@@ -30,6 +30,8 @@ pub(crate) enum SignCall {
     Show,
     /// `state`: the line of what is shown is asked for.
     State,
+    /// `save`: the text of the sign's state is asked for.
+    Save,
 }
 
 /// The call that a line spells, or none. Memory is asked for by a datagram alone, and not where its line is at fault.
@@ -54,5 +56,6 @@ pub(crate) fn call(alloc: Global, line: &[u8]) -> Result<Option<SignCall>, Alloc
         SignKeyword::PowerBack => Ok(last_number(words).map(SignCall::PowerBack)),
         SignKeyword::Show => Ok(alone(words, SignCall::Show)),
         SignKeyword::State => Ok(alone(words, SignCall::State)),
+        SignKeyword::Save => Ok(alone(words, SignCall::Save)),
     }
 }

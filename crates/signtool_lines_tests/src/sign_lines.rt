@@ -34,7 +34,7 @@ fn put_line(talk: &mut Vec<u8>, line: &str) -> Result<(), AllocError> {
 /// Each line has the answer that stands under it.
 #[test]
 fn each_line_answered(rt: HostRuntime) -> Result<(), Fail> {
-    for talk in [cases::TALK, cases::SECONDS] {
+    for talk in [cases::TALK, cases::SECONDS, cases::SAVED] {
         let found = answered(rt.alloc(), talk)?;
         assert!(rt; found.as_slice() == talk.as_bytes());
     }

@@ -97,6 +97,79 @@ page 1 on 30 off 0 back 0
 ok
 ";
 
+/// The state of the bench sign as it is made, and without power while row 2.1 was shown.
+pub const SAVED: &str = "\
+> save
+state 1 sign
+defaults 0 9 5 5 1 3 2 30 0
+short-power-recovery 0700010000
+long-power-recovery 0700010000
+power-loss 0700010000
+end-duration 0700010000
+communications-loss 0700010000
+short-power-loss-time 0
+time-comm-loss 0
+silent 0
+shown - - 0 0 1
+shown-source 0700010000
+shown-mode 10
+shown-address 0.0.0.0
+shown-defaults 0 9 5 5 1 3 2 30 0
+kept - - 0 0 1
+kept-source 0700010000
+kept-mode 10
+kept-address 0.0.0.0
+kept-defaults 0 9 5 5 1 3 2 30 0
+validate-error 2
+activate-error 2
+syntax-error 2
+syntax-error-position 0
+accepted-code 000000000000000000000000
+failed-code 000000000000000000000000
+powered 1
+end
+ok
+# `admin` sets dmsActivateMessage.0 to row 2.1 with its checksum
+> datagram 3036020100040561646d696ea32a020109020100020100301f301d060d2b060104018936040203060300040cffff64020001750200000000
+accepted ffff64020001750200000000 3036020100040561646d696ea22a020109020100020100301f301d060d2b060104018936040203060300040cffff64020001750200000000
+> tick
+ok
+> power-lost
+ok
+> save
+state 1 sign
+defaults 0 9 5 5 1 3 2 30 0
+short-power-recovery 0700010000
+long-power-recovery 0700010000
+power-loss 0700010000
+end-duration 0700010000
+communications-loss 0700010000
+short-power-loss-time 0
+time-comm-loss 0
+silent 0
+shown - - 0 0 1
+shown-source 0700010000
+shown-mode 13
+shown-address 0.0.0.0
+shown-defaults 0 9 5 5 1 3 2 30 0
+kept 42 - 0 0 100
+kept-source 0200017502
+kept-mode 8
+kept-address 0.0.0.0
+kept-defaults 0 9 5 5 1 3 2 30 0
+validate-error 2
+activate-error 2
+syntax-error 2
+syntax-error-position 0
+accepted-code ffff64020001750200000000
+failed-code 000000000000000000000000
+powered 0
+end
+ok
+> save 1
+bad line
+";
+
 /// Seconds by one line: a message for two minutes, and a silence of one minute, which `heard` begins again.
 pub const SECONDS: &str = "\
 # `admin` sets dmsActivateMessage.0 to row 2.1, for two minutes
