@@ -3,7 +3,9 @@
 A line for each that is not found as it should be, with --loud for each at all; last `N passed, N failed`, and what a
 chapter's are at the median. With --default those that have a group are tried as a test without options tries them, to
 its end: each has to be found, be it by whichever chapter, and of each group half within 150 seconds of the sign. With
---further others of these groups are, each of which has to be found.
+--further others of these groups are, each of which has to be found. What random requests alone find counts as not
+found: they come last, and a chapter has to ask for it. A line names the chapter that was the first to see it, and for a
+test to its end each that did.
 """
 
 import argparse
@@ -15,6 +17,7 @@ from dataclasses import dataclass
 
 from model import text
 from wisangub.tester.chapters import ALL
+from wisangub.tester.chapters.random_requests import CHAPTER as RANDOM
 from wisangub.tester.findings.differences import Difference
 from wisangub.tester.findings.results import Quiet
 from wisangub.tester.findings.rules import RULES
@@ -107,11 +110,12 @@ def tried(
     seconds = whole if first_told.seconds is None else first_told.seconds
     if not found:
         return Outcome(mutant.name, False, f"{wanted}: nothing differs", seconds, whole)
-    first = found[0]
+    first, seen_in = found[0], ", ".join(dict.fromkeys(one.found_in for one in found))
     good = first.rule.chapter == wanted and first.datagrams <= MOST_DATAGRAMS and first.is_repeated
     found_as = f"found as {first.rule.chapter} ({first.rule.key}), {first.title}, {first.datagrams} datagrams"
-    said = f"{wanted} ({mutant.rule}): {found_as}, in {first.found_in}, {seconds:.0f} s of {whole:.0f}"
-    return Outcome(mutant.name, first.is_repeated if is_default else good, said, seconds, whole)
+    said = f"{wanted} ({mutant.rule}): {found_as}, in {seen_in}, {seconds:.0f} s of {whole:.0f}"
+    is_found = (first.is_repeated if is_default else good) and seen_in != RANDOM.name
+    return Outcome(mutant.name, is_found, said, seconds, whole)
 
 
 def medians(chosen: list[Mutant], outcomes: list[Outcome], is_by_chapter: bool) -> list[tuple[str, float, float]]:
