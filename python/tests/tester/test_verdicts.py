@@ -111,6 +111,13 @@ def test_a_sign_that_falls_silent_is_not_judged() -> None:
     assert results.verdict() is Verdict.NOT_JUDGED and not results.stopped and "silent for 2" in words.verdict(results)
 
 
+def test_a_silence_of_more_than_five_seconds_is_not_judged_whatever_may_be_lost() -> None:
+    results = tried(LONG, lossy=30.0, silent=(5.0, 11.0))
+    assert results.verdict() is Verdict.NOT_JUDGED and [line for line in results.unjudged() if "silent for" in line]
+    results = tried(LONG, lossy=30.0, silent=(5.0, 8.0))
+    assert results.verdict() is Verdict.CONFORMS, results.unjudged()
+
+
 def test_replies_that_take_longer_than_is_waited_for_end_the_test() -> None:
     results = tried(slow=1.2)
     assert results.verdict() is Verdict.NOT_JUDGED and "--wait is 1" in results.stopped

@@ -342,6 +342,21 @@ def test_a_request_counts_once_for_each_time_that_it_was_sent() -> None:
     assert port.way.percent() == 100 and port.way.doubled == 3
 
 
+def test_a_read_is_sent_again_and_again_where_nothing_has_come_for_a_second() -> None:
+    for is_lossy in (False, True):
+        clock = SimulatedClock()
+        link = Silent(clock)
+        port = Port(link, clock)
+        asked = get(HEIGHT).octets(port.new_number(), WRITER)
+        port.way.send(port.number, asked)
+        clock.sleep_until(0.3)
+        port.way.answered(port.number)  # replies take 0.3 s
+        port.passed_over, begun_at = int(is_lossy), clock.now()
+        assert port.ask(asked, port.number).reply is None
+        took, times = clock.now() - begun_at, len(link.sent)
+        assert (round(took), times) == ((8, 1 + 7 * 4) if is_lossy else (3, 3))
+
+
 def test_asks_of_a_sequence_keep_their_numbers() -> None:
     ask = Ask(wire.GET, ((HEIGHT, (wire.NULL, b"")),), group=3)
     session, _ = begun()

@@ -7,7 +7,7 @@ from typing import TYPE_CHECKING, Protocol, Sequence
 from wisangub.tester.chapters import Block, Chapter
 from wisangub.tester.person.answers import Answer, Answered
 from wisangub.tester.requests.objects import Name, Value
-from wisangub.tester.sign.way import Way
+from wisangub.tester.sign.way import LONGEST_SILENCE, Way
 
 from .differences import Difference
 from .trace import Trace
@@ -137,7 +137,7 @@ class Results:
             found.append(
                 f"{self.way.percent():.1f} % of the replies were lost, late or doubled (--lossy {self.lossy:g})"
             )
-        if self.way is not None and self.way.longest > self.way.most_silence(self.lossy):
+        if self.way is not None and self.way.longest > LONGEST_SILENCE:
             found.append(f"the sign was silent for {self.way.longest:.1f} s")
         return found
 

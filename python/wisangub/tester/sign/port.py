@@ -1,7 +1,8 @@
 """Requests to the sign under test, and which of the datagrams that come in are their replies."""
 
+import math
 from dataclasses import dataclass, field
-from typing import Callable
+from typing import Callable, Iterator
 
 from wisangub.snmp import wire
 from wisangub.tester.requests.messages import spelled
@@ -16,6 +17,7 @@ _PAUSE, _AT_ONCE = 0.05, 0.001  # seconds in which nobody looked, and within whi
 _MOST_KEPT = 8  # datagrams of one request number that are remembered
 _LEAST_WAIT = 0.05  # seconds that a request waits at least until it is late beside others
 _LEAST_LOOK = 0.05  # seconds that a look waits at least
+_URGENT, _BETWEEN = 1.0, 0.3  # seconds of silence after which a read is sent again and again, and between two of these
 
 
 @dataclass
@@ -227,11 +229,15 @@ class Port:
         """Seconds after which a reply is late beside others, on a way that loses some."""
         return min(self.wait, max(_LEAST_WAIT, 4 * self.way.usual())) if self.is_lossy() else self.wait
 
-    def waits(self) -> list[float]:
+    def waits(self) -> Iterator[float]:
         """Seconds that a read waits each time that it is sent: on a way that loses some it is sent more often, until
-        that is no reason for no reply, and soon at first."""
-        tries = _LOSSY_TRIES if self.is_lossy() else _TRIES
-        return [min(self.wait, self.soon() * 2 ** (at // 2)) for at in range(tries)]
+        that is no reason for no reply, and soon at first. Where nothing has come for a second there, it is sent so
+        often that what is lost by chance makes no long silence."""
+        is_lossy = self.is_lossy()
+        for at in range(_LOSSY_TRIES if is_lossy else _TRIES):
+            wait = min(self.wait, self.soon() * 2 ** (at // 2))
+            times = math.ceil(wait / _BETWEEN) if is_lossy and self.way.silence() >= _URGENT else 1
+            yield from [wait / times] * times
 
     def ask(self, octets: bytes, number: int, expected: bytes | None = None) -> Heard:
         """A request that may be asked again, three times in all, and more on a way that loses some."""

@@ -15,7 +15,6 @@ _MOST_KEPT = 2048  # requests whose replies may still come
 _MOST_SHOWN = 100  # octets of a reply that no way makes
 _SUMS = ("asked", "unanswered", "late", "doubled", "twice", "reboots")  # what is counted of a way
 _MOSTS = ("longest", "slowest")  # seconds, of which the most is kept
-_MOST_SHARE = 50.0  # percent of replies that a way may lose, by which silences are judged
 _DELAYS = 24  # replies that are looked at to see whether they come in time
 
 
@@ -160,23 +159,19 @@ class Way:
             raise Stopped("the time that --budget gives is over")
         if self.patience is not None and self._in_a_row >= self.patience:
             raise Stopped(f"{self._in_a_row} requests in a row had no reply")
-        silence = 0.0 if self._silent_since is None else now - self._silent_since
-        if self.patience is None and silence >= self._most_silent:
-            raise Stopped(f"the sign was silent for {silence:.0f} seconds")
+        if self.patience is None and self.silence() >= self._most_silent:
+            raise Stopped(f"the sign was silent for {self.silence():.0f} seconds")
         least = sorted(self._delays)[_DELAYS // 5] if len(self._delays) == _DELAYS else 0.0
         if least > self.wait:
             raise Stopped(f"four replies of five take {least:.1f} s or longer, and --wait is {self.wait:g}")
 
-    def most_silence(self, lossy: float) -> float:
-        """Seconds without a reply that so many percent of lost replies explain: 5, or what comes by chance in one test
-        of a hundred."""
-        share = min(lossy, _MOST_SHARE) / 100
-        in_a_row = math.ceil(math.log(100 * max(self.asked, 1)) / -math.log(share)) if share else 0
-        return max(LONGEST_SILENCE, in_a_row * self.wait)
+    def silence(self) -> float:
+        """Seconds for which nothing has come so far."""
+        return 0.0 if self._silent_since is None else self.clock.now() - self._silent_since
 
     def is_in_doubt(self) -> bool:
         """Whether there was no reply for so long that the sign may be gone, or leaves one request alone unanswered."""
-        return self._silent_since is not None and self.clock.now() - self._silent_since >= _PATIENCE / 3
+        return self.silence() >= _PATIENCE / 3
 
     def begin_anew(self) -> None:
         """What was silent is no reason to stop any more: once more is tried, with no deadline."""
