@@ -1,6 +1,7 @@
 """Time and loss: what is asked again, which reply is whose, what an unanswered SET did, and when a request waits."""
 
 from dataclasses import dataclass, field
+from typing import Sequence
 
 from model import text
 from model.sign import Sign
@@ -9,9 +10,11 @@ from trials.wrong_signs.load import sign_of
 from trials.wrong_signs.table import MUTANTS
 from wisangub.snmp import wire
 from wisangub.snmp.names import Memory, RowStatus, scalar
-from wisangub.tester.findings.results import Verdict
+from wisangub.tester.chapters import ALL, Block
+from wisangub.tester.findings.results import ChapterResult, Verdict
 from wisangub.tester.requests.objects import Column, Row, integer, octets
-from wisangub.tester.requests.steps import Ask, get, get_next, put
+from wisangub.tester.requests.steps import Ask, Step, get, get_next, put
+from wisangub.tester.runs.runner import Run, Runner
 from wisangub.tester.session import Session
 from wisangub.tester.sign.clock import SimulatedClock
 from wisangub.tester.sign.pair import Inconclusive
@@ -355,6 +358,24 @@ def test_a_read_is_sent_again_and_again_where_nothing_has_come_for_a_second() ->
         assert port.ask(asked, port.number).reply is None
         took, times = clock.now() - begun_at, len(link.sent)
         assert (round(took), times) == ((8, 1 + 7 * 4) if is_lossy else (3, 3))
+
+
+class Brief(Runner):
+    """Can tell no sequence of more than one step."""
+
+    def anew(self, steps: Sequence[Step], after_a_tick: bool = True, is_alike: bool = False) -> Run | None:
+        if len(steps) > 1:
+            raise Inconclusive("it is long")
+        return super().anew(steps, after_a_tick, is_alike)
+
+
+def test_what_cannot_be_told_behind_what_was_done_before_is_begun_alone() -> None:
+    session, _ = begun()
+    session.runner = Brief(session.pair, session.reset)
+    result, block = ChapterResult(ALL[0]), Block("a height", "get", [get(HEIGHT)])
+    assert session.again(result, block, [get(TIME), get(HEIGHT)]) is None
+    assert [held.steps for held in result.left] == [block.steps] and result.told == 0
+    assert session.block(result, result.left.pop(), None) and not result.left and result.told == 1
 
 
 def test_asks_of_a_sequence_keep_their_numbers() -> None:

@@ -234,7 +234,7 @@ class Session:
             is_first = history is not None and not block.is_fresh
             if is_first:
                 return self.again(result, block, history)
-            result.left.append(block)
+            result.left.append(block.alone or block)
             return None
         result.told += datagrams(block.steps if run is None else run.steps)
         _end(block, ALIKE if run is None else DIFFERS)
@@ -248,9 +248,11 @@ class Session:
         return None
 
     def again(self, result: ChapterResult, block: Block, history: list[Step] | None) -> list[Step] | None:
-        """A block that could not be told in its place, from the known state, with what was done before it."""
+        """A block that could not be told in its place, from the known state, with what was done before it. Where that
+        cannot be told either, it is begun again alone."""
         before = [] if history is None or block.is_fresh else history
-        return self.block(result, replace(block, steps=[*before, *block.steps], is_fresh=True), None)
+        alone = replace(block, is_fresh=True)
+        return self.block(result, replace(alone, steps=[*before, *block.steps], alone=alone), None)
 
     def rule_of(self, block: Block, run: Run, is_small: bool = False) -> Rule:
         """The rule that a difference breaks."""
@@ -318,7 +320,7 @@ class Session:
         is_shrunk = sum(held.is_shrunk for held in result.differences) < MOST_SHRUNK
         run, is_repeated = self.made_small(run, steps, is_shrunk)
         if not is_repeated and (self.is_loss(run) or self._may_be_late(seen)):
-            result.left.append(replace(block, steps=whole, is_fresh=True))
+            result.left.append(replace(block, steps=whole, is_fresh=True, alone=None))
             _end(block, NOT_JUDGED)
             return
         rule = self.rule_of(block, run, is_repeated and is_shrunk)

@@ -24,6 +24,7 @@ class Block:
     parts: Sequence["Block"] = ()  # what tells it more closely where this block differs
     texts: tuple[bytes, ...] = ()  # of those that validation knows, what it sends
     plain: "Block | None" = None  # the same without a text that it carries besides
+    alone: "Block | None" = None  # the same without what was done before it, where that is in its steps
     case: Case | None = None  # its place in the report
 
 
