@@ -345,6 +345,23 @@ def test_a_request_counts_once_for_each_time_that_it_was_sent() -> None:
     assert port.way.percent() == 100 and port.way.doubled == 3
 
 
+def test_a_look_is_none_of_the_requests_of_which_a_share_may_be_lost_or_doubled() -> None:
+    clock = SimulatedClock()
+    link = Silent(clock)
+    port = Port(link, clock)
+    number = port.new_number()
+    asked = get(HEIGHT).octets(number, WRITER)
+    reply = wire.written(wire.Message(wire.RESPONSE, b"admin", number, 0, 0, [(HEIGHT, integer(14))]))
+    for is_look in (True, False):
+        link.replies = [reply]
+        heard = port.look(asked, number) if is_look else port.ask(asked, number)
+        assert heard.reply == reply
+        link.replies = [reply]
+        port.listen(0)
+        assert port.way.asked == port.way.twice == (0 if is_look else 1)
+    assert port.way.doubled == 2
+
+
 def test_a_read_is_sent_again_and_again_where_nothing_has_come_for_a_second() -> None:
     for is_lossy in (False, True):
         clock = SimulatedClock()

@@ -41,6 +41,7 @@ class Sent:
     missing: set[float] = field(default_factory=set)  # those that had no reply in time
     in_time: int = 0  # how often it was sent and had one
     doubled: int = 0  # replies beyond one for each time
+    is_counted: bool = True  # whether it is one of those of which a share may be without a reply, or have two
 
 
 @dataclass
@@ -98,8 +99,10 @@ class Way:
         self._silent_since, self._in_a_row = None, 0
         self.asked += is_counted
         sent = self._recent.get(number)
-        if sent is not None and sent.waiting:
-            self._took(sent, True)
+        if sent is not None:
+            sent.is_counted = is_counted
+            if sent.waiting:
+                self._took(sent, True)
 
     def silent(self, number: int, begun: float, is_counted: bool = True) -> None:
         """A request that was sent at this moment has no reply so far."""
@@ -121,7 +124,7 @@ class Way:
             self._took(sent, is_timed)
             return
         self.doubled += 1
-        if sent is None or sent.doubled < sent.in_time:
+        if sent is None or sent.is_counted and sent.doubled < sent.in_time:
             self.twice += 1
         if sent is not None:
             sent.doubled += 1
