@@ -1,5 +1,5 @@
--- Under which defaults the text of each valid row is good (this profile).
-use Rattle.std.specs.Prelude.{ℕ, ◌+◌, ◌-◌, ◌<◌, Option, Some, None, get_or, set, replicate}
+-- Under which defaults the text of a valid row is known to be good (this profile).
+use Rattle.std.specs.Prelude.{◌≡◌, ℕ, ◌+◌, ◌-◌, ◌<◌, Option, Some, None, get_or, set, replicate}
 use Rattle.dms_codes.specs.Limits.{most_changeable_rows, most_writable_rows}
 use Rattle.dms_face.specs.declared.defaults.Defaults.{Defaults}
 use Rattle.dms_face.specs.Face.{FaceModel}
@@ -11,20 +11,20 @@ use Rattle.dms_table.specs.Rows.{TableModel}
 use Rattle.dms_table.specs.Validation.{HasGoodTextWhereValid}
 use Rattle.dms_sign.specs.declared.known_texts.KnownTexts.{KnownTexts}
 
--- what is known of the permanent rows of a sign that is made with these defaults
+-- what is known of the permanent rows of a sign that is made with these defaults; of the others nothing is
 abbrev pub first_known : Defaults → KnownTexts
-first_known first = record { first = first; rows = replicate most_writable_rows first }
+first_known first = record { first = first; rows = replicate most_writable_rows None }
 
 -- where the defaults of the first row of a type of memory are kept
 abbrev pub first_entry : Writable → ℕ
 first_entry memory = of_type memory 0 most_changeable_rows
 
--- the defaults that are kept for the row of a number
-abbrev pub kept_in : KnownTexts → Option Writable → ℕ → Defaults
-kept_in known None number = known.first
-kept_in known (Some memory) number = get_or known.rows (first_entry memory + (number - 1)) known.first
+-- the defaults that are kept for the row of a number, where there are such
+abbrev pub kept_in : KnownTexts → Option Writable → ℕ → Option Defaults
+kept_in known None number = Some known.first
+kept_in known (Some memory) number = get_or known.rows (first_entry memory + (number - 1)) None
 
-abbrev pub kept_for : KnownTexts → ℕ → ℕ → Defaults
+abbrev pub kept_for : KnownTexts → ℕ → ℕ → Option Defaults
 kept_for known memory number = kept_in known (writable memory) number
 
 -- there is room for the defaults of a row at this place
@@ -33,9 +33,10 @@ HasRoom place = first_entry place.memory + place.index < most_writable_rows
 
 -- the same, with these defaults for the row at a place
 abbrev pub noted : KnownTexts → RowPlace → Defaults → KnownTexts
-noted known place defaults = record known { rows = set known.rows (first_entry place.memory + place.index) defaults }
+noted known place defaults =
+    record known { rows = set known.rows (first_entry place.memory + place.index) (Some defaults) }
 
--- the text of each row, where it is valid, is good under the defaults that are kept for it
+-- the text of each row for which defaults are kept, where it is valid, is good under them
 abbrev pub AreKnown : KnownTexts → FaceModel → TableModel → Type 0
-AreKnown known face table = (memory number : ℕ)
-    → HasGoodTextWhereValid (under face (kept_for known memory number)) table memory number
+AreKnown known face table = (memory number : ℕ) (defaults : Defaults) → kept_for known memory number ≡ Some defaults
+    → HasGoodTextWhereValid (under face defaults) table memory number

@@ -19,7 +19,7 @@ state_of s = record {
 }
 
 -- what holds of the fields: the sign is kept, the octets beside what is shown are those of its code, and the text of
--- each valid row is good under the defaults that are kept for it
+-- each valid row for which defaults are kept is good under them
 pub record IsWhole (s : Inside) : Type 0 where
   pub kept : IsKept (state_of s)
   pub source : s.source ≡ octets_of_id s.table.order s.shown.source

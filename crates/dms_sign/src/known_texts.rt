@@ -1,6 +1,7 @@
 //! Under which defaults the text of each valid row is good.
 
 ghost use Rattle.std.specs.Prelude.{◌≡◌, ◌≤◌};
+ghost use Rattle.std.specs.Option.{option_copied};
 ghost use Rattle.dms_codes.specs.Limits.{most_changeable_rows};
 ghost use Rattle.dms_sign.specs.KnownTexts.{first_known, first_entry, kept_for, noted, HasRoom};
 
@@ -11,23 +12,24 @@ use dms_table::{RowPlace, Writable};
 /// A row that can be changed has a place for its defaults.
 const ENTRIES: usize = MAX_CHANGEABLE as usize + MAX_VOLATILE as usize;
 
-/// For each row the defaults under which its text was found good, where the row is valid.
+/// For each row that is valid the defaults under which its text was found good, where that is known.
 #[derive(Drop)]
 pub(crate) struct KnownTexts {
     /// Those of the permanent rows, which are valid as the sign is made.
     first: Defaults,
-    /// Those of the rows that can be changed: of the changeable ones, and after them of the volatile ones.
-    rows: [Defaults; ENTRIES],
+    /// Those of the rows that can be changed: of the changeable ones, and after them of the volatile ones. Where there
+    /// are none, nothing is known of the text, and an activation looks at it.
+    rows: [Option<Defaults>; ENTRIES],
 }
 
 impl KnownTexts {
-    /// What is known of the permanent rows of a sign that is made with these defaults.
+    /// What is known of the permanent rows of a sign that is made with these defaults; of the others nothing is.
     pub(crate) fn new(first: Defaults) -> KnownTexts
         ensures { result ≡ first_known first }
     {
         KnownTexts {
             first,
-            rows: [first; ENTRIES],
+            rows: [None; ENTRIES],
         }
     }
 
@@ -36,20 +38,21 @@ impl KnownTexts {
         requires { HasRoom place }
         ensures { self.new ≡ noted self.old place defaults.now }
     {
-        self.rows[first_entry(place.memory) + place.index] = *defaults;
+        self.rows[first_entry(place.memory) + place.index] = Some(*defaults);
     }
 
-    /// The defaults under which the text of a row, where it is valid, is good.
-    pub(crate) fn of(&self, memory: u8, number: u16) -> &Defaults
-        ensures { result.now ≡ kept_for self.now memory number }
+    /// The defaults under which the text of a row, where it is valid, is known to be good.
+    pub(crate) fn of(&self, memory: u8, number: u16) -> Option<&Defaults>
+        ensures { option_copied result ≡ kept_for self.now memory number }
     {
         let Some(memory) = Writable::of(memory) else {
-            return &self.first;
+            return Some(&self.first);
         };
         let index = usize::from(number).saturating_sub(1);
-        self.rows
-            .get(first_entry(memory) + index)
-            .unwrap_or(&self.first)
+        match self.rows.get(first_entry(memory) + index) {
+            Some(known) => known.as_ref(),
+            None => None,
+        }
     }
 }
 

@@ -54,7 +54,7 @@ pub struct Sign {
     shown_at_power_loss: Shown,
     reports: Reports,
     powered: bool,
-    /// Under which defaults the text of each valid row is good on the face.
+    /// Under which defaults the text of a valid row is known to be good on the face.
     known: KnownTexts,
 }
 
@@ -290,7 +290,7 @@ fn judge(
     ensures { result ≡ unless_refused tt (refusal face.now defaults.now table.now shown.now code.now) }
 {
     let good_under = known.of(code.id.memory, code.id.number);
-    table.judge(Some(good_under), face, defaults, code, shown)
+    table.judge(good_under, face, defaults, code, shown)
 }
 
 /// The octets of the code of what is shown.

@@ -24,5 +24,5 @@ invariant_of-result c =
           c.defaults-defaults.ensures.value c.new.ensures.first c.new-2.ensures
           c.blank.ensures c.blank-2.ensures kept;
       source = made_source c.args.table.order c.defaults-defaults.result c.blank.result c.blank.ensures;
-      known = known_made c.new-3.result c.args.face c.args.table (c.new-3.ensures ∙ ap first_known c.defaults-defaults.ensures.value) c.requires.good c.requires.stocked;
+      known = known_made c.new-3.result c.args.face c.args.table (c.new-3.ensures ∙ ap first_known c.defaults-defaults.ensures.value) c.requires.good;
     }
