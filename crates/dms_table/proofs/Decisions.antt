@@ -2,10 +2,9 @@
 use Rattle.std.proofs.Common.{◌≡◌, Option, Some, None, Ok, Err, refl, arith}
 use Rattle.dms_face.specs.declared.defaults.Defaults.{Defaults}
 use Rattle.dms_face.specs.Face.{FaceModel}
-use Rattle.dms_face.specs.Layout.{under}
 use Rattle.dms_codes.specs.declared.codes.Activation.{Activation}
 use Rattle.dms_table.specs.declared.activation.Cause.{Cause}
-use Rattle.dms_table.specs.Rows.{TableModel, RowReading}
+use Rattle.dms_table.specs.Rows.{TableModel}
 use Rattle.dms_table.specs.Activation.{ShownModel, refusal, shown_by, unless_refused, decided}
 
 accepted_by : {A B : Type 0} (a : A) (b : B) (o : Option Cause) → Ok a ≡ unless_refused a o → Ok b ≡ unless_refused b o

@@ -8,3 +8,5 @@ pub mod Places
 pub mod ShownChecksums
 pub mod Memories
 pub mod Writables
+pub mod EmptyRows
+pub mod PutRows

@@ -115,7 +115,7 @@ put_one : (rows more : List RowModel) (i : ℕ) (row : RowModel) (o : Option Row
 put_one rows more i row o is e changed = grind (arith, slice_get, set_there)
 
 -- what a change takes is not being validated
-abbrev Frees : (RowModel → Option RowModel) → Type 0
+abbrev pub Frees : (RowModel → Option RowModel) → Type 0
 Frees change = (row : RowModel) → is_some (change row) ≡ true → row_is_validating row ≡ false
 
 kept_by : (b : Bool) (o : Option RowModel) (rows more : List RowModel) (i place : ℕ) (change : RowModel → Option RowModel) → Frees change → slice_get rows i ≡ o
@@ -125,7 +125,7 @@ kept_by true o rows more i place change frees e changed there = absurd (cc)
 kept_by false None rows more i place change frees e changed there = absurd (cc)
 kept_by false (Some row) rows more i place change frees e changed there = kept_one rows more i place row (change row) (frees row) e changed there
 
-put_by : (b : Bool) (o : Option RowModel) (rows more : List RowModel) (i : ℕ) (change : RowModel → Option RowModel)
+pub put_by : (b : Bool) (o : Option RowModel) (rows more : List RowModel) (i : ℕ) (change : RowModel → Option RowModel)
     → ((row new : RowModel) → change row ≡ Some new → row_is_validating new ≡ true) → slice_get rows i ≡ o
     → option_and_then (λ row. option_map (slice_set rows i) (change row)) (cond b None o) ≡ Some more
     → option_map row_is_validating (slice_get more i) ≡ Some true
@@ -166,10 +166,10 @@ pub changed_count : (memory : Writable) (changeable volatile rows : List RowMode
     → count (of_type memory rows changeable) + count (of_type memory volatile rows) + count (of_type memory changeable volatile) ≡ count changeable + count volatile + count rows
 changed_count memory changeable volatile rows = grind arith
 
-changed_rows : (memory : Writable) (changeable volatile rows : List RowModel) → of_type memory (of_type memory rows changeable) (of_type memory volatile rows) ≡ rows
+pub changed_rows : (memory : Writable) (changeable volatile rows : List RowModel) → of_type memory (of_type memory rows changeable) (of_type memory volatile rows) ≡ rows
 changed_rows memory changeable volatile rows = grind arith
 
-abbrev IsValidatingAt : List RowModel → ℕ → Type 0
+abbrev pub IsValidatingAt : List RowModel → ℕ → Type 0
 IsValidatingAt rows index = option_map row_is_validating (slice_get rows index) ≡ Some true
 
 kept_there : (memory other : Writable) (changeable volatile rows : List RowModel) (index : ℕ)
@@ -178,7 +178,7 @@ kept_there : (memory other : Writable) (changeable volatile rows : List RowModel
 kept_there memory other changeable volatile rows index kept there = grind arith
 
 -- a change that validates no row leaves the place
-kept_place : (memory : Writable) (validating : Option RowPlace) (changeable volatile more : List RowModel) (number : ℕ) (change : RowModel → Option RowModel)
+pub kept_place : (memory : Writable) (validating : Option RowPlace) (changeable volatile more : List RowModel) (number : ℕ) (change : RowModel → Option RowModel)
     → Frees change → changed_in (of_type memory changeable volatile) number change ≡ Some more → count more ≡ count (of_type memory changeable volatile)
     → IsPlaced validating changeable volatile → IsPlaced validating (of_type memory more changeable) (of_type memory volatile more)
 kept_place memory None changeable volatile more number change frees changed same is = grind (arith, changed_count, kept_there, kept_by, slice_get)

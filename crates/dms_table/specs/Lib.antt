@@ -3,6 +3,8 @@ pub mod Rows
 pub mod Validation
 pub mod Stock
 pub mod Activation
+pub mod SavedRows
+pub mod SavedShown
 pub mod FaultTexts
 -- what the code's fields and views are in these words
 pub mod RowsView
@@ -10,4 +12,5 @@ pub mod ShownView
 -- what only proofs go through
 pub mod ValidatorView
 pub mod PlaceView
+pub mod TableView
 pub mod WritableView

@@ -14,6 +14,8 @@
 pub mod activation;
 pub mod laws;
 pub mod row;
+mod saved_row;
+mod saved_shown;
 pub mod shown;
 pub mod stock;
 pub mod table;
@@ -26,6 +28,8 @@ pub use dms_codes::{
     ValidationError, checksum, codes, crc, memory,
 };
 pub use row::{Field, Refused, RowView, Services};
+pub use saved_row::{RowFault, SavedRow};
+pub use saved_shown::{SavedShown, ShownFault};
 pub use shown::{Shown, seconds_of};
 pub use stock::{Permanent, Stock, TableFault};
 pub use table::Table;

@@ -1,6 +1,6 @@
 //! Rows of the table.
 
-ghost use Rattle.std.specs.Prelude.{◌≡◌, false, true, ◌≤◌, [], Some, None, OnOk, OnErr, IfSome, IsTrue};
+ghost use Rattle.std.specs.Prelude.{◌≡◌, false, true, ◌≤◌, [], Some, None, OnOk, OnErr, IfErr, IfSome, IsTrue};
 ghost use Rattle.std.specs.Prelude.{length, option_map, is_some};
 ghost use Rattle.std.specs.Int.Digits.{AllBelowBase};
 ghost use Rattle.dms_table.specs.Rows.{unused, interrupted, is_in_range, with_field, with_status, asked_row};
@@ -10,7 +10,10 @@ ghost use Rattle.dms_face.specs.Face.{fit};
 ghost use Rattle.dms_table.specs.ValidatorView.{settled_by, verdict_by, IsJudged};
 ghost use Rattle.dms_table.specs.Stock.{permanent_row, has_ranges, HasOctets};
 ghost use Rattle.dms_table.specs.RowsView.{field_of, reading_of, IsShort};
+ghost use Rattle.dms_table.specs.SavedRows.{row_saved, put_over, place_fault};
+ghost use Rattle.dms_table.specs.TableView.{FitsARow};
 
+use crate::saved_row::{RowFault, SavedRow};
 use crate::stock::Permanent;
 use crate::validation::{Validator, Verdict};
 use arrayvec::ArrayVec;
@@ -225,6 +228,27 @@ impl Row {
         self.pixel = 0;
         self.priority = 1;
         self.status = Status::NotUsed;
+    }
+
+    /// Becomes this row, where it is not used.
+    pub(crate) fn put(&mut self, row: &SavedRow<'_>) -> Result<(), RowFault>
+        requires { FitsARow row.now }
+        ensures ok { OnOk result (put_over (row_saved row.now) self.old ≡ Some self.new) }
+        ensures free { OnOk result (place_fault (Some self.old) ≡ None) }
+        ensures fault { IfErr result (λ fault. place_fault (Some self.old) ≡ Some fault) }
+        ensures unchanged { OnErr result (self.new ≡ self.old) }
+    {
+        if self.status != Status::NotUsed {
+            return Err(RowFault::Used);
+        }
+        replace(&mut self.text, row.text);
+        replace(&mut self.owner, row.owner);
+        self.beacon = row.beacon;
+        self.pixel = row.pixel;
+        self.priority = row.priority;
+        self.status = row.status;
+        self.checksum = crc(row.text, row.beacon, row.pixel);
+        Ok(())
     }
 
     /// Ends a validation without a verdict.

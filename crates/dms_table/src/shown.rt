@@ -1,14 +1,17 @@
 //! What a sign shows.
 
-ghost use Rattle.std.specs.Prelude.{◌≡◌, ◌==◌, None, false};
+ghost use Rattle.std.specs.Prelude.{◌≡◌, ◌==◌, Some, None, false, IfOk, IfErr, OnOk};
 ghost use Rattle.dms_codes.specs.Memory.{current_buffer};
 ghost use Rattle.dms_codes.specs.Mode.{mode_number};
 ghost use Rattle.dms_table.specs.RowsView.{reading_of, IsShort};
 ghost use Rattle.dms_table.specs.Activation.{blank_shown, shown_reading, seconds_of, minutes_left, put_up};
+ghost use Rattle.dms_table.specs.SavedShown.{shown_saved, shown_fault};
+ghost use Rattle.dms_table.specs.TableView.{FitsShown};
 ghost use Rattle.dms_table.specs.ShownView.{shown_checksum, HasItWhereValid};
 ghost use Rattle.dms_codes.specs.declared.mode.Mode.TheVariants.{Central};
 
 use crate::row::{RowView, copy_of, replace};
+use crate::saved_shown::{SavedShown, ShownFault};
 use arrayvec::ArrayVec;
 use dms_codes::{Activation, MAX_OWNER, MAX_TEXT, MessageId, Mode, Status, crc, memory};
 use dms_face::Defaults;
@@ -84,6 +87,37 @@ impl Shown {
             remaining: None,
             defaults: *defaults,
             checksum: 0,
+        }
+    }
+
+    /// The message of these fields, or the first thing for which there is none.
+    pub fn of(saved: &SavedShown<'_>) -> Result<Shown, ShownFault>
+        ensures made { IfOk result (λ shown. shown ≡ shown_saved saved.now) }
+        ensures faultless { OnOk result (shown_fault (shown_saved saved.now) ≡ None) }
+        ensures fault { IfErr result (λ fault. shown_fault (shown_saved saved.now) ≡ Some fault) }
+    {
+        match saved.fault() {
+            Some(fault) => Err(fault),
+            None => Ok(Shown::of_fields(saved)),
+        }
+    }
+
+    fn of_fields(saved: &SavedShown<'_>) -> Shown
+        requires { FitsShown saved.now }
+        ensures { result ≡ shown_saved saved.now }
+    {
+        Shown {
+            text: copy_of(saved.text),
+            owner: copy_of(saved.owner),
+            beacon: saved.beacon,
+            pixel: saved.pixel,
+            priority: saved.priority,
+            source: saved.source,
+            mode: saved.mode,
+            address: saved.address,
+            remaining: saved.remaining,
+            defaults: saved.defaults,
+            checksum: checksum_shown(saved),
         }
     }
 
@@ -205,6 +239,18 @@ fn checksum_of(kind: u8, row: &RowView<'_>) -> u16
         0
     } else {
         crc(row.text, row.beacon, row.pixel)
+    }
+}
+
+/// The checksum of a message of a saved state, as it is read: 0 of a blank one.
+fn checksum_shown(saved: &SavedShown<'_>) -> u16
+    ensures { result
+        ≡ shown_checksum saved.now.source.memory saved.now.text.now saved.now.beacon saved.now.pixel }
+{
+    if saved.source.memory == memory::BLANK {
+        0
+    } else {
+        crc(saved.text, saved.beacon, saved.pixel)
     }
 }
 

@@ -4,8 +4,8 @@ ghost use Rattle.std.specs.Prelude.{◌≡◌, ◌⊎◌, ◌<◌, ◌+◌, IfNo
 ghost use Rattle.std.specs.Prelude.{Some, None, IfSome, option_map, is_some};
 ghost use Rattle.std.specs.Option.{option_copied};
 ghost use Rattle.dms_table.specs.Rows.{row_is_validating, rows_of, numbered, row_read, valid_count, unused_count};
-ghost use Rattle.dms_table.specs.Rows.{row_count, is_settling, may_ask, changed_in, asked_row, asked, written_row};
-ghost use Rattle.dms_table.specs.Rows.{written, interrupted, released, after_power, IsTable};
+ghost use Rattle.dms_table.specs.Rows.{row_count, is_settling, may_ask, changed, changed_in, asked_row, asked};
+ghost use Rattle.dms_table.specs.Rows.{written_row, written, interrupted, released, after_power, IsTable};
 ghost use Rattle.dms_table.specs.RowsView.{field_of, reading_of, IsShort};
 ghost use Rattle.dms_codes.specs.declared.row_id.RowId.{RowId};
 ghost use Rattle.dms_codes.specs.declared.status.Ask.{Ask};
@@ -13,16 +13,20 @@ ghost use Rattle.dms_codes.specs.Status.{is_validate};
 ghost use Rattle.dms_face.specs.Face.{fit};
 ghost use Rattle.dms_face.specs.Layout.{under};
 ghost use Rattle.dms_table.specs.Validation.{settled, verdict, ValidRowsAreGood};
+ghost use Rattle.dms_table.specs.SavedRows.{row_saved, put_over, place_fault, may_put, row_fault};
+ghost use Rattle.dms_table.specs.SavedRows.{AreEmptyWhereUnused};
+ghost use Rattle.dms_table.specs.TableView.{FitsARow, validating_with};
 ghost use Rattle.dms_table.specs.PlaceView.{IsOnly, IsPlaced, validating_after};
 ghost use Rattle.dms_table.specs.ValidatorView.{settled_by, verdict_by, IsJudged};
 ghost use Rattle.dms_table.specs.Stock.{permanent_row, has_ranges, stock_fault, table_of, IsFirstFault};
 ghost use Rattle.dms_table.specs.Stock.{PermanentRowsAreGood, HasOctets};
 
 use crate::row::{Field, Refused, Row, RowView, Services};
+use crate::saved_row::{RowFault, SavedRow};
 use crate::stock::{Stock, TableFault, permanent_rows, unused_rows};
 use crate::validation::{Validator, Verdict};
 use crate::writable::{RowPlace, Writable, WritableRows};
-use dms_codes::{Ask, Memory, Order, RowId, memory};
+use dms_codes::{Ask, Memory, Order, RowId, Status, memory};
 use dms_face::{Defaults, Face};
 use std::alloc::{AllocError, Global};
 use std::marker::Model;
@@ -40,7 +44,7 @@ pub struct Table {
 
 impl Model for Table {
     ghost use Rattle.dms_table.specs.Rows.{TableModel};
-    ghost use Rattle.dms_table.specs.PlaceView.{IsPlaced};
+    ghost use Rattle.dms_table.specs.TableView.{IsTableKept};
 
     ghost Value = { TableModel };
 
@@ -52,7 +56,7 @@ impl Model for Table {
       order = t.order;
     } };
 
-    ghost invariant = { λ t. IsPlaced t.validating t.writable.changeable.items t.writable.volatile.items };
+    ghost invariant = { λ t. IsTableKept t.validating t.writable.changeable.items t.writable.volatile.items };
 }
 
 impl Table {
@@ -106,7 +110,9 @@ impl Table {
 
     /// What holds of every table, by its type.
     pub(crate) fn limits(&self)
-        ensures { IsTable self.now }
+        ensures one { IsTable self.now }
+        ensures changeable { AreEmptyWhereUnused self.now.changeable }
+        ensures volatile { AreEmptyWhereUnused self.now.volatile }
     {
         let _ = &self.writable;
     }
@@ -219,6 +225,34 @@ impl Table {
         }
     }
 
+    /// One row is validated at a time.
+    fn may_put(&self, status: Status) -> bool
+        ensures { result ≡ may_put self.now status }
+    {
+        status != Status::Validating || !self.is_settling()
+    }
+
+    /// Puts a row of a saved state where one is that is not used.
+    pub fn put_row(&mut self, id: RowId, row: &SavedRow<'_>) -> Result<(), RowFault>
+        ensures ok { OnOk result (changed self.old id (put_over (row_saved row.now)) ≡ Some self.new) }
+        ensures faultless { OnOk result (row_fault self.old id (row_saved row.now) ≡ None) }
+        ensures fault { IfErr result (λ fault. row_fault self.old id (row_saved row.now) ≡ Some fault) }
+        ensures unchanged { OnErr result (self.new ≡ self.old) }
+    {
+        if let Some(fault) = row.fault(self.services) {
+            return Err(fault);
+        }
+        if !self.may_put(row.status) {
+            return Err(RowFault::Validating);
+        }
+        let Some(memory) = Writable::of(id.memory) else {
+            return Err(RowFault::Place);
+        };
+        let index = put_in(self.writable.of_mut(memory), id.number, row)?;
+        self.validating = validating_with(self.validating, row.status, RowPlace { memory, index });
+        Ok(())
+    }
+
     /// Ends the validation of the row that is being validated: it becomes valid, or an error. There is a verdict where
     /// there was such a row. The defaults must fit the face.
     pub fn settle(&mut self, face: &Face, defaults: &Defaults) -> Option<Verdict>
@@ -260,6 +294,21 @@ fn validating_after(validating: Option<RowPlace>, ask: Ask, place: RowPlace) -> 
     ensures { result ≡ validating_after validating ask place }
 {
     if is_validate(ask) {
+        Some(place)
+    } else {
+        validating
+    }
+}
+
+/// The row that is being validated once a row of this status was put at a place.
+fn validating_with(
+    validating: Option<RowPlace>,
+    status: Status,
+    place: RowPlace,
+) -> Option<RowPlace>
+    ensures { result ≡ validating_with validating status place }
+{
+    if status == Status::Validating {
         Some(place)
     } else {
         validating
@@ -316,6 +365,23 @@ fn write_in(rows: &mut [Row], number: u16, field: Field<'_>) -> Result<(), Refus
     };
     let row = &mut rows[index];
     row.write(field)
+}
+
+/// Puts a row in the place of the one of a number, from 1, and says at which index it stands.
+fn put_in(rows: &mut [Row], number: u16, row: &SavedRow<'_>) -> Result<usize, RowFault>
+    requires { FitsARow row.now }
+    ensures ok { OnOk result (changed_in rows.old number (put_over (row_saved row.now)) ≡ Some rows.new) }
+    ensures index { IfOk result (λ index. index + 1 ≡ number) }
+    ensures free { OnOk result (place_fault (numbered rows.old number) ≡ None) }
+    ensures fault { IfErr result (λ fault. place_fault (numbered rows.old number) ≡ Some fault) }
+    ensures unchanged { OnErr result (rows.new ≡ rows.old) }
+{
+    let Some(index) = index_of_number(number, rows.len()) else {
+        return Err(RowFault::Place);
+    };
+    let there = &mut rows[index];
+    there.put(row)?;
+    Ok(index)
 }
 
 fn interrupt_all(rows: &mut [Row])

@@ -13,4 +13,6 @@ mod objects;
 #[cfg(test)]
 mod replies;
 #[cfg(test)]
+mod saved;
+#[cfg(test)]
 mod tables;

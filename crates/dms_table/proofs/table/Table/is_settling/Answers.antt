@@ -8,4 +8,4 @@ pub returns : goal.returns
 returns c =
     c.is_some.ensures
     ∙ sym (placed_settling c.self.inside.validating c.args.self.now
-    (subst (λ (table : TableModel). IsPlaced c.self.inside.validating table.changeable table.volatile) c.self.view_is c.self.invariant))
+    (subst (λ (table : TableModel). IsPlaced c.self.inside.validating table.changeable table.volatile) c.self.view_is c.self.invariant.placed))

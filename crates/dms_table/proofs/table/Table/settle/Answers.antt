@@ -7,6 +7,7 @@ use Rattle.dms_table.proofs.OneRow.{count, none_settled}
 use Rattle.dms_table.proofs.GoodRows.{settled_rows_are_good}
 use Rattle.dms_table.proofs.Places.{only_of_type, none_of_other, placed_at, placed_nowhere, none_left, placed_settling}
 use Rattle.dms_table.proofs.Settlement.{settled_is, verdict_is, all_of_type, nothing_settled, no_verdict}
+use Rattle.dms_table.proofs.EmptyRows.{both_settled}
 use Rattle.dms_table.proofs.Writables.{are_lent, table_by, table_lent}
 use Rattle.dms_table.proofs.table.Table.settle.Goals as goal
 
@@ -16,19 +17,25 @@ settle_in-verdict-requires-clause-only c = grind (arith, placed_at, only_of_type
 pub invariant_of-self : goal.invariant_of-self
 invariant_of-self c =
     let all = c.self.inside.writable in
-    let placed = placed_at c.self.inside.validating c.in_ok-place.place all.changeable.items all.volatile.items c.in_ok-place.was c.self.invariant in
+    let placed = placed_at c.self.inside.validating c.in_ok-place.place all.changeable.items all.volatile.items c.in_ok-place.was c.self.invariant.placed in
     let lent = are_lent c.in_ok-place.place.memory all c.settle_in-verdict.new.rows (omega arith) (omega arith) (omega (arith, ap length c.of_mut-rows.ensures.value)) in
     let left : count c.settle_in-verdict.new.rows ≡ 0 =
     ap count c.settle_in-verdict.ensures.rows ∙ none_settled c.self.inside.services (under c.args.face.now c.args.defaults.now) c.of_mut-rows.result.now in
-    rw (lent.changeable, lent.volatile) (none_left c.in_ok-place.place.memory all.changeable.items all.volatile.items c.settle_in-verdict.new.rows left
-    (none_of_other c.in_ok-place.place all.changeable.items all.volatile.items placed))
+    let empty = both_settled c.in_ok-place.place.memory c.self.inside.services (under c.args.face.now c.args.defaults.now) all.changeable.items all.volatile.items c.settle_in-verdict.new.rows
+    c.self.invariant.changeable_empty c.self.invariant.volatile_empty (rw c.of_mut-rows.ensures.value at c.settle_in-verdict.ensures.rows) in
+    rw (lent.changeable, lent.volatile) (record {
+      placed = none_left c.in_ok-place.place.memory all.changeable.items all.volatile.items c.settle_in-verdict.new.rows left
+          (none_of_other c.in_ok-place.place all.changeable.items all.volatile.items placed);
+      changeable_empty = empty.changeable_empty;
+      volatile_empty = empty.volatile_empty;
+    })
 
 pub returns-clause-rows : goal.returns-clause-rows
 returns-clause-rows c =
     let all = c.self.inside.writable in
     let face = under c.args.face.now c.args.defaults.now in
     let table : TableModel = table_by c.self.inside.permanent.items all c.self.inside.services c.self.inside.order in
-    let placed = placed_at c.self.inside.validating c.in_ok-place.place all.changeable.items all.volatile.items c.in_ok-place.was c.self.invariant in
+    let placed = placed_at c.self.inside.validating c.in_ok-place.place all.changeable.items all.volatile.items c.in_ok-place.was c.self.invariant.placed in
     let lent = are_lent c.in_ok-place.place.memory all c.settle_in-verdict.new.rows (omega arith) (omega arith) (omega (arith, ap length c.of_mut-rows.ensures.value)) in
     table_lent c.self.inside.permanent.items all c.self.inside.services c.self.inside.order c.in_ok-place.place.memory c.settle_in-verdict.new.rows lent
     ∙ settled_is face table c.in_ok-place.place.memory c.settle_in-verdict.new.rows
@@ -40,7 +47,7 @@ returns-clause-verdict c =
     let all = c.self.inside.writable in
     let face = under c.args.face.now c.args.defaults.now in
     let table : TableModel = table_by c.self.inside.permanent.items all c.self.inside.services c.self.inside.order in
-    let placed = placed_at c.self.inside.validating c.in_ok-place.place all.changeable.items all.volatile.items c.in_ok-place.was c.self.invariant in
+    let placed = placed_at c.self.inside.validating c.in_ok-place.place all.changeable.items all.volatile.items c.in_ok-place.was c.self.invariant.placed in
     verdict_is face table c.in_ok-place.place.memory (Some c.settle_in-verdict.result)
     (none_of_other c.in_ok-place.place all.changeable.items all.volatile.items placed) (rw c.of_mut-rows.ensures.value at c.settle_in-verdict.ensures.verdict)
     ∙ ap (verdict face) c.self.view_is
@@ -49,7 +56,7 @@ pub returns-clause-good : goal.returns-clause-good
 returns-clause-good c =
     let all = c.self.inside.writable in
     let face = under c.args.face.now c.args.defaults.now in
-    let placed = placed_at c.self.inside.validating c.in_ok-place.place all.changeable.items all.volatile.items c.in_ok-place.was c.self.invariant in
+    let placed = placed_at c.self.inside.validating c.in_ok-place.place all.changeable.items all.volatile.items c.in_ok-place.was c.self.invariant.placed in
     let both = all_of_type c.in_ok-place.place.memory (λ (row : RowModel). passes (verdict_of c.self.inside.services face row) ≡ true → IsGood face row.text)
     all.changeable.items all.volatile.items (none_of_other c.in_ok-place.place all.changeable.items all.volatile.items placed)
     (rw c.of_mut-rows.ensures.value at c.settle_in-verdict.ensures.judged) in
