@@ -1,4 +1,5 @@
 pub mod Order
+pub mod FirstOctets
 pub mod Found
 pub mod Writes
 pub mod Faultless

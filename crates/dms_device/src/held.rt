@@ -47,7 +47,7 @@ impl HeldName {
 }
 
 /// The content octets of a name.
-fn content_of<'a>(name: &Oid<'a>) -> &'a [u8]
+pub(crate) fn content_of<'a>(name: &Oid<'a>) -> &'a [u8]
     ensures spelled { IsName (numbers_of result.now) result.now }
     ensures numbers { numbers_of result.now ≡ name.now }
 {

@@ -15,6 +15,7 @@ mod access;
 mod device;
 mod fault;
 mod held;
+mod names;
 mod object;
 mod places;
 mod setting;

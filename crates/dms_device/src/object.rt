@@ -11,7 +11,8 @@ ghost use Rattle.dms_device.specs.Taken.{told};
 use crate::access::Access;
 use crate::fault::ObjectFault;
 use crate::held::{HeldName, HeldValue, hold};
-use dms_wire::{Oid, Value, oid_cmp};
+use crate::names::is_before;
+use dms_wire::{Oid, Value};
 use dms_wire_ber::is_name;
 use std::alloc::{AllocError, Global};
 use std::marker::Model;
@@ -120,7 +121,7 @@ impl Object {
     pub(crate) fn comes_after(&self, name: &Oid<'_>) -> bool
         ensures { result ≡ comes_after name.now self.now }
     {
-        oid_cmp(name, &self.name()).is_lt()
+        is_before(name, &self.name())
     }
 
     /// Writes a value, where it is one that a manager may write.
