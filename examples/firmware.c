@@ -72,12 +72,19 @@ static size_t publish_all(struct firmware *firmware, const struct objects *objec
     return count;
 }
 
+/* Whether the objects of the sign's fonts can be read, where the file says so; nothing is published yet. */
+static int shows_fonts(struct firmware *firmware)
+{
+    return firmware->objects.fonts == 0 || wisangub_sign_show_fonts(firmware->sign) == WISANGUB_DONE;
+}
+
 void firmware_begin(struct firmware *firmware, struct wisangub_sign *sign, const char *path, double up, int is_quiet)
 {
     static char why[OBJECTS_WHY];
     static const struct objects none = {.count = 0};
     *firmware = (struct firmware){.sign = sign, .path = path, .begun = up, .told = up, .is_quiet = is_quiet};
-    if (!objects_read(path, &firmware->objects, why) || !is_beside(firmware, &firmware->objects, &none, why)) {
+    if (!objects_read(path, &firmware->objects, why) || !shows_fonts(firmware)
+        || !is_beside(firmware, &firmware->objects, &none, why)) {
         fprintf(stderr, "%s\n", why);
         exit(2);
     }
@@ -85,6 +92,18 @@ void firmware_begin(struct firmware *firmware, struct wisangub_sign *sign, const
 }
 
 /* ---- a file that changes */
+
+/* Whether both files say the same of fonts, which are settled at the start. */
+static int are_settled(const struct firmware *firmware, const struct objects *now, char why[OBJECTS_WHY])
+{
+    size_t before = firmware->objects.fonts;
+    if ((now->fonts == 0) == (before == 0)) {
+        return 1;
+    }
+    snprintf(why, OBJECTS_WHY, "%s: line %zu: whether fonts can be read is settled at a start", firmware->path,
+             now->fonts > 0 ? now->fonts : before);
+    return 0;
+}
 
 void firmware_again(struct firmware *firmware, double up)
 {
@@ -95,7 +114,7 @@ void firmware_again(struct firmware *firmware, double up)
         fprintf(stderr, "%s: the objects stay as they were\n", why);
         return;
     }
-    if (!is_beside(firmware, &now, &before, why)) {
+    if (!are_settled(firmware, &now, why) || !is_beside(firmware, &now, &before, why)) {
         fprintf(stderr, "%s: the objects stay as they were\n", why);
         objects_free(&now);
         return;

@@ -16,7 +16,8 @@ struct firmware {
     int is_quiet;
 };
 
-/* Publishes the objects of a file. Where it is at fault, or the sign has an object of one of these names, this ends. */
+/* Publishes the objects of a file, with those of the sign's fonts where it says so. Where it is at fault, or the sign has
+ * an object of one of these names, this ends. */
 void firmware_begin(struct firmware *firmware, struct wisangub_sign *sign, const char *path, double up, int is_quiet);
 
 /* Reads the file again: what is no more there is withdrawn, and what is new or another is published. Where it is at

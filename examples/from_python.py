@@ -85,6 +85,7 @@ ARGUMENTS = {
     "sign_check": [SIGN, c_char_p, c_size_t, SIZE, POINTER(TextFault)],
     "sign_pages": [SIGN, c_uint32, BUFFER, c_size_t, SIZE],
     "sign_text_pages": [SIGN, c_char_p, c_size_t, c_uint32, BUFFER, c_size_t, SIZE, POINTER(TextFault)],
+    "sign_show_fonts": [SIGN],
     "sign_publish": [SIGN, BUFFER, c_size_t, POINTER(Value), BUFFER, c_size_t, POINTER(Access)],
     "sign_withdraw": [SIGN, BUFFER, c_size_t],
     "sign_object": [SIGN, BUFFER, c_size_t, POINTER(Value), BUFFER, c_size_t, SIZE],

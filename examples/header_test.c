@@ -87,6 +87,7 @@ static void without_a_sign(void)
         REFUSED(wisangub_sign_check(none, "", 0, &size, &fault));
         REFUSED(wisangub_sign_pages(none, LOOK, room, sizeof room, &size));
         REFUSED(wisangub_sign_text_pages(none, "", 0, LOOK, room, sizeof room, &size, &fault));
+        REFUSED(wisangub_sign_show_fonts(none));
         REFUSED(wisangub_sign_publish(none, descr, sizeof descr, &value, NULL, 0, &read_only));
         REFUSED(wisangub_sign_withdraw(none, descr, sizeof descr));
         REFUSED(wisangub_sign_object(none, descr, sizeof descr, &value, buffer, sizeof buffer, &size));
@@ -325,6 +326,26 @@ static void wrong_objects(void)
     }
     FAULT(wisangub_sign_object(&sign, level, sizeof level, &found, room, sizeof room, &size));
     FAULT(wisangub_sign_withdraw(&sign, level, sizeof level));
+}
+
+/* Fonts can be read from there on, unless an object is published; then no object has a name of theirs. */
+static void fonts_read(void)
+{
+    static const uint8_t fonts[] = {43, 6, 1, 4, 1, 137, 54, 4, 2, 3, 3, 1, 0};
+    const struct wisangub_value given = {7, WISANGUB_INTEGER};
+    struct wisangub_value found = {0, 0};
+    DONE(wisangub_sign_publish(&sign, fonts, sizeof fonts, &given, NULL, 0, &read_only));
+    FAULT(wisangub_sign_show_fonts(&sign));
+    DONE(wisangub_sign_object(&sign, fonts, sizeof fonts, &found, NULL, 0, &size));
+    assert(found.number == 7 && found.type == WISANGUB_INTEGER);
+    DONE(wisangub_sign_withdraw(&sign, fonts, sizeof fonts));
+    FAULT(wisangub_sign_object(&sign, fonts, sizeof fonts, &found, NULL, 0, &size));
+    DONE(wisangub_sign_show_fonts(&sign));
+    DONE(wisangub_sign_object(&sign, fonts, sizeof fonts, &found, NULL, 0, &size));
+    assert(found.number >= 1 && found.number <= 4 && found.type == WISANGUB_INTEGER);
+    FAULT(wisangub_sign_publish(&sign, fonts, sizeof fonts, &given, NULL, 0, &read_only));
+    FAULT(wisangub_sign_withdraw(&sign, fonts, sizeof fonts));
+    DONE(wisangub_sign_show_fonts(&sign));
 }
 
 /* An object of each type is read as it was published, and one in its place is read then. */
@@ -585,6 +606,7 @@ int main(int count, char **words)
     codes();
     values_out_of_range();
     wrong_objects();
+    fonts_read();
     objects_read();
     objects_set();
     without_a_centre();

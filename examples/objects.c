@@ -73,12 +73,15 @@ static size_t take_lines(const char *text, size_t size, struct objects *objects,
             if (!object_read(line, length, object, &store, why)) {
                 return number;
             }
-            if (object->kind == OBJECT_FONTS) {
-                snprintf(why, OBJECT_WHY, "the library has no line `fonts`, which --objects needs");
+            if (object->kind != OBJECT_FONTS) {
+                object->line = number;
+                objects->count++;
+            } else if (objects->fonts > 0) {
+                snprintf(why, OBJECT_WHY, "line %zu is the same", objects->fonts);
                 return number;
+            } else {
+                objects->fonts = number;
             }
-            object->line = number;
-            objects->count++;
         }
         line = next;
     }

@@ -8,10 +8,11 @@
 
 enum { OBJECTS_MOST = 1 << 20, OBJECTS_WHY = OBJECT_WHY + 4200 };
 
-/* The objects of a file, in the order of their names' octets; the octets of names and values are in `store`. */
+/* The objects of a file, in the order of their names' octets; the octets of names and values are in `store`. `fonts` is
+ * the number of the line that says that the objects of the sign's fonts can be read, 0 where none does. */
 struct objects {
     struct object *items;
-    size_t count;
+    size_t count, fonts;
     uint8_t *store;
 };
 

@@ -70,6 +70,12 @@ static void take(struct wisangub_sign *sign)
     puts("ok");
 }
 
+static void show_fonts(struct wisangub_sign *sign)
+{
+    enum wisangub_answer answer = wisangub_sign_show_fonts(sign);
+    puts(answer == WISANGUB_DONE ? "ok" : "refused objects are published already");
+}
+
 int answer_objects(struct wisangub_sign *sign, const char *line)
 {
     if (strncmp(line, "object ", 7) == 0) {
@@ -78,6 +84,8 @@ int answer_objects(struct wisangub_sign *sign, const char *line)
         withdraw(sign, line + 10);
     } else if (strcmp(line, "objects") == 0) {
         take(sign);
+    } else if (strcmp(line, "fonts") == 0) {
+        show_fonts(sign);
     } else {
         return 0;
     }

@@ -307,6 +307,7 @@ uint32_t wisangub_sign_pages_at(const struct wisangub_sign *sign, uint8_t layer,
 uint32_t wisangub_sign_text_pages_at(const struct wisangub_sign *sign, const uint8_t *text, size_t text_size,
                                      uint8_t layer, uint8_t *pages, size_t room, size_t *size,
                                      struct wisangub_text_fault *fault);
+uint32_t wisangub_sign_show_fonts_at(struct wisangub_sign *sign);
 uint32_t wisangub_sign_publish_at(struct wisangub_sign *sign, const uint8_t *name, size_t name_size,
                                   const struct wisangub_value *value, const uint8_t *octets, size_t octets_size,
                                   const struct wisangub_access *access);
@@ -575,12 +576,26 @@ WISANGUB_INLINE enum wisangub_answer wisangub_sign_text_pages(const struct wisan
 }
 
 /*
+ * From now on the sign's managers can Get the objects of its fonts and walk over them, as fontTable (docs/PROFILE.md,
+ * "Fonts that can be read"); nobody can Set them, and they take no memory. Call it before the first object is
+ * published. Answers DONE, also where they can be read already; FAULT, where an object is published; or NULL.
+ */
+WISANGUB_INLINE enum wisangub_answer wisangub_sign_show_fonts(struct wisangub_sign *sign)
+{
+    if (sign == NULL || sign->at == NULL) {
+        return WISANGUB_NULL;
+    }
+    return (enum wisangub_answer)wisangub_sign_show_fonts_at(sign);
+}
+
+/*
  * Publishes an object beside the sign's: from now on the sign's managers Get it, walk over it, and Set it where
  * `access` says so. It stands in place of the one that has its name: what a manager set there is gone then. `octets`
  * are those of a value that has them, and of another they are not read. All that is given is copied, and for as many
- * octets as a manager may write there is room from then on. Answers DONE; FAULT, where the name's octets are none's or
- * the sign has an object of this name; else RANGE, where the type or the access is none of those that there are, or
- * the value is none of its type, or not one that the access takes; else MEMORY, where there is none; or NULL.
+ * octets as a manager may write there is room from then on. Answers DONE; FAULT, where the name's octets are none's, or
+ * the sign or its fonts that can be read have an object of this name; else RANGE, where the type or the access is none
+ * of those that there are, or the value is none of its type, or not one that the access takes; else MEMORY, where there
+ * is none; or NULL.
  */
 WISANGUB_INLINE enum wisangub_answer wisangub_sign_publish(struct wisangub_sign *sign, const void *name,
                                                            size_t name_size, const struct wisangub_value *value,
@@ -609,8 +624,8 @@ WISANGUB_INLINE enum wisangub_answer wisangub_sign_withdraw(struct wisangub_sign
 }
 
 /*
- * What a Get of a name reads, of the sign's objects and of those that are published: the value in *value, and its
- * octets in `octets`, of which there are *size, 0 of a type that has none. Answers DONE; FAULT, where nothing of this
+ * What a Get of a name reads, of the sign's objects, its fonts' and those that are published: the value in *value,
+ * and its octets in `octets`, of which there are *size, 0 of a type that has none. Answers DONE; FAULT, where nothing of this
  * name is there; TOO_SMALL, and *value is as it was; or NULL. No memory is taken, and no silence ends.
  */
 WISANGUB_INLINE enum wisangub_answer wisangub_sign_object(const struct wisangub_sign *sign, const void *name,

@@ -182,6 +182,8 @@ static enum wisangub_answer changed(const struct call *call)
     return wisangub_sign_changes(&sign, &changes);
 }
 
+static enum wisangub_answer show_fonts(const struct call *call) { return (void)call, wisangub_sign_show_fonts(&sign); }
+
 /* An object that a manager may set, of a name. */
 static enum wisangub_answer publish(const struct call *call)
 {
@@ -302,6 +304,8 @@ static void take(char *word)
         measured("sign_withdraw", withdraw, octets, size);
     } else if (strncmp(word, "object ", 7) == 0) {
         measured("sign_object", object, octets, size);
+    } else if (strcmp(word, "fonts") == 0) {
+        measured("sign_show_fonts", show_fonts, NULL, 0);
     } else if (strcmp(word, "taken") == 0) {
         measured("sign_taken", taken, NULL, 0);
     } else if (strncmp(word, "centre ", 7) == 0) {

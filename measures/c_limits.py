@@ -140,6 +140,15 @@ def beside() -> Iterator[str]:
     yield from (f"withdraw {content}" for content in contents)
 
 
+def with_fonts() -> Iterator[str]:
+    """The objects of the sign's fonts, and requests of one as often as a datagram has room for it."""
+    yield "fonts"
+    columns: list[tuple[int, ...]] = [(2, 1, column, font) for column in (1, 5, 8) for font in (1, 4)]
+    columns += [(4, 1, column, font, number) for column in (1, 2, 3) for font in (1, 4) for number in (33, 255)]
+    for name in ((1, 0), (2,), *columns, (5, 0)):
+        yield from (f"beside {octets.hex()}" for octets in often(DMS + (3, *name)))
+
+
 def lines(sign: Sign, count: int, seed: int) -> Iterator[str]:
     """All that is called, a line each."""
     chance, maker = random.Random(seed), Maker(seed)
@@ -155,6 +164,7 @@ def lines(sign: Sign, count: int, seed: int) -> Iterator[str]:
     yield from (f"centre {maker.to_centre(1).hex()}" for _ in range(count))
     yield from (f"text {octets.hex()}" for octets in texts(count, chance))
     yield from beside()
+    yield from with_fonts()
     if sign.name == "largest":
         yield from (f"describe {octets.hex()}" for _, octets, _ in largest_inputs.refused_descriptions())
 

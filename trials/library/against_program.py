@@ -52,11 +52,12 @@ def _centre_lines(trial: Trial, count: int = _LINES) -> list[str]:
     return [trial.chance.choice(octets if trial.chance.random() < 0.5 else others) for _ in range(count)]
 
 
-def _object_lines(trial: Trial, count: int) -> list[str]:
-    """Objects that are published, withdrawn and set beside the sign's, requests of both, and what else happens."""
-    firmware = Firmware(trial.chance, False)
+def _object_lines(trial: Trial, count: int, has_fonts: bool) -> list[str]:
+    """Objects that are published, withdrawn and set beside the sign's, where it is so its fonts' too, requests of all,
+    and what else happens."""
+    firmware = Firmware(trial.chance, has_fonts)
     requests = Requests(trial.chance.randrange(2**32), firmware)
-    lines = firmware.published(40)
+    lines = [*(["fonts"] if has_fonts else []), *firmware.published(40)]
     for _ in range(count):
         kind = trial.chance.random()
         if kind < 0.3:
@@ -153,6 +154,8 @@ def run(trial: Trial) -> None:
     _compare(trial, "each reply and datagram, one after the other", "centre", _BENCH, datagrams("reply"))
     for name, description in [("bench", _BENCH), *((sign, described(sign)) for sign in SIGNS)]:
         _compare(trial, f"a talk with a sign, {name}", "sign", description, _sign_lines(trial))
-        _compare(trial, f"a talk with a sign and objects, {name}", "sign", description, _object_lines(trial, _LINES))
+        for others in ("objects", "objects and fonts"):
+            lines = _object_lines(trial, _LINES, "fonts" in others)
+            _compare(trial, f"a talk with a sign and {others}, {name}", "sign", description, lines)
         _compare(trial, f"a talk with a central system, {name}", "centre", description, _centre_lines(trial))
     _walks(trial)

@@ -33,6 +33,7 @@ enum {
     WITHDRAW,
     OBJECT,
     TAKEN,
+    FONTS,
     CALLS
 };
 
@@ -214,6 +215,7 @@ static void call(struct wisangub_sign *sign, struct wisangub_centre *centre, uns
     case WITHDRAW: answer = wisangub_sign_withdraw(sign, from, size); break;
     case OBJECT: answer = read_object(sign, from, size); break;
     case TAKEN: take(sign); break;
+    case FONTS: answer = wisangub_sign_show_fonts(sign); break;
     default: wisangub_centre_restart(centre); break;
     }
     const struct picture now = picture_of(sign);

@@ -96,7 +96,8 @@ def _faults(trial: Trial) -> None:
         tried += "line 4" in wanted
     trial.check("objects: lines at fault", tried > len(_FAULTS) - 2, tried)
     for octets, why in (
-        (b"fonts\n", "line 1: the library has no line `fonts`, which --objects needs"),
+        (b"fonts\nfonts\n", "line 2: line 1 is the same"),
+        (b"object 1.3.6.1.4.1.1206.4.2.3.3.1.0 NULL\nfonts\n", "line 1: the sign has an object of this name: "),
         (b"object 1.3.6.1.4.1.1206.4.2.3.2.3.0 NULL", "line 1: the sign has an object of this name: "),
         (b"#" * 1_048_577, "more than 1048576 octets"),
     ):
@@ -195,6 +196,24 @@ def _served(trial: Trial) -> None:
     trial.same("objects: signd ends", (status, said.removeprefix("nothing is kept: no --journal\n")), (0, wanted))
 
 
+def _with_fonts(trial: Trial) -> None:
+    """The objects of the sign's fonts are read where the file says so at the start."""
+    path, count = trial.folder / "fonts.objects", (*_DMS, 3, 1, 0)
+    _file(path, "object 1.3.8 Gauge 7", "fonts")
+    front_end = FrontEnd(trial, "signd", None, "--objects", str(path))
+    manager = _Manager(front_end)
+    found = [manager.value(count), manager.value((*_DMS, 3), wire.GET_NEXT)]
+    trial.same("objects: fonts", found, [(count, (wire.INTEGER, len(_SIGN.face.fonts)))] * 2)
+    trial.same("objects: fonts are not set", manager.set(count, (wire.INTEGER, 1)), 2)
+    _file(path, "object 1.3.8 Gauge 8")
+    front_end.process.send_signal(signal.SIGHUP)
+    time.sleep(0.3)
+    trial.same("objects: fonts are settled", manager.value((1, 3, 8)), ((1, 3, 8), (wire.GAUGE, 7)))
+    status, said = front_end.end()
+    wanted = f"{path}: line 2: whether fonts can be read is settled at a start: the objects stay as they were\n"
+    trial.same("objects: fonts, the end", (status, said.removeprefix("nothing is kept: no --journal\n")), (0, wanted))
+
+
 def _journalled(trial: Trial) -> None:
     """What managers set is there again after a start, and is told again."""
     path, journal = trial.folder / "more.objects", trial.folder / "objects.journal"
@@ -237,7 +256,7 @@ def _dimmed(trial: Trial) -> None:
 
 
 def run(trial: Trial) -> None:
-    for part in (_dimmed, _served, _journalled, _faults):
+    for part in (_dimmed, _served, _with_fonts, _journalled, _faults):
         if trial.left() > 0:
             part(trial)
         else:

@@ -70,6 +70,6 @@ fn a_picture_is_counted_where_it_is_another(rt: HostRuntime) -> Result<(), Fail>
     assert!(rt; sign.changes() == 2);
     sign.power_lost();
     sign.power_back(1);
-    assert!(rt; sign.changes() == 2);
+    assert!(rt; sign.show_fonts() && sign.changes() == 2);
     Ok(())
 }

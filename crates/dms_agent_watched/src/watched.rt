@@ -10,7 +10,7 @@ ghost use Rattle.dms_device.specs.Objects.{has_name};
 ghost use Rattle.dms_device.specs.Publishing.{published, withdrawn};
 ghost use Rattle.dms_device.specs.Taken.{told_first};
 ghost use Rattle.dms_agent.specs.declared.agent.PublishFault.TheVariants.{OfTheSign, OutOfMemory};
-ghost use Rattle.dms_agent.specs.Values.{own_value};
+ghost use Rattle.dms_agent.specs.Values.{own_value, is_bare, showing_fonts};
 ghost use Rattle.dms_agent.specs.Promises.{alone};
 ghost use Rattle.dms_agent.specs.Received.{agent_received};
 ghost use Rattle.dms_agent_watched.specs.Watched.{picture_of, same_defaults, same_picture, changes_after};
@@ -192,6 +192,14 @@ impl Watched {
             &mut self.picture,
             &mut self.changes,
         );
+    }
+
+    /// From here on the objects of the sign's fonts can be read, as `Agent::show_fonts` says, and answers.
+    pub fn show_fonts(&mut self) -> bool
+        ensures after { self.new ≡ record self.old { agent = showing_fonts self.old.agent } }
+        ensures shown { result ≡ is_bare self.old.agent }
+    {
+        self.agent.show_fonts()
     }
 
     /// Publishes an object beside the sign's, as `Agent::publish` does.

@@ -9,7 +9,7 @@ use Rattle.dms_device.specs.Objects.{device_value}
 use Rattle.dms_device.specs.Publishing.{published, withdrawn}
 use Rattle.dms_device.specs.Taken.{set_bindings, told_first}
 use Rattle.dms_agent.specs.declared.agent.Agent.{Agent}
-use Rattle.dms_agent.specs.Values.{own_value, agent_value}
+use Rattle.dms_agent.specs.Values.{own_value, agent_value, is_bare}
 use Rattle.wisangub_c.specs.Answers.{done, nothing_sent, too_small, at_fault, out_of_range}
 use Rattle.wisangub_c.specs.Answers.{put_first, given_answer, given_buffer}
 use Rattle.wisangub_c.specs.declared.object_values.ValueParts.{ValueParts}
@@ -44,6 +44,11 @@ published_if a (Some object) = record a { device = published a.device object }
 
 abbrev pub after_publish : Agent → List ℕ → Option DeviceObject → Agent
 after_publish a octets object = if is_free a octets then published_if a object else a
+
+-- ---- fonts that can be read from here on: an object that is published already is in the way
+
+abbrev pub fonts_answer : Agent → ℕ
+fonts_answer a = if is_bare a then done else at_fault
 
 -- ---- withdrawing
 

@@ -3,11 +3,11 @@
 ghost use Rattle.std.specs.Prelude.{◌≡◌, length, if◌then◌else◌, Some, None, is_some, option_map, IfOk, IfErr, IsSome};
 ghost use Rattle.dms_wire.specs.View.{object_value, var_bind};
 ghost use Rattle.dms_device.specs.Publishing.{published};
-ghost use Rattle.dms_agent.specs.Values.{own_value};
+ghost use Rattle.dms_agent.specs.Values.{own_value, showing_fonts};
 ghost use Rattle.wisangub_c.specs.Answers.{done, no_memory, at_fault, unless_memory, given_answer, given_buffer};
 ghost use Rattle.wisangub_c.specs.ObjectValues.{name_given, value_given, access_given, octets_of};
 ghost use Rattle.wisangub_c.specs.Objects.{is_free, object_given, publish_answer, after_publish};
-ghost use Rattle.wisangub_c.specs.Objects.{withdraw_answer, after_withdraw};
+ghost use Rattle.wisangub_c.specs.Objects.{fonts_answer, withdraw_answer, after_withdraw};
 ghost use Rattle.wisangub_c.specs.Objects.{value_read, read_answer, read_size, read_buffer, read_parts};
 ghost use Rattle.wisangub_c.specs.Objects.{next_set, taken_answer, taken_name_size, taken_size, taken_name};
 ghost use Rattle.wisangub_c.specs.Objects.{taken_octets, taken_parts, after_taken};
@@ -142,11 +142,15 @@ pub extern "C" fn wisangub_sign_publish_at(
     publish(alloc, sign.as_mut(), name, value, access)
 }
 
-/// Withdraws the object of a name.
-fn withdraw(sign: &mut Watched, name: &[u8]) -> u32
-    ensures answer { result ≡ withdraw_answer sign.old.agent.device (name_given name.now) }
-    ensures after { sign.new ≡ record sign.old { agent = after_withdraw sign.old.agent (name_given name.now) } }
+/// Withdraws the object of a name that is published.
+#[unsafe(no_mangle)]
+pub extern "C" fn wisangub_sign_withdraw_at(sign: &mut SignHandle, name: &[u8]) -> u32
+    ensures answer { result ≡ withdraw_answer sign.old.value.agent.device (name_given name.now) }
+    ensures after { sign.new.value ≡ record sign.old.value {
+      agent = after_withdraw sign.old.value.agent (name_given name.now);
+    } }
 {
+    let sign = sign.as_mut();
     let Some(name) = name_given(name) else {
         return AT_FAULT;
     };
@@ -157,15 +161,14 @@ fn withdraw(sign: &mut Watched, name: &[u8]) -> u32
     DONE
 }
 
-/// Withdraws the object of a name that is published.
+/// From here on the objects of the sign's fonts can be read, unless an object is published already.
 #[unsafe(no_mangle)]
-pub extern "C" fn wisangub_sign_withdraw_at(sign: &mut SignHandle, name: &[u8]) -> u32
-    ensures answer { result ≡ withdraw_answer sign.old.value.agent.device (name_given name.now) }
-    ensures after { sign.new.value ≡ record sign.old.value {
-      agent = after_withdraw sign.old.value.agent (name_given name.now);
-    } }
+pub extern "C" fn wisangub_sign_show_fonts_at(sign: &mut SignHandle) -> u32
+    ensures answer { result ≡ fonts_answer sign.old.value.agent }
+    ensures after { sign.new.value ≡ record sign.old.value { agent = showing_fonts sign.old.value.agent } }
 {
-    withdraw(sign.as_mut(), name)
+    let are_shown = sign.as_mut().show_fonts();
+    if are_shown { DONE } else { AT_FAULT }
 }
 
 /// Gives a value, where there is room for its octets.

@@ -89,11 +89,7 @@ pub extern "C" fn wisangub_sign_changes_at(sign: &mut SignHandle, changes: &mut 
 fn tenths_of(seconds: u32) -> u64
     ensures { result ≡ tenths_of seconds }
 {
-    if seconds <= 1 {
-        10
-    } else {
-        10 * u64::from(seconds)
-    }
+    10 * u64::from(seconds.max(1))
 }
 
 /// In how many tenths of a second, from the last second on, the message ends by itself; nothing, where it has no end.
