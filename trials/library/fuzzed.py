@@ -6,6 +6,7 @@ import pathlib
 import re
 
 from model import text, wire
+from model.objects import DMS
 from wisangub.snmp.wire import name_content
 
 from .against_vectors import cases
@@ -15,7 +16,7 @@ KINDS = {"datagrams": 20000, "descriptions": 60000, "texts": 600}  # the most oc
 FUZZER = ["-std=c11", "-Wall", "-Wextra", "-Werror", "-O1", "-g", "-fsanitize=fuzzer,address,undefined"]
 FUZZER += ["-fno-sanitize-recover=all"]
 TO_SIGN, TO_CENTRE, SIGN_TICK, CENTRE_TICK, POWER_LOST, POWER_BACK, COMMAND, PAGES, HEARD, RESTART = range(10)
-PUBLISH, WITHDRAW, OBJECT, TAKEN = range(10, 14)
+PUBLISH, WITHDRAW, OBJECT, TAKEN, FONTS = range(10, 15)
 DONE = re.compile(r"Done (\d+) runs in (\d+) second")
 MOST_START = 60  # seconds beside those that are asked for
 
@@ -51,7 +52,7 @@ def descriptions() -> list[bytes]:
 
 
 def besides() -> list[bytes]:
-    """Objects of each type that are published, read, set, told and withdrawn."""
+    """Objects of each type that are published, read, set, told and withdrawn, and fonts that are read."""
     found, community = [], text.bench().writer
     for number, (tag, writes, held) in enumerate(
         ((2, 1, b""), (4, 2, b"AB"), (5, 0, b""), (6, 0, b"\x2b\x06"), (64, 0, b"1234"), (65, 0, b""), (68, 0, b"C"))
@@ -68,7 +69,9 @@ def besides() -> list[bytes]:
             + call(TAKEN)
             + call(WITHDRAW, content)
         )
-    return found
+    node: wire.Binding = ((*DMS, 3), (wire.NULL, b""))
+    first = wire.written(wire.Message(wire.GET_NEXT, text.bench().reader, 9, 0, 0, [node]))
+    return [*found, call(FONTS) + call(OBJECT, name_content((*DMS, 3, 1, 0))) + call(TO_SIGN, first)]
 
 
 def inputs(kind: str) -> list[bytes]:
