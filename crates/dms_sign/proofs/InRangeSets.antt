@@ -100,7 +100,7 @@ changed_by_in_range table (Some CurrentBuffer) number change is each = tt
 changed_by_in_range table (Some Blank) number change is each = tt
 changed_by_in_range table None number change is each = tt
 
-changed_table : (table : TableModel) (id : RowId) (change : RowModel → Option RowModel) → IsTableInRange table
+pub changed_table : (table : TableModel) (id : RowId) (change : RowModel → Option RowModel) → IsTableInRange table
     → ((row : RowModel) → IsRowInRange row → IfSome (change row) IsRowInRange) → IfSome (changed table id change) IsTableInRange
 changed_table table id change is each = changed_by_in_range table (memory_of id.memory) id.number change is each
 

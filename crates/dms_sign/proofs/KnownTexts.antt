@@ -45,7 +45,7 @@ known_where_kept (Some defaults) known face table memory number is good = good m
 
 -- ---- a row is settled
 
-set_elsewhere : (rows : List RowModel) (place k : ℕ) (new : RowModel) → (k ≡ place → ⊥) → slice_get (set rows place new) k ≡ slice_get rows k
+pub set_elsewhere : (rows : List RowModel) (place k : ℕ) (new : RowModel) → (k ≡ place → ⊥) → slice_get (set rows place new) k ≡ slice_get rows k
 set_elsewhere [] place k new other = refl
 set_elsewhere (row ∷ rows) zero zero new other = absurd (other refl)
 set_elsewhere (row ∷ rows) zero (suc k) new other = refl
@@ -143,7 +143,7 @@ row_settled Volatile Volatile services face known defaults kept table index k ro
     list_settled (slice_get table.volatile index) services face defaults kept known.rows 64 table.volatile index k row refl only
     (omega (arith, only_within table.volatile index only, has.volatile, has.entries)) entry good e valid
 
-not_zero : (b : Bool) (o : Option RowModel) (row : RowModel) → cond b None o ≡ Some row → (b ≡ false) × (o ≡ Some row)
+pub not_zero : (b : Bool) (o : Option RowModel) (row : RowModel) → cond b None o ≡ Some row → (b ≡ false) × (o ≡ Some row)
 not_zero b o row e = grind arith
 
 known_of_type : (o : Option Writable) (place : RowPlace) (known : KnownTexts) (face : FaceModel) (defaults kept : Defaults) (old : TableModel) (memory number : ℕ)

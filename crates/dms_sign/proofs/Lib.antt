@@ -20,3 +20,5 @@ pub mod Assigned
 pub mod Activations
 pub mod Seconds
 pub mod ReadAsSet
+pub mod PutRows
+pub mod TakenUp

@@ -40,3 +40,12 @@ noted known place defaults =
 abbrev pub AreKnown : KnownTexts → FaceModel → TableModel → Type 0
 AreKnown known face table = (memory number : ℕ) (defaults : Defaults) → kept_for known memory number ≡ Some defaults
     → HasGoodTextWhereValid (under face defaults) table memory number
+
+-- the same, with nothing known of the row of a number
+abbrev pub forgotten_in : KnownTexts → Option Writable → ℕ → KnownTexts
+forgotten_in known None number = known
+forgotten_in known (Some memory) number =
+    record known { rows = set known.rows (first_entry memory + (number - 1)) None }
+
+abbrev pub forgotten : KnownTexts → ℕ → ℕ → KnownTexts
+forgotten known memory number = forgotten_in known (writable memory) number

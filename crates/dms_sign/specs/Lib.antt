@@ -14,9 +14,11 @@ pub mod Promises
 pub mod InRange
 pub mod Transitions
 pub mod Kept
+pub mod Restoring
 -- what the code's fields and receipts are in these words
 pub mod KnownTexts
 pub mod SignView
 pub mod ReplyView
 -- what only proofs go through
 pub mod SetView
+pub mod Typed

@@ -3,7 +3,7 @@
 ghost use Rattle.std.specs.Prelude.{◌≡◌, ◌≤◌};
 ghost use Rattle.std.specs.Option.{option_copied};
 ghost use Rattle.dms_codes.specs.Limits.{most_changeable_rows};
-ghost use Rattle.dms_sign.specs.KnownTexts.{first_known, first_entry, kept_for, noted, HasRoom};
+ghost use Rattle.dms_sign.specs.KnownTexts.{first_known, first_entry, kept_for, noted, forgotten, HasRoom};
 
 use dms_codes::{MAX_CHANGEABLE, MAX_VOLATILE};
 use dms_face::Defaults;
@@ -39,6 +39,20 @@ impl KnownTexts {
         ensures { self.new ≡ noted self.old place defaults.now }
     {
         self.rows[first_entry(place.memory) + place.index] = Some(*defaults);
+    }
+
+    /// Nothing is known of the text of a row any more.
+    pub(crate) fn forget(&mut self, memory: u8, number: u16)
+        ensures { self.new ≡ forgotten self.old memory number }
+    {
+        let Some(memory) = Writable::of(memory) else {
+            return;
+        };
+        let index = usize::from(number).saturating_sub(1);
+        let entry = first_entry(memory) + index;
+        if entry < ENTRIES {
+            self.rows[entry] = None;
+        }
     }
 
     /// The defaults under which the text of a row, where it is valid, is known to be good.

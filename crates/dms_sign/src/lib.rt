@@ -19,3 +19,4 @@ pub use config::{Config, ConfigFault};
 pub use dms_mib::{Instance, Scalar};
 pub use sign::Sign;
 pub use sign::reply::Receipt;
+pub use sign::restoring::{MessageFault, SignParts, StateFault};

@@ -33,7 +33,9 @@ mod events;
 mod own_codes;
 mod parts;
 pub mod reply;
+pub(crate) mod restoring;
 mod set_request;
+mod typed;
 mod values;
 
 /// A sign: what it is made with, its message table, what was set, and what it shows. A contract sees the state of the

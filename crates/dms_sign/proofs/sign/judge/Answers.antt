@@ -1,4 +1,3 @@
-use Rattle.std.proofs.Common.{Some, ap, sym}
 use Rattle.dms_sign.proofs.KnownTexts.{known_where_kept}
 use Rattle.dms_sign.proofs.sign.judge.Goals as goal
 

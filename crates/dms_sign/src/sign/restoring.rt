@@ -1,0 +1,184 @@
+//! What a sign takes up of a saved state.
+
+ghost use Rattle.std.specs.Prelude.{◌≡◌, Some, None, IsTrue, IfErr, OnOk, OnErr, option_map};
+ghost use Rattle.std.specs.Int.Digits.{AllBelowBase};
+ghost use Rattle.dms_face.specs.Face.{FaceModel, fit};
+ghost use Rattle.dms_table.specs.Rows.{changed};
+ghost use Rattle.dms_table.specs.SavedRows.{row_saved, put_over, row_fault};
+ghost use Rattle.dms_sign.specs.Restoring.{with_table, with_parts, standing_fault, message_fault};
+ghost use Rattle.dms_sign.specs.Restoring.{value_fault, parts_fault};
+
+use crate::sign::typed::{reports_are_typed, settings_are_typed, shown_is_typed};
+use crate::sign::{Sign, source_of};
+use dms_codes::{MAX_TEXT, RowId};
+use dms_face::{Defaults, Face, MultiFault, check_with};
+use dms_sign_access::{Reports, SignSettings};
+use dms_table::{RowFault, SavedRow, Services, Shown, ShownFault};
+
+/// What a saved state has beside the rows of the message table.
+#[derive(Debug, Drop)]
+pub struct SignParts {
+    /// What was set.
+    pub settings: SignSettings,
+    /// The seconds since a datagram was answered, at most those of 65535 minutes.
+    pub silent_seconds: u32,
+    /// What is shown.
+    pub shown: Shown,
+    /// What was shown when the power was last lost.
+    pub shown_at_power_loss: Shown,
+    /// What is reported.
+    pub reports: Reports,
+    /// Whether there is power.
+    pub powered: bool,
+}
+
+/// Why a message is not taken up.
+#[derive(Clone, Copy, Debug, PartialEq, Eq)]
+pub enum MessageFault {
+    /// There is no such message.
+    Shown(ShownFault),
+    /// It has a beacon, and the sign has none.
+    Beacons,
+    /// It has a pixel service, and the sign has none.
+    PixelService,
+    /// Its copy of the defaults does not fit the face.
+    Defaults,
+    /// Its text is not good under its copy of the defaults.
+    Text(MultiFault),
+}
+
+/// Why the parts of a state are not taken up.
+#[derive(Clone, Copy, Debug, PartialEq, Eq)]
+pub enum StateFault {
+    /// The defaults do not fit the face.
+    Defaults,
+    /// More seconds are silent than 65535 minutes have.
+    Silence,
+    /// The place of a text's fault lies past the longest text.
+    Position,
+    /// What is shown.
+    Shown(MessageFault),
+    /// What was shown when the power was lost.
+    Kept(MessageFault),
+}
+
+impl Sign {
+    /// Puts a row of a saved state where one is that is not used. Its text is looked at when it is activated.
+    pub fn put_row(&mut self, id: RowId, row: &SavedRow<'_>) -> Result<(), RowFault>
+        ensures ok { OnOk result (option_map (with_table self.old)
+            (changed self.old.table id (put_over (row_saved row.now))) ≡ Some self.new) }
+        ensures faultless { OnOk result (row_fault self.old.table id (row_saved row.now) ≡ None) }
+        ensures fault { IfErr result (λ fault. row_fault self.old.table id (row_saved row.now) ≡ Some fault) }
+        ensures unchanged { OnErr result (self.new ≡ self.old) }
+    {
+        are_octets(row.text, row.owner);
+        self.table.put_row(id, row)?;
+        self.known.forget(id.memory, id.number);
+        Ok(())
+    }
+
+    /// Takes up all that a saved state has beside the rows.
+    pub fn take_up(&mut self, parts: SignParts) -> Result<(), StateFault>
+        ensures ok { OnOk result (self.new ≡ with_parts self.old parts) }
+        ensures faultless { OnOk result (parts_fault self.old parts ≡ None) }
+        ensures fault { IfErr result (λ fault. parts_fault self.old parts ≡ Some fault) }
+        ensures unchanged { OnErr result (self.new ≡ self.old) }
+    {
+        match self.parts_fault(&parts) {
+            Some(fault) => Err(fault),
+            None => {
+                self.take(parts);
+                Ok(())
+            }
+        }
+    }
+
+    fn take(&mut self, parts: SignParts)
+        requires { parts_fault self.old parts ≡ None }
+        ensures { self.new ≡ with_parts self.old parts }
+    {
+        settings_are_typed(&parts.settings);
+        shown_is_typed(&parts.shown);
+        shown_is_typed(&parts.shown_at_power_loss);
+        reports_are_typed(&parts.reports);
+        self.source = source_of(&parts.shown, self.table.order());
+        self.settings = parts.settings;
+        self.silent_seconds = parts.silent_seconds;
+        self.shown = parts.shown;
+        self.shown_at_power_loss = parts.shown_at_power_loss;
+        self.reports = parts.reports;
+        self.powered = parts.powered;
+    }
+
+    /// The first thing for which the parts are not taken up.
+    fn parts_fault(&self, parts: &SignParts) -> Option<StateFault>
+        ensures { result ≡ parts_fault self.now parts.now }
+    {
+        if let Some(fault) = value_fault(&self.face, parts) {
+            return Some(fault);
+        }
+        if let Some(fault) = self.message_fault(&parts.shown) {
+            return Some(StateFault::Shown(fault));
+        }
+        match self.message_fault(&parts.shown_at_power_loss) {
+            Some(fault) => Some(StateFault::Kept(fault)),
+            None => None,
+        }
+    }
+
+    /// The first thing for which a message is not taken up.
+    fn message_fault(&self, shown: &Shown) -> Option<MessageFault>
+        ensures { result ≡ message_fault self.now.table.services self.now.config.face shown.now }
+    {
+        match shown.saved().fault() {
+            Some(fault) => Some(MessageFault::Shown(fault)),
+            None => standing_fault(self.table.services(), &self.face, shown),
+        }
+    }
+}
+
+/// The first thing that is wrong with what was set, with the silence and with the reports.
+fn value_fault(face: &Face, parts: &SignParts) -> Option<StateFault>
+    ensures { result ≡ value_fault face.now parts.now }
+{
+    if !fits(&parts.settings.defaults, face) {
+        Some(StateFault::Defaults)
+    } else if parts.silent_seconds > 60 * 65535 {
+        Some(StateFault::Silence)
+    } else if usize::from(parts.reports.syntax_error_position) > MAX_TEXT {
+        Some(StateFault::Position)
+    } else {
+        None
+    }
+}
+
+/// The first thing for which a sign of these services and this face cannot show a message.
+fn standing_fault(services: Services, face: &Face, shown: &Shown) -> Option<MessageFault>
+    ensures { result ≡ standing_fault services face.now shown.now }
+{
+    if shown.beacon == 1 && !services.beacon {
+        return Some(MessageFault::Beacons);
+    }
+    if shown.pixel == 1 && !services.pixel {
+        return Some(MessageFault::PixelService);
+    }
+    if !fits(&shown.defaults, face) {
+        return Some(MessageFault::Defaults);
+    }
+    match check_with(face, &shown.defaults, shown.text.as_slice()) {
+        Ok(_) => None,
+        Err(fault) => Some(MessageFault::Text(fault)),
+    }
+}
+
+fn fits(defaults: &Defaults, face: &Face) -> bool
+    ensures { result ≡ fit face.now.fonts defaults.now }
+{
+    defaults.fits(face)
+}
+
+/// Octets are octets.
+fn are_octets(text: &[u8], owner: &[u8])
+    ensures text { AllBelowBase 256 text.now }
+    ensures owner { AllBelowBase 256 owner.now }
+{}
