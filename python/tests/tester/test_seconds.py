@@ -59,6 +59,12 @@ def is_asked(octets: bytes, status: int) -> bool:
     return message is not None and message.kind == wire.SET and ROW.status(status) in message.bindings
 
 
+def is_look(octets: bytes) -> bool:
+    """Whether it is a look at the row."""
+    message = spelled(octets)
+    return message is not None and (message.kind, message.bindings) == (wire.GET, list(LOOK.bindings))
+
+
 def is_near(session: Session, link: Choosy) -> bool:
     """Whether the next tick is known to the margin that is kept."""
     ticks = session.pair.ticks
@@ -91,16 +97,23 @@ def test_ticks_are_learnt_where_looks_are_lost_or_late() -> None:
 
 def test_a_late_look_is_no_bracket_of_a_tick() -> None:
     """Each look at a row is late: no tick is learnt, and what hangs on seconds is not told."""
-
-    def is_look(octets: bytes) -> bool:
-        message = spelled(octets)
-        return message is not None and (message.kind, message.bindings) == (wire.GET, list(LOOK.bindings))
-
     session, link = over(is_look, 0.06)
     begun = session.pair.clock.now()
     assert session.preflight.begin() and link.lost > 10 and not session.pair.ticks.is_learnt()
     assert session.reset.is_unlearnt() and session.pair.clock.now() - begun < 20 * LONGEST
     assert session.pair.port.passed_over == 0
+
+
+def test_ticks_that_were_missed_by_chance_are_looked_for_once_more() -> None:
+    is_bad = [True]
+    session, _ = over(lambda octets: is_bad[0] and is_look(octets), 0.06)
+    assert session.preflight.begin()
+    while session.reset.validation.is_to_be_learnt():
+        session.reset.reach(observe=True)
+    assert session.reset.is_unlearnt()
+    is_bad[0], session.pair.port.passed_over = False, 1
+    session.chapter(next(chapter for chapter in ALL if chapter.name == "priorities"))
+    assert not session.reset.is_unlearnt() and session.results.chapters[0].missing == 0
 
 
 class Slipping(Objects):

@@ -178,6 +178,7 @@ class Session:
         self.watcher.begun(chapter, len(blocks))
         history: list[Step] | None = None
         try:
+            self.reset.look_for_ticks()
             for at, block in enumerate(blocks):
                 history = self.block(result, block, history)
                 if history is not None and self.pair.port.is_lossy() and len(history) > MOST_HISTORY:
@@ -205,6 +206,8 @@ class Session:
     def _judge_left(self, result: ChapterResult) -> None:
         """What could not be judged is begun again, unless that hangs on ticks that are not known."""
         for _ in range(PASSES):
+            if result.left:
+                self.reset.look_for_ticks()
             if not result.left or self.is_enough() or self.reset.is_unlearnt():
                 break
             left, result.left = result.left, []

@@ -17,6 +17,7 @@ from .validation_ticks import ValidationTicks
 _ROUNDS, _LOSSY_ROUNDS = 4, 12  # times that the sign is read and repaired; more where requests are lost
 _MORE = 3  # times that all of this is done once more there, each after what was late
 _MOST_KEPT = 400  # datagrams after which ours is begun anew
+_MOST_LOOKED = 8  # times that ticks are looked for once more
 _Read = dict[Name, Value | None]
 
 
@@ -30,6 +31,7 @@ class Reset:
     is_begun: bool = False  # whether the sign was in the known state before
     is_entered: bool = False  # whether anything was written to bring it there
     is_together: bool = False  # whether ours is handed what brings the sign under test there
+    looked: int = 0  # how often ticks were looked for once more
 
     def __post_init__(self) -> None:
         self.objects = KnownState(self.context)
@@ -212,6 +214,15 @@ class Reset:
     def is_unlearnt(self) -> bool:
         """Whether rows settle at moments that are not known yet."""
         return self.validation.is_unlearnt() and bool(self.context.rows)
+
+    def look_for_ticks(self) -> None:
+        """Where the moment of the sign's ticks is not known it is looked for once more, on a way that loses some: there
+        the ends of validations may be missed by chance."""
+        if self.is_unlearnt() and self.pair.port.is_lossy() and self.looked < _MOST_LOOKED:
+            self.looked += 1
+            self.validation.begin_anew()
+            self.pair.is_dirty = True
+            self.reach()
 
     def learn_anew(self) -> None:
         """The known state, and a tick that is seen, whatever was known of them."""
