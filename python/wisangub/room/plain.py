@@ -6,6 +6,7 @@ from typing import Iterator, Sequence
 # a bracket that is shown, a tag, or another character
 _PIECE = re.compile(rb"(\[\[|\]\]|[^\[\]])|\[([^\]]*)\]", re.DOTALL)
 _BREAKS = {b"nl": " / ", b"np": " // "}
+NOTHING = "nothing"  # what is said of a text of tags alone
 
 
 def counted(number: int, what: str) -> str:
@@ -32,7 +33,7 @@ def _pieces(text: bytes) -> Iterator[tuple[str, int]]:
 
 def plain_of(text: bytes) -> str:
     """A text without its tags: lines apart by a stroke, pages by two."""
-    return "".join(said for said, _ in _pieces(text)).strip(" /") or "nothing"
+    return "".join(said for said, _ in _pieces(text)).strip(" /") or NOTHING
 
 
 def _pattern(words: Sequence[str]) -> re.Pattern[str]:

@@ -10,7 +10,8 @@ How SQL is written, so that SQLite and PostgreSQL both take it:
 - `INSERT .. ON CONFLICT .. DO UPDATE`, `RETURNING` and partial indexes are there in both. `LIKE` differs (case), and a
   sum of BIGINT is written `CAST(sum(a) AS BIGINT)`.
 - A migration is `migrations/NNN_name.sql`: comments are lines of their own, a statement ends with `;` at a line's end,
-  but within a pair of `$$`. One that begins with `{postgresql}` is run by PostgreSQL alone.
+  but within a pair of `$$`. One that begins with `{postgresql}` is run by PostgreSQL alone, one with `{fts5}` by SQLite
+  where it has FTS5.
 - PostgreSQL runs a transaction as "read committed", so others may write between two of its statements: what was looked
   at is looked at again by the statement that writes (`UPDATE .. WHERE .. RETURNING`), or a key decides, or
   `transaction(is_alone=True)` keeps out all others that are alone.
@@ -56,6 +57,8 @@ class Database:
     lock = ""  # at the end of a SELECT: its rows are this transaction's, in their order, until it ends
     skip = ""  # the same, without those that are another one's now
     has_months = False  # whether some tables stand in a partition a month (months.py)
+    # the newest numbers of commands that have words, below one, so many at most; how a word is spelled in it, and many
+    with_words, a_word, and_words = "", "", ""
 
     def __init__(self) -> None:
         self.turn = threading.RLock()
@@ -150,6 +153,14 @@ class Database:
 
     def has_table(self, name: str) -> bool:
         """Whether there is a table of this name."""
+        raise NotImplementedError
+
+    def has_fts5(self) -> bool:
+        """Whether it is SQLite with its search of texts."""
+        return False
+
+    def has_words(self) -> bool:
+        """Whether there is an index of the words of commands (words.py)."""
         raise NotImplementedError
 
     def close(self) -> None:

@@ -30,7 +30,7 @@ RESTORING = (
     "restoring"  # a table of this name keeps all out of a database that python/wisangub/room/store/backup.py restores
 )
 _URLS = ("postgresql://", "postgres://")
-_POSTGRESQL = "{postgresql}"  # at the beginning of a statement that is PostgreSQL's alone
+_POSTGRESQL, _FTS5 = "{postgresql}", "{fts5}"  # at the beginning of a statement that is not for all
 _CARRIED = (
     f"From now on an earlier program refuses it: that one takes a copy that {called('wisangub-control backup copy')}"
     " made before"
@@ -59,7 +59,9 @@ def _own(database: Database, statement: str) -> str:
     """A statement of a migration in a database's words; none where it is for another one."""
     if statement.startswith(_POSTGRESQL) and not database.has_months:
         return ""
-    statement = statement.removeprefix(_POSTGRESQL).strip()
+    if statement.startswith(_FTS5) and not database.has_fts5():
+        return ""
+    statement = statement.removeprefix(_POSTGRESQL).removeprefix(_FTS5).strip()
     return statement.replace("{key}", database.key).replace("{unlogged}", database.unlogged)
 
 

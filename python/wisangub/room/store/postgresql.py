@@ -53,6 +53,12 @@ class Postgresql(Database):
     lock = "FOR NO KEY UPDATE"
     skip = "FOR NO KEY UPDATE SKIP LOCKED"
     has_months = True
+    with_words = (  # by the index of words alone, however many there are, and those that have not ended
+        "WITH found AS MATERIALIZED (SELECT id FROM commands WHERE outcome IS NOT NULL AND command_words(line) @@"
+        " CAST(? AS tsquery) UNION ALL SELECT id FROM commands WHERE outcome IS NULL)"
+        " SELECT id FROM found WHERE id < ? ORDER BY id DESC LIMIT ?"
+    )
+    a_word, and_words = "'{}':*", " & "
 
     def __init__(self, url: str) -> None:
         super().__init__()
@@ -161,6 +167,9 @@ class Postgresql(Database):
 
     def has_table(self, name: str) -> bool:
         return self.run("SELECT to_regclass(?) IS NOT NULL", name) == [(True,)]
+
+    def has_words(self) -> bool:
+        return True
 
     def close(self) -> None:
         if self.connection is not None:

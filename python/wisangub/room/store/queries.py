@@ -181,7 +181,7 @@ def where_of(*parts: tuple[str, Value]) -> tuple[str, list[Value]]:
 @dataclass(frozen=True)
 class Wanted:
     """Which commands are looked for, the newest first; `before` is a number that they are below, `signs` are those that
-    they are of, where not of all; `since` and `until` are when they were asked for."""
+    they are of, where not of all; `since` and `until` are when they were asked for; `numbers` are those looked at."""
 
     sign: int | None = None
     who: str = ""
@@ -192,6 +192,7 @@ class Wanted:
     since: float | None = None
     until: float | None = None
     first: int | None = None
+    numbers: Sequence[int] | None = None
 
     def where(self) -> tuple[str, list[Value]]:
         where, values = where_of(
@@ -207,6 +208,9 @@ class Wanted:
             # `+ 0`, so that it is by number or by what is open, of which there are few: see `_of_few`
             parts.append(f"commands.sign + 0 IN ({places(self.signs)})" if self.signs else "1 = 0")
             values.extend(sorted(self.signs))
+        if self.numbers is not None:
+            parts.append(f"commands.id IN ({places(self.numbers)})" if self.numbers else "1 = 0")
+            values.extend(self.numbers)
         outcome = {
             "accepted": "commands.outcome = 'accepted'",
             "open": "commands.outcome IS NULL",
@@ -248,7 +252,7 @@ def asked_for(wanted: Wanted) -> tuple[str, list[Value]]:
     """The statement that has these commands, and its values."""
     if wanted.signs is not None and wanted.sign is not None:  # it is seen, or nothing is
         wanted = replace(wanted, signs=None if wanted.sign in wanted.signs else frozenset())
-    if wanted.signs and len(wanted.signs) <= _FEW and wanted.outcome != "open":
+    if wanted.signs and len(wanted.signs) <= _FEW and wanted.outcome != "open" and wanted.numbers is None:
         return _of_few(wanted, sorted(wanted.signs))
     where, values = wanted.where()
     return f"{COMMANDS}{where} ORDER BY commands.id DESC LIMIT ?", [*values, wanted.most]

@@ -1,10 +1,36 @@
 """Looking for words among rows, the newest first, within bounds: no request reads a whole table at once."""
 
-from typing import Callable, Sequence, TypeVar
+import itertools
+from typing import Callable, Iterator, Sequence, TypeVar
 
 _Row = TypeVar("_Row")
+Slice = tuple[Sequence[_Row], int | None]  # rows, and the number below which it goes on, none where it does not
+FEW = 200  # rows that are looked at before an index is asked
 SLICE = 2000  # rows that are read at once
 MOST_SEEN = 20_000  # rows that are looked at for one page
+
+
+def _slices(
+    ask: Callable[[int | None, int], Sequence[_Row]],
+    number: Callable[[_Row], int],
+    before: int | None,
+    most: int,
+    indexed: Callable[[int], Iterator[Slice[_Row]] | None],
+) -> Iterator[Slice[_Row]]:
+    """All rows, a page first and a few more; then those that an index has, where it has them."""
+    seen = 0
+    for size in itertools.chain((most + 1, FEW), itertools.repeat(SLICE)):
+        rows = ask(before, size)
+        if len(rows) < size:
+            yield rows, None
+            return
+        before, seen = number(rows[-1]), seen + size
+        yield rows, before
+        if seen >= MOST_SEEN:
+            return
+        if size == FEW and (found := indexed(before)) is not None:
+            yield from found
+            return
 
 
 def search(
@@ -13,20 +39,17 @@ def search(
     matches: Callable[[_Row], bool],
     before: int | None,
     most: int,
+    indexed: Callable[[int], Iterator[Slice[_Row]] | None] = lambda before: None,
 ) -> tuple[list[_Row], int | None]:
     """At most so many rows that match, of those with numbers below one, as `ask` has them; and the number below which
-    it goes on, none where nothing more is there."""
+    it goes on, none where nothing more is there. `indexed` has of the rows below a number all that may match."""
     found: list[_Row] = []
-    seen, size = 0, most + 1
-    while seen < MOST_SEEN:
-        rows = ask(before, size)
+    for rows, below in _slices(ask, number, before, most, indexed):
         for row in rows:
             if matches(row):
                 if len(found) == most:
                     return found, before
                 found.append(row)
-            before, seen = number(row), seen + 1
-        if len(rows) < size:
-            return found, None
-        size = SLICE
+            before = number(row)
+        before = below
     return found, before

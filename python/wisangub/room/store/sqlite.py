@@ -16,6 +16,7 @@ from wisangub.endpoint.files import MODE
 from wisangub.refusal import Refusal, reason
 
 from .connection import PATIENCE, Away, Database, Failed, NotYet, Row, Taken
+from .ends import command_words
 
 _MAKING = threading.Lock()
 _Mark = tuple[int, int] | None
@@ -47,6 +48,8 @@ class Sqlite(Database):
 
     clock = "((julianday('now') - 2440587.5) * 86400.0)"
     key = "INTEGER PRIMARY KEY"
+    with_words = "SELECT rowid FROM command_words WHERE command_words MATCH ? AND rowid < ? ORDER BY rowid DESC LIMIT ?"
+    a_word, and_words = '"{}" *', " AND "
 
     def __init__(self, path: str) -> None:
         super().__init__()
@@ -58,6 +61,7 @@ class Sqlite(Database):
             self.connection = sqlite3.connect(
                 address_of(path, "rw"), uri=True, timeout=PATIENCE, isolation_level=None, check_same_thread=False
             )
+            self.connection.create_function("command_words", 1, command_words, deterministic=True)
             for pragma in ("journal_mode = WAL", "synchronous = FULL", "foreign_keys = ON"):
                 self.run(f"PRAGMA {pragma}")
             self.run("SELECT count(*) FROM sqlite_master")  # from here on it has the log
@@ -132,6 +136,13 @@ class Sqlite(Database):
 
     def has_table(self, name: str) -> bool:
         return bool(self.run("SELECT 1 FROM sqlite_master WHERE type = 'table' AND name = ?", name))
+
+    def has_fts5(self) -> bool:
+        """Whether this SQLite can search texts."""
+        return bool(self.run("SELECT 1 FROM pragma_module_list WHERE name = 'fts5'"))
+
+    def has_words(self) -> bool:
+        return self.has_table("command_words")
 
     def close(self) -> None:
         self.connection.close()

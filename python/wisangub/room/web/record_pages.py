@@ -9,6 +9,7 @@ from aiohttp import web
 from wisangub.endpoint.texts import ended
 from wisangub.room.plain import plain_of
 from wisangub.room.store import history, queries
+from wisangub.room.store import words as find_words
 from wisangub.room.store.database import Database
 from wisangub.room.store.history import Activation, AuditWanted, Entry
 from wisangub.room.store.queries import CommandView, SignView, Wanted
@@ -122,6 +123,7 @@ async def history_page(request: web.Request) -> web.Response:
             asked.takes_command,
             wanted.before,
             _MOST,
+            lambda before: find_words.slices(database, wanted, asked.find, before),
         )
         return rows, before, history.people(database), queries.now(database)
 
