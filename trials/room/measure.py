@@ -159,7 +159,10 @@ def told(asked: Asked, store: Store, seconds: float, watch: Watch) -> None:
         f"{asked.signs} signs, {asked.workers} workers, {asked.database}, tick {asked.tick:g} s, poll {asked.poll:g} s,"
         f" {'all at once' if not asked.rate else f'{asked.rate:g} a second'}"
     )
-    print(f"{len(took)} of {asked.commands} commands accepted in {seconds:.1f} s: {len(took) / seconds:.1f} a second")
+    print(
+        f"{len(took)} of {asked.commands} commands accepted in {seconds:.1f} s: {len(took) / seconds:.1f} a second,"
+        f" {1000 * seconds / max(1, len(took)):.1f} ms each"
+    )
     if took:
         at = [took[min(len(took) - 1, len(took) * part // 100)] for part in (50, 95)]
         print(
