@@ -5,6 +5,10 @@ use Rattle.std.proofs.lemmas.Bool.{eqb-true}
 use Rattle.std.proofs.lemmas.List.{flat_map_more, take_more, length-take-le}
 use Rattle.std.proofs.lemmas.Option.{slice_get-get_or, same_Some}
 use Rattle.dms_codes.specs.Memory.{blank_memory}
+use Rattle.dms_codes.specs.Status.{is_not_used}
+use Rattle.dms_sign_state.specs.Fields.{UsedRow}
+use Rattle.dms_sign_state.specs.FieldsText.{row_line, row_lines}
+use Rattle.dms_sign_state.specs.StateText.{used_row, used_rows, row_text, rows_text}
 use Rattle.dms_table.specs.Rows.{RowModel, TableModel, RowReading, rows_of, numbered, row_read, reading, blank_reading, blank_at}
 
 numbered_push : {A : Type 0} (first : ℕ) (xs : List A) (x : A) → enumerate_from first (xs ++ x ∷ []) ≡ enumerate_from first xs ++ (first + length xs, x) ∷ []
@@ -58,3 +62,17 @@ row_read_at table kind index view stored less is =
 pub no_row_missing : (table : TableModel) (kind index : ℕ) (other : RowModel) → (kind == blank_memory) ≡ false → index < length (rows_of table kind)
     → None ≡ row_read table (record { memory = kind; number = index + 1 }) → ⊥
 no_row_missing table kind index other stored less is = let no = is ∙ read_at table kind index other stored less in cc
+
+-- ---- the rows that are used
+
+used_after : (name : List ℕ) (number : ℕ) (rows : List RowModel) → flat_map (row_text name) (enumerate_from number rows) ≡ row_lines name (used_rows number rows)
+used_after name number [] = refl
+used_after name number (row ∷ rows) = chosen (is_not_used row.status) (row_line name (used_row number row)) (used_row number row) (used_rows (number + 1) rows) refl (used_after name (number + 1) rows)
+  where
+    chosen : (unused : Bool) (line : List ℕ) (one : UsedRow) (others : List UsedRow) {written : List ℕ} → line ≡ row_line name one → written ≡ row_lines name others
+        → cond unused [] line ++ written ≡ row_lines name (cond unused others (one ∷ others))
+    chosen true line one others is rest = rest
+    chosen false line one others {written} is rest = ap (λ line. line ++ written) is ∙ ap (λ written. row_line name one ++ written) rest
+
+pub used_lines : (name : List ℕ) (rows : List RowModel) → rows_text name rows ≡ row_lines name (used_rows 1 rows)
+used_lines name rows = used_after name 1 rows

@@ -31,10 +31,31 @@
 //! end
 //! ```
 //!
-//! A state can be written, and is not read back yet.
+//! It is read back into plain fields, exactly: what is read is the state whose text it is, and of another text it is
+//! said at which line it goes wrong, and what is wanted there:
+//!
+//! ```
+//! match state_fields(alloc, b"state 1 sign\nchangeable 01 4 41 - 0 0 1\n") {
+//!     Ok(state) => assert!(rt; state.powered),
+//!     Err(StateError::Memory) => {}
+//!     // "line 2: changeable and a row of a number from 1 to 64 wanted"
+//!     Err(StateError::Fault(fault)) => assert!(rt; fault.line == 2),
+//! }
+//! ```
+//!
+//! No sign is made of the fields yet.
 #![tactic(auto)]
 
+mod field;
+mod fields;
+pub mod laws;
+mod line_reading;
 mod lines;
+mod reading;
 mod saving;
+mod words;
 
+pub use field::{Put, StateError, StateFault, StateField, Stored};
+pub use fields::{MessageFields, PutFields, RowFields, StateFields};
+pub use reading::state_fields;
 pub use saving::{put_saved, saved};

@@ -4,9 +4,10 @@ ghost use Rattle.std.specs.Prelude.{◌≡◌, ◌≤◌, ◌++◌, length, OnOk
 ghost use Rattle.dms_codes.specs.Limits.{longest_text};
 ghost use Rattle.dms_table.specs.RowsView.{reading_of, IsShort};
 ghost use Rattle.dms_text_values.specs.ValueText.{octets_text};
-ghost use Rattle.dms_sign_state.specs.StateText.{number_line, octets_line, defaults_words, colour_words};
-ghost use Rattle.dms_sign_state.specs.StateText.{layout_words, time_words, octets_word, attribute_words};
-ghost use Rattle.dms_sign_state.specs.StateText.{message_words, part_line};
+ghost use Rattle.dms_sign_state.specs.FieldsText.{number_line, octets_line, defaults_words, colour_words};
+ghost use Rattle.dms_sign_state.specs.FieldsText.{layout_words, time_words, octets_word, attribute_words};
+ghost use Rattle.dms_sign_state.specs.FieldsText.{message_words, part_line};
+ghost use Rattle.dms_sign_state.specs.StateText.{message_of};
 
 use dms_face::Defaults;
 use dms_table::RowView;
@@ -76,7 +77,7 @@ fn put_times(text: &mut Vec<u8>, defaults: &Defaults) -> io::Result<()>
 #[tactic(auto, using(crate::proofs::Appended::parts))]
 pub(crate) fn put_message(text: &mut Vec<u8>, row: &RowView<'_>) -> io::Result<()>
     requires { IsShort row.now }
-    ensures { OnOk result (text.new.items ≡ text.old.items ++ message_words (reading_of row.now).row) }
+    ensures { OnOk result (text.new.items ≡ text.old.items ++ message_words (message_of (reading_of row.now).row)) }
 {
     put_octets_word(text, row.text)?;
     put_octets_word(text, row.owner)?;
@@ -84,7 +85,7 @@ pub(crate) fn put_message(text: &mut Vec<u8>, row: &RowView<'_>) -> io::Result<(
 }
 
 fn put_attributes(text: &mut Vec<u8>, row: &RowView<'_>) -> io::Result<()>
-    ensures { OnOk result (text.new.items ≡ text.old.items ++ attribute_words (reading_of row.now).row) }
+    ensures { OnOk result (text.new.items ≡ text.old.items ++ attribute_words (message_of (reading_of row.now).row)) }
 {
     writeln!(text, " {} {} {}", row.beacon, row.pixel, row.priority)
 }

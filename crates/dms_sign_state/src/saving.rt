@@ -2,14 +2,17 @@
 
 ghost use Rattle.std.specs.Prelude.{◌≡◌, ◌≤◌, ◌==◌, ◌++◌, IfOk, OnOk, codes, length, false};
 ghost use Rattle.dms_codes.specs.Limits.{most_changeable_rows, most_volatile_rows};
+ghost use Rattle.dms_codes.specs.Codes.{octets_of_id};
 ghost use Rattle.dms_codes.specs.Memory.{blank_memory};
+ghost use Rattle.dms_table.specs.Activation.{shown_row};
 ghost use Rattle.dms_table.specs.Rows.{rows_of};
 ghost use Rattle.dms_table.specs.RowsView.{reading_of, IsShort};
 ghost use Rattle.dms_wire_ber.specs.NameText.{dotted};
-ghost use Rattle.dms_sign_state.specs.StateText.{row_text, rows_text, table_text, fallbacks_text, defaults_words};
-ghost use Rattle.dms_sign_state.specs.StateText.{settings_text, message_line, source_line, address_line};
-ghost use Rattle.dms_sign_state.specs.StateText.{remaining_text, copied_line, shown_text, reports_text, last_lines};
-ghost use Rattle.dms_sign_state.specs.StateText.{text_of_state};
+ghost use Rattle.dms_sign_state.specs.FieldsText.{fallbacks_text, defaults_words, settings_text, row_lines};
+ghost use Rattle.dms_sign_state.specs.FieldsText.{message_line, source_line, address_line, remaining_text};
+ghost use Rattle.dms_sign_state.specs.FieldsText.{copied_line, reports_text, last_lines};
+ghost use Rattle.dms_sign_state.specs.StateText.{message_of, used_rows, row_text, rows_text, table_text};
+ghost use Rattle.dms_sign_state.specs.StateText.{shown_text, text_of_state};
 
 use crate::lines::{put_code, put_defaults, put_message, put_number, put_octets, put_part};
 use dms_codes::{Order, RowId, Status, memory};
@@ -59,11 +62,22 @@ fn put_table(text: &mut Vec<u8>, table: &Table) -> io::Result<()>
     requires volatile { length table.now.volatile ≤ most_volatile_rows }
     ensures { OnOk result (text.new.items ≡ text.old.items ++ table_text table.now) }
 {
-    put_rows(text, "changeable", table, memory::CHANGEABLE)?;
-    put_rows(text, "volatile", table, memory::VOLATILE)
+    put_used(text, "changeable", table, memory::CHANGEABLE)?;
+    put_used(text, "volatile", table, memory::VOLATILE)
 }
 
 /// Appends the rows of a type of memory that are used.
+#[tactic(auto, using(crate::proofs::RowsWritten::used_lines))]
+fn put_used(text: &mut Vec<u8>, name: &str, table: &Table, kind: u8) -> io::Result<()>
+    requires stored { (kind == blank_memory) ≡ false }
+    requires few { length (rows_of table.now kind) ≤ most_changeable_rows }
+    ensures { OnOk result
+        (text.new.items ≡ text.old.items ++ row_lines name.now (used_rows 1 (rows_of table.now kind))) }
+{
+    put_rows(text, name, table, kind)
+}
+
+/// Appends the rows of a type of memory, those that are not used as nothing.
 fn put_rows(text: &mut Vec<u8>, name: &str, table: &Table, kind: u8) -> io::Result<()>
     requires stored { (kind == blank_memory) ≡ false }
     requires few { length (rows_of table.now kind) ≤ most_changeable_rows }
@@ -142,7 +156,8 @@ fn put_shown(text: &mut Vec<u8>, name: &str, order: Order, shown: &Shown) -> io:
 
 #[tactic(auto, using(crate::proofs::Appended::parts))]
 fn put_message_line(text: &mut Vec<u8>, name: &str, shown: &Shown) -> io::Result<()>
-    ensures { OnOk result (text.new.items ≡ text.old.items ++ message_line name.now shown.now) }
+    ensures { OnOk result
+        (text.new.items ≡ text.old.items ++ message_line name.now (message_of (shown_row shown.now))) }
 {
     write!(text, "{name}")?;
     put_message(text, &shown.view())
@@ -150,7 +165,8 @@ fn put_message_line(text: &mut Vec<u8>, name: &str, shown: &Shown) -> io::Result
 
 #[tactic(auto, using(crate::proofs::Appended::parts))]
 fn put_source(text: &mut Vec<u8>, name: &str, order: Order, shown: &Shown) -> io::Result<()>
-    ensures { OnOk result (text.new.items ≡ text.old.items ++ source_line name.now order shown.now) }
+    ensures { OnOk result
+        (text.new.items ≡ text.old.items ++ source_line name.now (octets_of_id order shown.now.source)) }
 {
     write!(text, "{name}-source ")?;
     put_octets(text, &shown.source.to_bytes(order))?;

@@ -11,6 +11,7 @@ use std::test::Fail;
 
 mod cases;
 mod hostile;
+mod read_back;
 mod saved;
 
 fn bench_sign(alloc: Global) -> Result<Sign, &'static str> {

@@ -8,7 +8,7 @@ use std::alloc::Global;
 use std::test::Fail;
 
 /// Rows of each status, a message with an end, other defaults than its own.
-const BUSY_STATE: &str = "\
+pub(super) const BUSY_STATE: &str = "\
 state 1 sign
 changeable 1 3 - - 0 0 250
 changeable 2 5 5b6e6c - 0 0 1
@@ -44,7 +44,7 @@ end
 ";
 
 /// The same forty seconds later, without power.
-const STATE_WITHOUT_POWER: &str = "\
+pub(super) const STATE_WITHOUT_POWER: &str = "\
 state 1 sign
 changeable 1 4 - - 0 0 250
 changeable 2 5 5b6e6c - 0 0 1
@@ -79,7 +79,7 @@ powered 0
 end
 ";
 
-const STATE_AFTER_COMMANDS: &str = "\
+pub(super) const STATE_AFTER_COMMANDS: &str = "\
 state 1 sign
 changeable 1 4 42 - 0 0 200
 changeable 2 2 - - 0 0 1
@@ -112,7 +112,7 @@ powered 1
 end
 ";
 
-const STATE_AFTER_RETURNS: &str = "\
+pub(super) const STATE_AFTER_RETURNS: &str = "\
 state 1 sign
 changeable 1 4 41 - 0 0 200
 defaults 0 9 5 5 1 3 2 30 0
@@ -144,7 +144,7 @@ powered 1
 end
 ";
 
-const STATE_AFTER_WRITTEN_DEFAULTS: &str = "\
+pub(super) const STATE_AFTER_WRITTEN_DEFAULTS: &str = "\
 state 1 sign
 changeable 1 4 5b6e6c5d41 - 0 0 200
 defaults 9 0 255 0 2 4 2 255 0
@@ -176,7 +176,7 @@ powered 1
 end
 ";
 
-const STATE_OF_THE_OTHER_ORDER: &str = "\
+pub(super) const STATE_OF_THE_OTHER_ORDER: &str = "\
 state 1 sign
 defaults 0 9 5 5 1 3 2 30 0
 short-power-recovery 0700010000

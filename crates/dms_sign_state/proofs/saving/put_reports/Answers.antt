@@ -1,6 +1,6 @@
 use Rattle.std.proofs.Common.{codes, ◌++◌, ap, ◌∙◌}
 use Rattle.std.proofs.lemmas.Result.{on_ok_weaker}
-use Rattle.dms_sign_state.specs.StateText.{number_line, octets_line}
+use Rattle.dms_sign_state.specs.FieldsText.{number_line, octets_line}
 use Rattle.dms_sign_state.proofs.Appended.{six}
 use Rattle.dms_sign_state.proofs.saving.put_reports.Goals as goal
 

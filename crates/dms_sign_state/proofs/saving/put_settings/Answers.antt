@@ -1,6 +1,6 @@
 use Rattle.std.proofs.Common.{codes, ◌++◌, ap, ◌∙◌}
 use Rattle.std.proofs.lemmas.Result.{on_ok_weaker}
-use Rattle.dms_sign_state.specs.StateText.{number_line, defaults_words, fallbacks_text}
+use Rattle.dms_sign_state.specs.FieldsText.{number_line, defaults_words, fallbacks_text}
 use Rattle.dms_sign_state.proofs.Appended.{four}
 use Rattle.dms_sign_state.proofs.saving.put_settings.Goals as goal
 

@@ -1,11 +1,12 @@
 use Rattle.std.proofs.Common.{codes, ◌++◌, ap, ◌∙◌}
 use Rattle.std.proofs.lemmas.Result.{on_ok_weaker}
-use Rattle.dms_sign_state.specs.StateText.{number_line, table_text, settings_text, shown_text, reports_text, last_lines, text_of_state}
+use Rattle.dms_sign_state.specs.FieldsText.{number_line, settings_text, reports_text, last_lines, text_of_fields}
+use Rattle.dms_sign_state.specs.StateText.{table_text, shown_text, text_of_state}
 use Rattle.dms_sign_state.proofs.Appended.{eight}
 use Rattle.dms_sign_state.proofs.saving.put_state.Goals as goal
 
 pub returns : goal.returns
-unfolding text_of_state
+unfolding text_of_state text_of_fields
 returns c =
     let s = c.args.sign.now in
     let begun = c.writeln.new.self.items in

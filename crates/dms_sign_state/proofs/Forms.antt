@@ -1,0 +1,257 @@
+-- What reads a text's front: a reader reads what is spelled so, and nothing else.
+use Rattle.std.proofs.Common.{◌≡◌, ℕ, suc, ◌+◌, ◌<◌, ◌≤◌, ◌==◌, ◌||◌, ltb, ◌⊎◌, Bool, true, false, cond, List, [], ◌∷◌, ◌++◌, length, get_or, take, drop, position, Option, Some, None, Result, Ok, Err, refl, sym, ap, subst, ◌∙◌, append_assoc, add-one, drop-cons, arith, inl, inr}
+use Rattle.std.specs.Prelude.{not}
+use Rattle.std.specs.List.{position_or_len, list_any}
+use Rattle.std.proofs.lemmas.Bool.{and_from, lt-ltb, eqb-true, eq-eqb}
+use Rattle.std.proofs.lemmas.List.{take_at, drop_at, take-append-drop, length-append}
+use Rattle.std.proofs.lemmas.List.Quantifiers.{position-Some}
+use Rattle.dms_text.specs.Words.{index_of}
+use Rattle.dms_text.specs.Reading.{same_octets}
+use Rattle.dms_text.proofs.WordLaws.{same_found}
+use Rattle.dms_sign_state.specs.declared.field.Lack.{Lack}
+use Rattle.dms_sign_state.specs.WordReading.{◌>>=◌, Reader, or_lack, pair, made, starts_with, named_at, after, cut_at, ended}
+
+-- ---- steps
+
+pub bind_ok : {A B : Type 0} (r : Result A Lack) (f : A → Result B Lack) (y : B) → (r >>= f) ≡ Ok y → (x : A) × (r ≡ Ok x) × (f x ≡ Ok y)
+bind_ok (Ok x) f y e = (x, refl, e)
+bind_ok (Err d) f y e = absurd cc
+
+abbrev failed : {A : Type 0} → Lack → Result A Lack
+failed lack = Err lack
+
+abbrev done : {A : Type 0} → A → Result A Lack
+done x = Ok x
+
+pub ok_is : {A : Type 0} (x y : A) → done x ≡ done y → x ≡ y
+ok_is x y e = cc
+
+pub err_is : {A : Type 0} (x y : Lack) → failed {A = A} x ≡ failed {A = A} y → x ≡ y
+err_is x y e = cc
+
+pub bind_err : {A B : Type 0} (r : Result A Lack) (f : A → Result B Lack) (lack : Lack) → (r >>= f) ≡ Err lack
+    → (r ≡ Err lack) ⊎ ((x : A) × (r ≡ Ok x) × (f x ≡ Err lack))
+bind_err (Ok x) f lack e = inr (x, refl, e)
+bind_err {A = A} {B = B} (Err d) f lack e = inl (ap (λ l. failed {A = A} l) (err_is {A = B} d lack e))
+
+pub goes_on : {A B : Type 0} (r : Result A Lack) (f : A → Result B Lack) (x : A) → r ≡ Ok x → (r >>= f) ≡ f x
+goes_on r f x e = ap (λ r. r >>= f) e
+
+pub or_ok : {A : Type 0} (lack : Lack) (o : Option A) (x : A) → or_lack lack o ≡ Ok x → o ≡ Some x
+or_ok lack None x e = absurd cc
+or_ok lack (Some y) x e = ap Some (ok_is y x e)
+
+pub or_err : {A : Type 0} (lack other : Lack) (o : Option A) → or_lack lack o ≡ Err other → other ≡ lack
+or_err {A = A} lack other None e = sym (err_is {A = A} lack other e)
+or_err lack other (Some y) e = absurd cc
+
+-- ---- readers
+
+pub record IsRead {A : Type 0} (spelled : A → List ℕ) (Good : A → Type 0) (reader : Lack → Reader A) : Type 0 where
+  pub found : (lack : Lack) (text : List ℕ) (x : A × List ℕ) → reader lack text ≡ Ok x → Good x.0 × (text ≡ spelled x.0 ++ x.1)
+  pub only : (lack : Lack) (a : A) (rest : List ℕ) → Good a → reader lack (spelled a ++ rest) ≡ Ok (a, rest)
+  pub lacks : (lack other : Lack) (text : List ℕ) → reader lack text ≡ Err other → other ≡ lack
+
+module _ {A B : Type 0} (sa : A → List ℕ) (ga : A → Type 0) (ra : Lack → Reader A) (sb : B → List ℕ) (gb : B → Type 0) (rb : Lack → Reader B)
+    (one : IsRead sa ga ra) (other : IsRead sb gb rb) where
+  pair_found : (lack : Lack) (text : List ℕ) (x : (A × B) × List ℕ) → pair (ra lack) (rb lack) text ≡ Ok x → (ga x.0.0 × gb x.0.1) × (text ≡ (sa x.0.0 ++ sb x.0.1) ++ x.1)
+  pair_found lack text x e =
+      let first = bind_ok (ra lack text) (λ x. rb lack x.1 >>= λ y. Ok ((x.0, y.0), y.1)) x e in
+      let second = bind_ok (rb lack first.0.1) (λ y. Ok ((first.0.0, y.0), y.1)) x first.2 in
+      let a = one.found lack text first.0 first.1 in
+      let b = other.found lack first.0.1 second.0 second.1 in
+      subst (λ (x : (A × B) × List ℕ). (ga x.0.0 × gb x.0.1) × (text ≡ (sa x.0.0 ++ sb x.0.1) ++ x.1)) (ok_is ((first.0.0, second.0.0), second.0.1) x second.2)
+      ((a.0, b.0), a.1 ∙ ap (λ rest. sa first.0.0 ++ rest) b.1 ∙ sym (append_assoc (sa first.0.0) (sb second.0.0) second.0.1))
+
+  pair_only : (lack : Lack) (p : A × B) (rest : List ℕ) → ga p.0 × gb p.1 → pair (ra lack) (rb lack) ((sa p.0 ++ sb p.1) ++ rest) ≡ Ok (p, rest)
+  pair_only lack p rest good =
+      ap (λ text. pair (ra lack) (rb lack) text) (append_assoc (sa p.0) (sb p.1) rest)
+      ∙ goes_on (ra lack (sa p.0 ++ (sb p.1 ++ rest))) (λ x. rb lack x.1 >>= λ y. Ok ((x.0, y.0), y.1)) (p.0, sb p.1 ++ rest) (one.only lack p.0 (sb p.1 ++ rest) good.0)
+      ∙ goes_on (rb lack (sb p.1 ++ rest)) (λ y. Ok ((p.0, y.0), y.1)) (p.1, rest) (other.only lack p.1 rest good.1)
+
+  pair_lacks : (lack wrong : Lack) (text : List ℕ) → pair (ra lack) (rb lack) text ≡ Err wrong → wrong ≡ lack
+  pair_lacks lack wrong text e =
+      elim (bind_err (ra lack text) (λ x. rb lack x.1 >>= λ y. Ok ((x.0, y.0), y.1)) wrong e) [
+        | inl first ↦ one.lacks lack wrong text first
+        | inr x ↦
+            elim (bind_err (rb lack x.0.1) (λ y. Ok ((x.0.0, y.0), y.1)) wrong x.2) [
+              | inl second ↦ other.lacks lack wrong x.0.1 second
+              | inr y ↦ absurd (let never : Ok ((x.0.0, y.0.0), y.0.1) ≡ failed {A = (A × B) × List ℕ} wrong = y.2 in cc)
+            ]
+      ]
+
+  pub pair_read : IsRead {A = A × B} (λ p. sa p.0 ++ sb p.1) (λ p. ga p.0 × gb p.1) (λ lack. pair (ra lack) (rb lack))
+  pair_read = record { found = pair_found; only = pair_only; lacks = pair_lacks }
+
+-- what is made of what is read, and back
+module _ {A B : Type 0} (sa : A → List ℕ) (ga : A → Type 0) (ra : Lack → Reader A) (sb : B → List ℕ) (gb : B → Type 0) (make : A → B) (back : B → A)
+    (one : IsRead sa ga ra) (there : (a : A) → ga a → gb (make a) × (sa a ≡ sb (make a))) (again : (b : B) → gb b → ga (back b) × (sb b ≡ sa (back b)) × (make (back b) ≡ b)) where
+  made_found : (lack : Lack) (text : List ℕ) (x : B × List ℕ) → made make (ra lack) text ≡ Ok x → gb x.0 × (text ≡ sb x.0 ++ x.1)
+  made_found lack text x e =
+      let first = bind_ok (ra lack text) (λ x. Ok (make x.0, x.1)) x e in
+      let a = one.found lack text first.0 first.1 in
+      let b = there first.0.0 a.0 in
+      subst (λ (x : B × List ℕ). gb x.0 × (text ≡ sb x.0 ++ x.1)) (ok_is (make first.0.0, first.0.1) x first.2)
+      (b.0, a.1 ∙ ap (λ front. front ++ first.0.1) b.1)
+
+  made_only : (lack : Lack) (b : B) (rest : List ℕ) → gb b → made make (ra lack) (sb b ++ rest) ≡ Ok (b, rest)
+  made_only lack b rest good =
+      let a = again b good in
+      ap (λ front. made make (ra lack) (front ++ rest)) a.1
+      ∙ goes_on (ra lack (sa (back b) ++ rest)) (λ x. Ok (make x.0, x.1)) (back b, rest) (one.only lack (back b) rest a.0)
+      ∙ ap (λ b. done (b, rest)) a.2
+
+  made_lacks : (lack wrong : Lack) (text : List ℕ) → made make (ra lack) text ≡ Err wrong → wrong ≡ lack
+  made_lacks lack wrong text e =
+      elim (bind_err (ra lack text) (λ x. Ok (make x.0, x.1)) wrong e) [
+        | inl first ↦ one.lacks lack wrong text first
+        | inr x ↦ absurd (let never : Ok (make x.0.0, x.0.1) ≡ failed {A = B × List ℕ} wrong = x.2 in cc)
+      ]
+
+  pub made_read : IsRead sb gb (λ lack. made make (ra lack))
+  made_read = record { found = made_found; only = made_only; lacks = made_lacks }
+
+-- ---- names
+
+same_only : (xs : List ℕ) → same_octets xs xs ≡ true
+same_only [] = refl
+same_only (x ∷ xs) = and_from _ _ (eq-eqb x x refl) (same_only xs)
+
+pub starts_found : (name text : List ℕ) → starts_with name text ≡ true → text ≡ name ++ drop (length name) text
+starts_found name text e =
+    sym (take-append-drop (length name) text) ∙ ap (λ front. front ++ drop (length name) text) (same_found (take (length name) text) name e)
+
+pub starts_only : (name rest : List ℕ) → starts_with name (name ++ rest) ≡ true
+starts_only name rest = ap (λ front. same_octets front name) (take_at name rest (length name) refl) ∙ same_only name
+
+cond_ok : {A : Type 0} (b : Bool) (lack : Lack) (x y : A) → cond b (Ok x) (Err lack) ≡ Ok y → (b ≡ true) × (x ≡ y)
+cond_ok true lack x y e = (refl, ok_is x y e)
+cond_ok false lack x y e = absurd cc
+
+cond_err : {A : Type 0} (b : Bool) (lack wrong : Lack) (x : A) → cond b (Ok x) (Err lack) ≡ Err wrong → wrong ≡ lack
+cond_err true lack wrong x e = absurd cc
+cond_err {A = A} false lack wrong x e = sym (err_is {A = A} lack wrong e)
+
+pub named_found : (name : List ℕ) (lack : Lack) (text rest : List ℕ) → named_at name lack text ≡ Ok rest → text ≡ name ++ rest
+unfolding named_at
+named_found name lack text rest e =
+    let is = cond_ok (starts_with name text) lack (drop (length name) text) rest e in
+    starts_found name text is.0 ∙ ap (λ rest. name ++ rest) is.1
+
+pub named_only : (name : List ℕ) (lack : Lack) (rest : List ℕ) → named_at name lack (name ++ rest) ≡ Ok rest
+unfolding named_at
+named_only name lack rest =
+    ap (λ b. cond b (Ok (drop (length name) (name ++ rest))) (failed lack)) (starts_only name rest)
+    ∙ ap (λ rest. done rest) (drop_at name rest (length name) refl)
+
+pub named_lacks : (name : List ℕ) (lack wrong : Lack) (text : List ℕ) → named_at name lack text ≡ Err wrong → wrong ≡ lack
+unfolding named_at
+named_lacks name lack wrong text e = cond_err (starts_with name text) lack wrong (drop (length name) text) e
+
+module _ {A : Type 0} (name : List ℕ) (sa : A → List ℕ) (ga : A → Type 0) (ra : Lack → Reader A) (one : IsRead sa ga ra) where
+  after_found : (lack : Lack) (text : List ℕ) (x : A × List ℕ) → after name lack (ra lack) text ≡ Ok x → ga x.0 × (text ≡ (name ++ sa x.0) ++ x.1)
+  after_found lack text x e =
+      let first = bind_ok (named_at name lack text) (λ rest. ra lack rest) x e in
+      let a = one.found lack first.0 x first.2 in
+      (a.0, named_found name lack text first.0 first.1 ∙ ap (λ rest. name ++ rest) a.1 ∙ sym (append_assoc name (sa x.0) x.1))
+
+  after_only : (lack : Lack) (a : A) (rest : List ℕ) → ga a → after name lack (ra lack) ((name ++ sa a) ++ rest) ≡ Ok (a, rest)
+  after_only lack a rest good =
+      ap (λ text. after name lack (ra lack) text) (append_assoc name (sa a) rest)
+      ∙ goes_on (named_at name lack (name ++ (sa a ++ rest))) (λ rest. ra lack rest) (sa a ++ rest) (named_only name lack (sa a ++ rest))
+      ∙ one.only lack a rest good
+
+  after_lacks : (lack wrong : Lack) (text : List ℕ) → after name lack (ra lack) text ≡ Err wrong → wrong ≡ lack
+  after_lacks lack wrong text e =
+      elim (bind_err (named_at name lack text) (λ rest. ra lack rest) wrong e) [
+        | inl first ↦ named_lacks name lack wrong text first
+        | inr x ↦ one.lacks lack wrong x.0 x.2
+      ]
+
+  pub after_read : IsRead (λ a. name ++ sa a) ga (λ lack. after name lack (ra lack))
+  after_read = record { found = after_found; only = after_only; lacks = after_lacks }
+
+-- ---- words
+
+-- no such octet is among them
+abbrev pub IsFree : ℕ → List ℕ → Type 0
+IsFree end word = list_any (λ octet. octet == end) word ≡ false
+
+first_at : (end : ℕ) (word rest : List ℕ) → IsFree end word → position_or_len (λ octet. octet == end) (word ++ end ∷ rest) ≡ length word
+first_at end [] rest free = ap (λ b. cond (not b) (1 + position_or_len (λ octet. octet == end) rest) 0) (eq-eqb end end refl)
+first_at end (x ∷ word) rest free = further (x == end) (list_any (λ octet. octet == end) word) (position_or_len (λ octet. octet == end) (word ++ end ∷ rest)) (length word) free (first_at end word rest)
+  where
+    further : (b free : Bool) (n k : ℕ) → (b || free) ≡ false → (free ≡ false → n ≡ k) → cond (not b) (1 + n) 0 ≡ suc k
+    further true free n k e is = absurd cc
+    further false free n k e is = omega (arith, is e)
+
+cut_of : (end : ℕ) (text : List ℕ) (index : ℕ) → index_of end text ≡ Some index → text ≡ (take index text ++ end ∷ []) ++ drop (index + 1) text
+cut_of end text index e =
+    let at = position-Some (λ octet. octet == end) text index 0 e in
+    let here : get_or text index 0 ≡ end = eqb-true (get_or text index 0) end at.1 in
+    sym (take-append-drop index text)
+    ∙ ap (λ rest. take index text ++ rest) (drop-cons text index 0 at.0 ∙ ap (λ octet. octet ∷ drop (suc index) text) here ∙ ap (λ k. end ∷ drop k text) (sym (add-one index)))
+    ∙ sym (append_assoc (take index text) (end ∷ []) (drop (index + 1) text))
+
+pub cut_found : (end : ℕ) (lack : Lack) (text : List ℕ) (cut : List ℕ × List ℕ) → cut_at end lack text ≡ Ok cut → text ≡ (cut.0 ++ end ∷ []) ++ cut.1
+unfolding cut_at
+cut_found end lack text cut e =
+    let first = bind_ok (or_lack lack (index_of end text)) (λ index. Ok (take index text, drop (index + 1) text)) cut e in
+    subst (λ (cut : List ℕ × List ℕ). text ≡ (cut.0 ++ end ∷ []) ++ cut.1) (ok_is (take first.0 text, drop (first.0 + 1) text) cut first.2)
+    (cut_of end text first.0 (or_ok lack (index_of end text) first.0 first.1))
+
+pub cut_only : (end : ℕ) (lack : Lack) (word rest : List ℕ) → IsFree end word → cut_at end lack ((word ++ end ∷ []) ++ rest) ≡ Ok (word, rest)
+unfolding cut_at
+cut_only end lack word rest free =
+    let text = word ++ end ∷ rest in
+    let size = length-append word (end ∷ rest) in
+    let found : index_of end text ≡ Some (length word) =
+    ap (λ n. cond (ltb n (length text)) (Some n) None) (first_at end word rest free)
+    ∙ ap (λ b. cond b (Some (length word)) None) (lt-ltb (length word) (length text) (omega (arith, size))) in
+    let past : drop (length word + 1) text ≡ rest =
+    ap (λ text. drop (length word + 1) text) (sym (append_assoc word (end ∷ []) rest))
+    ∙ drop_at (word ++ end ∷ []) rest (length word + 1) (omega (arith, length-append word (end ∷ []))) in
+    ap (λ text. cut_at end lack text) (append_assoc word (end ∷ []) rest)
+    ∙ goes_on (or_lack lack (index_of end text)) (λ index. Ok (take index text, drop (index + 1) text)) (length word) (ap (λ o. or_lack lack o) found)
+    ∙ ap (λ front. done (front, drop (length word + 1) text)) (take_at word (end ∷ rest) (length word) refl)
+    ∙ ap (λ rest. done (word, rest)) past
+
+pub cut_lacks : (end : ℕ) (lack wrong : Lack) (text : List ℕ) → cut_at end lack text ≡ Err wrong → wrong ≡ lack
+unfolding cut_at
+cut_lacks end lack wrong text e =
+    elim (bind_err (or_lack lack (index_of end text)) (λ index. Ok (take index text, drop (index + 1) text)) wrong e) [
+      | inl first ↦ or_err lack wrong (index_of end text) first
+      | inr x ↦ absurd (let never : Ok (take x.0 text, drop (x.0 + 1) text) ≡ failed {A = List ℕ × List ℕ} wrong = x.2 in cc)
+    ]
+
+-- a word that an octet ends which is not in it
+module _ {A : Type 0} (spelled : A → List ℕ) (Good : A → Type 0) (value : List ℕ → Option A) (end : ℕ)
+    (found : (word : List ℕ) (a : A) → value word ≡ Some a → Good a × (word ≡ spelled a))
+    (only : (a : A) → Good a → value (spelled a) ≡ Some a)
+    (free : (a : A) → Good a → IsFree end (spelled a)) where
+  ended_found : (lack : Lack) (text : List ℕ) (x : A × List ℕ) → ended value end lack text ≡ Ok x → Good x.0 × (text ≡ (spelled x.0 ++ end ∷ []) ++ x.1)
+  ended_found lack text x e =
+      let cut = bind_ok (cut_at end lack text) (λ cut. or_lack lack (value cut.0) >>= λ x. Ok (x, cut.1)) x e in
+      let read = bind_ok (or_lack lack (value cut.0.0)) (λ x. Ok (x, cut.0.1)) x cut.2 in
+      let is = found cut.0.0 read.0 (or_ok lack (value cut.0.0) read.0 read.1) in
+      subst (λ (x : A × List ℕ). Good x.0 × (text ≡ (spelled x.0 ++ end ∷ []) ++ x.1)) (ok_is (read.0, cut.0.1) x read.2)
+      (is.0, cut_found end lack text cut.0 cut.1 ∙ ap (λ word. (word ++ end ∷ []) ++ cut.0.1) is.1)
+
+  ended_only : (lack : Lack) (a : A) (rest : List ℕ) → Good a → ended value end lack ((spelled a ++ end ∷ []) ++ rest) ≡ Ok (a, rest)
+  ended_only lack a rest good =
+      goes_on (cut_at end lack ((spelled a ++ end ∷ []) ++ rest)) (λ cut. or_lack lack (value cut.0) >>= λ x. Ok (x, cut.1)) (spelled a, rest) (cut_only end lack (spelled a) rest (free a good))
+      ∙ goes_on (or_lack lack (value (spelled a))) (λ x. Ok (x, rest)) a (ap (λ o. or_lack lack o) (only a good))
+
+  ended_lacks : (lack wrong : Lack) (text : List ℕ) → ended value end lack text ≡ Err wrong → wrong ≡ lack
+  ended_lacks lack wrong text e =
+      elim (bind_err (cut_at end lack text) (λ cut. or_lack lack (value cut.0) >>= λ x. Ok (x, cut.1)) wrong e) [
+        | inl first ↦ cut_lacks end lack wrong text first
+        | inr cut ↦
+            elim (bind_err (or_lack lack (value cut.0.0)) (λ x. Ok (x, cut.0.1)) wrong cut.2) [
+              | inl second ↦ or_err lack wrong (value cut.0.0) second
+              | inr x ↦ absurd (let never : Ok (x.0, cut.0.1) ≡ failed {A = A × List ℕ} wrong = x.2 in cc)
+            ]
+      ]
+
+  pub ended_read : IsRead (λ a. spelled a ++ end ∷ []) Good (λ lack. ended value end lack)
+  ended_read = record { found = ended_found; only = ended_only; lacks = ended_lacks }
