@@ -69,9 +69,9 @@ class Begun:
             os.kill(os.getpid(), signal.SIGTERM)
 
     def status(self, waiting: Waiting) -> int:
-        """The exit status of both: that of the other one, where it ended by itself."""
+        """The exit status of both: that of the other one, where it ended by itself, and 1 where a signal ended it."""
         if not waiting.is_stopped:
-            return self.process.wait(_PATIENCE) or 1
+            return max(self.process.wait(_PATIENCE), 0) or 1
         return 1 if self.is_lost else 0
 
     def end(self) -> None:
