@@ -4,8 +4,11 @@ import os
 import pathlib
 import signal
 import socket
+import subprocess
+import sys
 import time
 import urllib.request
+from unittest import mock
 
 import pytest
 
@@ -14,9 +17,11 @@ from . import needs
 needs.modules("aiohttp", "jinja2")
 
 from trials.room.beside import Service
+from wisangub.endpoint.sockets import Waiting
 from wisangub.refusal import Refusal
 from wisangub.room import serve
 from wisangub.room.addresses import is_this_machine
+from wisangub.room.beside import Begun
 from wisangub.room.serve import arguments
 from wisangub.room.service import Pages
 from wisangub.room.store import passwords
@@ -81,3 +86,12 @@ def test_pages_and_worker_end_together(tmp_path: pathlib.Path, which: int) -> No
             while time.monotonic() < ends:
                 socket.create_connection(("127.0.0.1", service.port), 5).close()
         assert which == 0 or "the pages ended by themselves" in service.said.read_text()
+
+
+@pytest.mark.parametrize("does, status", (("os.kill(os.getpid(), 9)", 1), ("sys.exit(2)", 2), ("sys.exit()", 1)))
+def test_pages_that_end_before_they_stand_say_how_the_service_ends(does: str, status: int) -> None:
+    process = subprocess.Popen([sys.executable, "-c", f"import os, sys; {does}"])
+    ours, theirs = socket.socketpair()
+    with ours, theirs:
+        waiting = mock.create_autospec(Waiting, instance=True, is_stopped=False)
+        assert Begun(process, ours).status(waiting) == status
