@@ -16,7 +16,7 @@ use Rattle.dms_table.specs.declared.row.Services.{Services}
 use Rattle.dms_table.specs.Rows.{RowModel, TableModel, Text, Owner, Beacon, Pixel, Priority, is_in_range, changed_by, changed}
 use Rattle.dms_table.specs.Activation.{ShownModel, shown_row}
 use Rattle.dms_table.specs.SavedRows.{put_over, may_have_beacon, may_have_pixel, value_fault, row_fault}
-use Rattle.dms_table.specs.SavedShown.{is_time, is_mode, has_its_checksum, message_fault, showing_fault, shown_fault}
+use Rattle.dms_table.specs.SavedShown.{is_time, is_mode, has_its_checksum, is_blank_by_its_source, message_fault, showing_fault, shown_fault}
 use Rattle.dms_sign.specs.declared.sign.Sign.TheInside.{Inside}
 use Rattle.dms_sign.specs.declared.sign.restoring.SignParts.{SignParts}
 use Rattle.dms_sign.specs.declared.sign.restoring.MessageFault.TheVariants as messages
@@ -55,8 +55,8 @@ both false b e = absurd (cc)
 
 -- ---- what is shown
 
-time_in_range : (o : Option ℕ) → is_time o ≡ true → IsTimeInRange o
-time_in_range o is = grind arith
+time_in_range : (mode : ℕ) (o : Option ℕ) → is_time mode o ≡ true → IsTimeInRange o
+time_in_range mode o is = grind arith
 
 within : (n most : ℕ) → nat_le n most ≡ true → n ≤ most
 within n most e = grind arith
@@ -87,8 +87,9 @@ row_in_range shown is none =
 remaining_in_range : (shown : ShownModel) → showing_fault shown ≡ None → IsTimeInRange shown.remaining
 remaining_in_range shown none =
     let checksum = passed (has_its_checksum shown) _ _ none in
-    let mode = passed (is_mode shown.mode) _ _ checksum.1 in
-    time_in_range shown.remaining (passed (is_time shown.remaining) _ _ mode.1).0
+    let blank = passed (is_blank_by_its_source shown) _ _ checksum.1 in
+    let mode = passed (is_mode shown.mode) _ _ blank.1 in
+    time_in_range shown.mode shown.remaining (passed (is_time shown.mode shown.remaining) _ _ mode.1).0
 
 shown_in_range : (shown : ShownModel) → IsTyped shown → shown_fault shown ≡ None → IsShownInRange shown
 shown_in_range shown is none =

@@ -36,6 +36,7 @@ shown_fault_text shown_faults.Beacon = codes "no such beacon"
 shown_fault_text shown_faults.Pixel = codes "no such pixel service"
 shown_fault_text shown_faults.Priority = codes "no such priority"
 shown_fault_text shown_faults.Checksum = codes "another checksum than the message's"
+shown_fault_text shown_faults.Blank = codes "not the blank message that its source names"
 shown_fault_text shown_faults.Mode = codes "no such mode"
 shown_fault_text shown_faults.Remaining = codes "too many seconds are left"
 

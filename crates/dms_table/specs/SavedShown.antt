@@ -1,5 +1,5 @@
 -- What a saved state says of a message that is shown or was kept, and why there is no such message (this profile).
-use Rattle.std.specs.Prelude.{ℕ, ◌*◌, ◌==◌, ◌||◌, Bool, true, not, if◌then◌else◌, Option, Some, None, nat_le}
+use Rattle.std.specs.Prelude.{ℕ, ◌*◌, ◌==◌, ◌&&◌, ◌||◌, Bool, true, not, if◌then◌else◌, Option, Some, None, nat_le, length}
 use Rattle.std.specs.Option.{option_or}
 use Rattle.dms_codes.specs.Checksum.{message_checksum}
 use Rattle.dms_codes.specs.Memory.{blank_memory}
@@ -39,10 +39,21 @@ has_its_checksum shown =
     shown.source.memory == blank_memory
     || message_checksum shown.text shown.beacon shown.pixel == shown.source.crc
 
--- the seconds of the most minutes, or no end
-abbrev pub is_time : Option ℕ → Bool
-is_time None = true
-is_time (Some seconds) = nat_le seconds (65535 * 60)
+-- the blank message of this number is shown
+abbrev pub is_blank_of : ℕ → ShownModel → Bool
+is_blank_of number shown =
+    length shown.text == 0 && length shown.owner == 0 && shown.beacon == 0 && shown.pixel == 0
+    && shown.priority == number
+
+-- a source that is a blank message is the one that is shown
+abbrev pub is_blank_by_its_source : ShownModel → Bool
+is_blank_by_its_source shown =
+    not (shown.source.memory == blank_memory) || is_blank_of shown.source.number shown
+
+-- no end; or, where a code set one, the seconds of the most minutes that are an end
+abbrev pub is_time : ℕ → Option ℕ → Bool
+is_time mode None = true
+is_time mode (Some seconds) = mode == mode_number Central && nat_le seconds (65534 * 60)
 
 -- the first thing that is wrong with the row of a message
 abbrev pub message_fault : ShownModel → Option ShownFault
@@ -58,8 +69,9 @@ message_fault shown =
 abbrev pub showing_fault : ShownModel → Option ShownFault
 showing_fault shown =
     if not (has_its_checksum shown) then Some faults.Checksum
+    else if not (is_blank_by_its_source shown) then Some faults.Blank
     else if not (is_mode shown.mode) then Some faults.Mode
-    else if not (is_time shown.remaining) then Some faults.Remaining
+    else if not (is_time shown.mode shown.remaining) then Some faults.Remaining
     else None
 
 -- the first thing for which there is no such message

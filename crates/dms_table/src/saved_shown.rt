@@ -1,7 +1,8 @@
 //! Messages of a saved state that are shown or were kept.
 
 ghost use Rattle.std.specs.Prelude.{◌≡◌, IfNone};
-ghost use Rattle.dms_table.specs.SavedShown.{shown_saved, has_its_checksum, is_mode, is_time};
+ghost use Rattle.dms_table.specs.SavedShown.{shown_saved, has_its_checksum, is_blank_of, is_blank_by_its_source};
+ghost use Rattle.dms_table.specs.SavedShown.{is_mode, is_time};
 ghost use Rattle.dms_table.specs.SavedShown.{message_fault, showing_fault, shown_fault};
 ghost use Rattle.dms_table.specs.TableView.{FitsShown};
 
@@ -24,13 +25,13 @@ pub struct SavedShown<'a> {
     pub pixel: u8,
     /// The run-time priority, 1 to 255.
     pub priority: u8,
-    /// The row, as the code that activated it named it; it has the message's checksum, or is a blank message.
+    /// The row, as the code that activated it named it: with the message's checksum, or the blank message that is shown.
     pub source: MessageId,
     /// What put it up, by its number in dmsMsgSourceMode (`Mode`).
     pub mode: u8,
     /// The network address of the one who activated it.
     pub address: [u8; 4],
-    /// The seconds until it ends, at most those of 65535 minutes; none without an end.
+    /// The seconds until it ends, at most those of 65534 minutes; none without an end, as where no code put it up.
     pub remaining: Option<u32>,
     /// The defaults when it came up.
     pub defaults: Defaults,
@@ -51,9 +52,11 @@ pub enum ShownFault {
     Priority,
     /// The source has another checksum than the message.
     Checksum,
+    /// The source is a blank message, and another one, or one that is not blank, is shown.
+    Blank,
     /// No mode has this number.
     Mode,
-    /// More seconds are left than 65535 minutes have.
+    /// More seconds are left than 65534 minutes have, or some are where no code put the message up.
     Remaining,
 }
 
@@ -71,6 +74,7 @@ impl fmt::Display for ShownFault {
             ShownFault::Pixel => f.write_str("no such pixel service"),
             ShownFault::Priority => f.write_str("no such priority"),
             ShownFault::Checksum => f.write_str("another checksum than the message's"),
+            ShownFault::Blank => f.write_str("not the blank message that its source names"),
             ShownFault::Mode => f.write_str("no such mode"),
             ShownFault::Remaining => f.write_str("too many seconds are left"),
         }
@@ -117,9 +121,11 @@ impl<'a> SavedShown<'a> {
     {
         if !self.has_its_checksum() {
             Some(ShownFault::Checksum)
+        } else if !self.is_blank_by_its_source() {
+            Some(ShownFault::Blank)
         } else if !is_mode(self.mode) {
             Some(ShownFault::Mode)
-        } else if !is_time(self.remaining) {
+        } else if !is_time(self.mode, self.remaining) {
             Some(ShownFault::Remaining)
         } else {
             None
@@ -131,6 +137,23 @@ impl<'a> SavedShown<'a> {
     {
         self.source.memory == memory::BLANK
             || crc(self.text, self.beacon, self.pixel) == self.source.crc
+    }
+
+    fn is_blank_by_its_source(&self) -> bool
+        ensures { result ≡ is_blank_by_its_source (shown_saved self.now) }
+    {
+        self.source.memory != memory::BLANK || self.is_blank_of(self.source.number)
+    }
+
+    /// Whether the blank message of this number is shown.
+    fn is_blank_of(&self, number: u16) -> bool
+        ensures { result ≡ is_blank_of number (shown_saved self.now) }
+    {
+        self.text.is_empty()
+            && self.owner.is_empty()
+            && self.beacon == 0
+            && self.pixel == 0
+            && u16::from(self.priority) == number
     }
 }
 
@@ -164,11 +187,11 @@ fn is_mode(number: u8) -> bool
         || number == Mode::EndDuration.number()
 }
 
-fn is_time(remaining: Option<u32>) -> bool
-    ensures { result ≡ is_time remaining }
+fn is_time(mode: u8, remaining: Option<u32>) -> bool
+    ensures { result ≡ is_time mode remaining }
 {
     match remaining {
         None => true,
-        Some(seconds) => seconds <= 65535 * 60,
+        Some(seconds) => mode == Mode::Central.number() && seconds <= 65534 * 60,
     }
 }

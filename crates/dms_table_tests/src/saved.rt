@@ -136,38 +136,12 @@ fn check_shown(rt: &impl Abort, saved: SavedShown<'_>, found: Option<ShownFault>
 
 #[test]
 fn a_message_is_shown_once_more(rt: HostRuntime) {
-    let blank = MessageId {
-        memory: memory::BLANK,
-        number: 1,
-        crc: 77,
-    };
     let other = MessageId {
         crc: 0x9a67,
         ..SHOWN.source
     };
     for (saved, found) in [
         (SHOWN, None),
-        (
-            SavedShown {
-                source: blank,
-                ..SHOWN
-            },
-            None,
-        ),
-        (
-            SavedShown {
-                remaining: Some(3_932_100),
-                ..SHOWN
-            },
-            None,
-        ),
-        (
-            SavedShown {
-                remaining: Some(3_932_101),
-                ..SHOWN
-            },
-            Some(ShownFault::Remaining),
-        ),
         (
             SavedShown {
                 source: other,
@@ -204,4 +178,83 @@ fn a_message_is_shown_once_more(rt: HostRuntime) {
     }
     let again = Shown::of(&Shown::blank(&DEFAULTS, Mode::PowerLoss).saved());
     assert!(rt; again.map(|shown| (shown.checksum(), shown.mode)) == Ok((0, 13)));
+}
+
+#[test]
+fn a_code_alone_sets_an_end_of_at_most_65534_minutes(rt: HostRuntime) {
+    let staying = SavedShown {
+        mode: Mode::PowerRecovery.number(),
+        ..SHOWN
+    };
+    for (saved, found) in [
+        (
+            SavedShown {
+                remaining: Some(3_932_040),
+                ..SHOWN
+            },
+            None,
+        ),
+        (
+            SavedShown {
+                remaining: Some(3_932_041),
+                ..SHOWN
+            },
+            Some(ShownFault::Remaining),
+        ),
+        (staying, Some(ShownFault::Remaining)),
+        (
+            SavedShown {
+                remaining: None,
+                ..staying
+            },
+            None,
+        ),
+    ] {
+        check_shown(&rt, saved, found);
+    }
+}
+
+#[test]
+fn nothing_but_its_own_blank_message_is_shown_under_a_blank_code(rt: HostRuntime) {
+    let blank = SavedShown {
+        text: &[],
+        owner: &[],
+        source: MessageId {
+            memory: memory::BLANK,
+            number: 7,
+            crc: 77,
+        },
+        ..SHOWN
+    };
+    let of_number = |number| MessageId {
+        number,
+        ..blank.source
+    };
+    check_shown(&rt, blank, None);
+    for saved in [
+        SavedShown {
+            text: b"A",
+            ..blank
+        },
+        SavedShown {
+            owner: b"O",
+            ..blank
+        },
+        SavedShown { beacon: 1, ..blank },
+        SavedShown { pixel: 1, ..blank },
+        SavedShown {
+            priority: 8,
+            ..blank
+        },
+        SavedShown {
+            source: of_number(0),
+            ..blank
+        },
+        SavedShown {
+            source: of_number(263),
+            ..blank
+        },
+    ] {
+        check_shown(&rt, saved, Some(ShownFault::Blank));
+    }
 }
