@@ -34,8 +34,10 @@ class Ends:
         self.waiting = waiting
         self.unanswered = [line_of(octets) for octets in waiting if sort_of(octets, *WHO) is Sort.UNANSWERED]
         self.done: list[Any] = []
+        self.looks = 0
 
     def recvfrom(self, *_: Any) -> tuple[bytes, tuple[str, int]]:
+        self.looks += 1
         if not self.waiting:
             raise BlockingIOError
         octets = self.waiting.pop(0)
@@ -85,6 +87,21 @@ def test_sixteen_that_wait_have_one_sync_and_one_write() -> None:
     assert AT_ONCE == 16 and done == [*first, "write", "fdatasync", lines[AT_ONCE:], *sets[AT_ONCE:]]
     assert kept == lines
     assert served(list(sets), False)[0] == [lines[:AT_ONCE], *sets[:AT_ONCE], lines[AT_ONCE:], *sets[AT_ONCE:]]
+
+
+def test_where_they_come_one_at_a_time_more_are_seldom_looked_for() -> None:
+    get = request(wire.GET, 1)
+    ends: Any = Ends([])
+    front_end = SignFrontEnd(ends, ends, None, None, 10.0)
+    for _ in range(170):
+        ends.waiting.append(get)
+        assert len(front_end.waiting_datagrams()) == 1
+    assert ends.looks == 180
+    ends.waiting += [get] * 160
+    sizes: list[int] = []
+    while ends.waiting:
+        sizes.append(len(front_end.waiting_datagrams()))
+    assert sizes.count(1) <= 16 and set(sizes[sizes.count(1) : -1]) == {AT_ONCE}, "more are looked for soon"
 
 
 def test_gets_are_handed_over_first_and_leave_one_record_without_a_sync() -> None:

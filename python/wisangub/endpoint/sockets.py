@@ -5,6 +5,7 @@ import re
 import select
 import signal
 import socket
+import struct
 from typing import Any, Callable
 
 from wisangub.refusal import Refusal
@@ -104,12 +105,18 @@ class Strays:
         return found
 
 
-def received(udp_socket: socket.socket) -> tuple[bytes, Address] | None:
+def wait_at_most(udp_socket: socket.socket, seconds: float) -> None:
+    """A call that waits for a datagram at this socket does so for so long."""
+    microseconds = round(1_000_000 * seconds)
+    udp_socket.setsockopt(socket.SOL_SOCKET, socket.SO_RCVTIMEO, struct.pack("@ll", *divmod(microseconds, 1_000_000)))
+
+
+def received(udp_socket: socket.socket, how: int = socket.MSG_DONTWAIT) -> tuple[bytes, Address] | None:
     """A datagram that waits, with its sender; None where none does. What an earlier datagram met on its way, such as a
     machine that is off, is no datagram."""
     for _ in range(MOST_FAULTS):
         try:
-            return udp_socket.recvfrom(MOST_DATAGRAM + 1, socket.MSG_DONTWAIT)
+            return udp_socket.recvfrom(MOST_DATAGRAM + 1, how)
         except (BlockingIOError, TimeoutError):
             return None
         except OSError:
@@ -138,6 +145,7 @@ class Waiting:
         self.is_stopped = False
         self.files: list[int] = []  # that were waited for last, by this poll
         self.woken, self.waker = socket.socketpair()
+        self.signals = self.woken.fileno()
         for one in (self.woken, self.waker):
             one.setblocking(False)
         self.ready = self.poll_of([])
@@ -155,7 +163,7 @@ class Waiting:
     def poll_of(self, files: list[int]) -> "select.poll":
         """What waits for these files, and for a signal."""
         ready = select.poll()
-        for file in (*files, self.woken.fileno()):
+        for file in (*files, self.signals):
             ready.register(file, select.POLLIN)
         return ready
 
@@ -163,10 +171,13 @@ class Waiting:
         """Which of these files can be read, after at most so many seconds."""
         if files != self.files:
             self.files, self.ready = list(files), self.poll_of(files)
-        found = self.ready.poll(None if seconds is None else 1000 * min(max(0.0, seconds), _MOST_WAIT))
-        if not self.is_stopped and any(file == self.woken.fileno() for file, _ in found):
-            self.forget()
-        return [] if self.is_stopped else [file for file, _ in found if file in files]
+        ready = self.ready.poll(None if seconds is None else 1000 * min(max(0.0, seconds), _MOST_WAIT))
+        found = [file for file, _ in ready]
+        if self.signals in found:
+            found.remove(self.signals)
+            if not self.is_stopped:
+                self.forget()
+        return [] if self.is_stopped else found
 
     def forget(self) -> None:
         """Another signal than those that stop it came, which is waited for no more."""

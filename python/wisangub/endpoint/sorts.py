@@ -15,11 +15,15 @@ class Sort(enum.Enum):
     CHANGING = enum.auto()
 
 
+# names of their own: to look one up in the class takes as long as a call
+UNANSWERED, HEARD, CHANGING = Sort.UNANSWERED, Sort.HEARD, Sort.CHANGING
+
+
 def sort_of(octets: bytes, reader: bytes, writer: bytes) -> Sort:
     """What it can do to a sign with these communities."""
     if wire.is_get(octets):
-        return Sort.HEARD
+        return HEARD
     found = wire.spelled(octets)
     if found is None or found.kind == wire.RESPONSE or found.community not in (reader, writer):
-        return Sort.UNANSWERED
-    return Sort.CHANGING if (found.kind, found.community) == (wire.SET, writer) else Sort.HEARD
+        return UNANSWERED
+    return CHANGING if (found.kind, found.community) == (wire.SET, writer) else HEARD

@@ -49,15 +49,17 @@ class CoProcess:
     def write(self, octets: bytes) -> None:
         """Hands octets over whole. Where the process takes no more, it is room for more that is waited for, and its
         answers are read meanwhile, since else both pipes fill."""
-        left = memoryview(octets)
+        done = self.taken(octets)
+        if done == len(octets):
+            return
+        left = memoryview(octets)[done:]
         while left:
+            self.room.poll(_WAIT)
+            while self.answers.poll(0):
+                self.read()
             left = left[self.taken(left) :]
-            if left:
-                self.room.poll(_WAIT)
-                while self.answers.poll(0):
-                    self.read()
 
-    def taken(self, octets: memoryview) -> int:
+    def taken(self, octets: bytes | memoryview) -> int:
         """How many octets the process takes now."""
         try:
             return os.write(self.input, octets)
