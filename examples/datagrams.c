@@ -15,6 +15,7 @@ enum {
     OPAQUE = 0x44,
     GET = 0xA0,
     GET_NEXT = 0xA1,
+    RESPONSE = 0xA2,
     SET = 0xA3
 };
 enum { LENGTH_MOST = 4, INTEGER_MOST = 5, NUMBERS_MOST = 127 };
@@ -166,6 +167,32 @@ enum datagram_kind datagram_kind(const uint8_t *octets, size_t size, const struc
         return tag == SET ? DATAGRAM_SETS : DATAGRAM_ASKS;
     }
     return is_community(&community, communities->reader, communities->reader_size) ? DATAGRAM_ASKS : DATAGRAM_UNHEARD;
+}
+
+/* The list of bindings of a Response without an error. */
+static int is_success(const uint8_t *reply, size_t size, struct part *list)
+{
+    struct part datagram = {reply, reply + size}, message, content, pdu, status;
+    return takes(&datagram, SEQUENCE, &message) && takes(&message, INTEGER, &content)
+           && takes(&message, OCTETS, &content) && takes(&message, RESPONSE, &pdu) && takes(&pdu, INTEGER, &content)
+           && takes(&pdu, INTEGER, &status) && left(&status) == 1 && *status.at == 0 && takes(&pdu, INTEGER, &content)
+           && takes(&pdu, SEQUENCE, list);
+}
+
+const uint8_t *datagram_activated(const uint8_t *reply, size_t size)
+{
+    static const uint8_t activate[] = {0x2B, 6, 1, 4, 1, 0x89, 0x36, 4, 2, 3, 6, 3, 0}; /* dmsActivateMessage.0 */
+    struct part list, binding, name, value;
+    if (!is_success(reply, size, &list)) {
+        return NULL;
+    }
+    while (takes(&list, SEQUENCE, &binding) && takes(&binding, NAME, &name)) {
+        if (left(&name) == sizeof activate && memcmp(name.at, activate, sizeof activate) == 0
+            && takes(&binding, OCTETS, &value) && left(&value) == CODE_SIZE) {
+            return value.at;
+        }
+    }
+    return NULL;
 }
 
 size_t datagram_line(char *line, const uint8_t *octets, size_t size)

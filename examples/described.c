@@ -45,7 +45,7 @@ void make_sign(struct wisangub_sign *sign, const char *name, char digest[65])
     size_t line = 0, size = described(name, text);
     enum wisangub_answer made = wisangub_sign_new(sign, text, size, &first, &line);
     if (made == WISANGUB_FAULT) {
-        fprintf(stderr, "%s: line %zu\n", name, line);
+        fprintf(stderr, "%s: line %zu: no description of a sign\n", name, line);
         exit(2);
     }
     if (made != WISANGUB_DONE) {

@@ -47,6 +47,7 @@ struct front_end {
     uint64_t changes;        /* of the picture, as the log has it */
     double up;               /* the moment up to which the sign was told its seconds */
     int socket, timer;       /* the timer is -1 where no seconds pass */
+    int is_quiet;            /* nothing is printed of what managers do */
 };
 
 struct asked {
@@ -131,6 +132,20 @@ static void keep(struct journal *journal, struct log *log, struct heard *heard, 
     }
 }
 
+/* Says which activation the sign accepted, by its reply. */
+static void tell_activated(const uint8_t *reply, size_t size)
+{
+    const uint8_t *code = datagram_activated(reply, size);
+    char digits[2 * CODE_SIZE + 1] = "";
+    for (size_t at = 0; code != NULL && at < CODE_SIZE; at++) {
+        snprintf(digits + 2 * at, 3, "%02x", code[at]);
+    }
+    if (code != NULL) {
+        printf("accepted %s\n", digits);
+        fflush(stdout);
+    }
+}
+
 /* Hands datagrams over, what changes the sign once it is recorded, and sends the replies. */
 static void answer(struct front_end *front_end, struct heard *heard, size_t count)
 {
@@ -158,6 +173,9 @@ static void answer(struct front_end *front_end, struct heard *heard, size_t coun
         replies.to[made] = one;
         replies.count++;
         by_kept |= one->kind == DATAGRAM_SETS;
+        if (one->kind == DATAGRAM_SETS && !front_end->is_quiet) {
+            tell_activated(replies.octets[made], replies.sizes[made]);
+        }
     }
     send_all(front_end->socket, &replies);
     log_picture(front_end);
@@ -335,7 +353,7 @@ static void help(void)
          "  --need-journal        ends where the disk takes nothing at a start\n"
          "  --most-recorded N     of the writing community, in a second; else 50\n"
          "  --no-ticks            no second passes for the sign\n"
-         "  --quiet               neither where it is nor what managers set is printed\n"
+         "  --quiet               neither where it is, what it accepts nor what managers set is printed\n"
          "  --version             the version of the library");
     exit(0);
 }
@@ -451,7 +469,8 @@ int main(int count, char **words)
     struct asked asked = asked_for(count, words);
     char digest[65];
     keep_standard_files();
-    struct front_end front_end = {.socket = bound(asked.host, asked.port), .timer = -1};
+    struct front_end front_end = {
+        .socket = bound(asked.host, asked.port), .timer = -1, .is_quiet = asked.is_quiet};
     log_open(&front_end.log, asked.log);
     make_sign(&front_end.sign, asked.description, digest);
     front_end.communities = communities_of(&front_end.sign);
@@ -466,7 +485,7 @@ int main(int count, char **words)
     }
     int waited = signals(asked.objects != NULL);
     if (!asked.is_quiet) {
-        announce(front_end.socket);
+        announce(front_end.socket, asked.host);
     }
     if (front_end.firmware != NULL) {
         firmware_tell(front_end.firmware); /* what managers set in the journal's records */

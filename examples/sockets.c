@@ -5,6 +5,9 @@
 #include <netdb.h>
 #include <stdio.h>
 #include <stdlib.h>
+#include <string.h>
+
+enum { NAMED = NI_MAXHOST + NI_MAXSERV + 4 };
 
 int had(int result, const char *call)
 {
@@ -22,16 +25,24 @@ static struct addrinfo *resolved(const char *host, long port)
     struct addrinfo *found = NULL;
     char digits[8];
     if (port < 0 || port > 65535) {
-        fprintf(stderr, "no address: %s port %ld\n", host, port);
+        fprintf(stderr, "%ld is no port: 0 to 65535\n", port);
         exit(2);
     }
     snprintf(digits, sizeof digits, "%ld", port);
     int fault = getaddrinfo(host, digits, &hints, &found);
     if (fault != 0 || found == NULL) {
-        fprintf(stderr, "no address: %s port %ld: %s\n", host, port, gai_strerror(fault));
+        fprintf(stderr, "%s: %s\n", host, gai_strerror(fault));
         exit(2);
     }
     return found;
+}
+
+/* An address in words, HOST:PORT, an IPv6 host in brackets. */
+static void name(const struct sockaddr *at, socklen_t size, const char *host, char words[NAMED])
+{
+    char numbers[NI_MAXHOST] = "", port[NI_MAXSERV] = "";
+    getnameinfo(at, size, numbers, sizeof numbers, port, sizeof port, NI_NUMERICHOST | NI_NUMERICSERV);
+    snprintf(words, NAMED, at->sa_family == AF_INET6 ? "[%s]:%s" : "%s:%s", host == NULL ? numbers : host, port);
 }
 
 int bound(const char *host, long port)
@@ -41,22 +52,26 @@ int bound(const char *host, long port)
         chosen = one->ai_family == AF_INET && chosen->ai_family != AF_INET ? one : chosen;
     }
     int made = had(socket(chosen->ai_family, SOCK_DGRAM | SOCK_CLOEXEC | SOCK_NONBLOCK, 0), "socket");
-    had(bind(made, chosen->ai_addr, chosen->ai_addrlen), "bind");
+    if (bind(made, chosen->ai_addr, chosen->ai_addrlen) != 0) {
+        char words[NAMED], why[64];
+        snprintf(why, sizeof why, "%s", strerror(errno));
+        name(chosen->ai_addr, chosen->ai_addrlen, NULL, words);
+        fprintf(stderr, "%s: %s\n", words, why);
+        exit(2);
+    }
     freeaddrinfo(found);
     return made;
 }
 
-void announce(int socket)
+void announce(int socket, const char *host)
 {
     struct sockaddr_storage at = {0};
     socklen_t size = sizeof at;
-    char host[NI_MAXHOST], port[NI_MAXSERV];
+    char words[NAMED];
     had(getsockname(socket, (struct sockaddr *)&at, &size), "getsockname");
-    if (getnameinfo((struct sockaddr *)&at, size, host, sizeof host, port, sizeof port, NI_NUMERICHOST | NI_NUMERICSERV)
-        == 0) {
-        printf(at.ss_family == AF_INET6 ? "a sign at [%s]:%s\n" : "a sign at %s:%s\n", host, port);
-        fflush(stdout);
-    }
+    name((const struct sockaddr *)&at, size, at.ss_family == AF_INET ? host : NULL, words);
+    printf("a sign at %s\n", words);
+    fflush(stdout);
 }
 
 size_t received(int socket, struct heard heard[AT_ONCE])

@@ -33,11 +33,11 @@ struct replies {
 /* Ends with a message where a call failed. */
 int had(int result, const char *call);
 
-/* A socket at an address, or at that of a name, of IPv4 where a name has both. */
+/* A socket at an address, or at that of a name, of IPv4 where a name has both. Where there is none it ends with 2. */
 int bound(const char *host, long port);
 
-/* Says on standard output where the socket is. */
-void announce(int socket);
+/* Says on standard output where the socket is that is bound to this host: by its name, where it has IPv4. */
+void announce(int socket, const char *host);
 
 /* What waits, at most AT_ONCE; one that is longer than a datagram of this profile counts as lost. */
 size_t received(int socket, struct heard heard[AT_ONCE]);
