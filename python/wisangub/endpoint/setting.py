@@ -38,7 +38,7 @@ def options(about: str | None, command: str) -> argparse.ArgumentParser:
 
 def checked(asked: argparse.Namespace) -> None:
     """Refuses names without a character, and options that go with none that is there."""
-    for name in ("signtool", "sign", "objects", "journal", "log", "host"):
+    for name in ("signtool", "sign", "objects", "journal", "log", "host", "fast"):
         if getattr(asked, name, None) == "":
             raise Refusal(f"--{name} has no name")
     for option in ("fresh", "accept-damage", "need-journal"):

@@ -2,7 +2,7 @@
 
     wisangub-sign [--port 1161] [--host 127.0.0.1 | --listen HOST:PORT] [--signtool PATH] [--sign FILE] [--objects FILE]
         [--journal FILE [--fresh] [--accept-damage] [--need-journal] [--down power|process] [--most-recorded N]]
-        [--log FILE|- [--json]] [--no-ticks] [--lose N] [--quiet] [--page [PORT]]
+        [--log FILE|- [--json]] [--no-ticks] [--lose N] [--quiet] [--page [PORT]] [--fast [SIGND]]
 
 Each datagram goes to the sign as a line and its reply back to where it came from; each second is a tick. With a journal
 the sign goes on where it was (docs/JOURNAL.md); what the time without a process was, a loss of power or seconds, is
@@ -12,9 +12,10 @@ minute and by its exit status 1 what the next start will not know; with --need-j
 community --most-recorded N datagrams a second are recorded, 50 where nothing is said. With --lose N every N-th datagram
 to the sign is lost. What the sign accepts is printed. With --objects there are objects beside the sign's, such as
 sysDescr.0 or a photocell, as the file has them, which is read again at a SIGHUP; what managers set there is printed as
-lines `set NAME VALUE`. With --page a browser of this machine shows the lamps and the
-last datagrams at http://127.0.0.1:8161/, and has buttons that take the power, let seconds pass and lose a datagram. It
-ends at an interrupt or a SIGTERM, and at a second one or before it is announced at once.
+lines `set NAME VALUE`. With --page a browser of this machine shows the lamps and the last datagrams at
+http://127.0.0.1:8161/, and has buttons that take the power, let seconds pass and lose a datagram. With --fast the same
+front end in C goes on, examples/signd.c, where it is built and has all that is asked for; else it says what it lacks.
+It ends at an interrupt or a SIGTERM, and at a second one or before it is announced at once.
 """
 
 import wisangub.endpoint.interrupts  # noqa: F401, before all else
@@ -25,9 +26,11 @@ import sys
 from wisangub.output import print_line
 from wisangub.process import description
 from wisangub.process.coprocess import CoProcess
+from wisangub.process.places import SIGND
 from wisangub.refusal import Refusal, status_of
 
 from .clock import Moment, running
+from .fast import hand_over
 from .firmware import Firmware
 from .keeper import Keeper
 from .limit import MOST_RECORDED, Limit
@@ -60,6 +63,7 @@ def _asked_for() -> argparse.Namespace:
     words.add_argument(
         "--page", type=int, nargs="?", const=PAGE, metavar="PORT", help=f"lamps in a browser, at 127.0.0.1:{PAGE}"
     )
+    words.add_argument("--fast", nargs="?", const=str(SIGND), metavar="SIGND", help="examples/signd.c goes on instead")
     asked = words.parse_args()
     checked(asked)
     if asked.listen is not None:
@@ -80,6 +84,8 @@ def has_power(sign: CoProcess) -> bool:
 
 def main() -> int:
     asked = _asked_for()
+    if asked.fast is not None:
+        hand_over(asked)
     log, text = log_of(asked), description.read(asked.sign)
     firmware = Firmware(asked.objects, lambda: new(asked, "sign", text), log, asked.quiet) if asked.objects else None
     with bound(asked.host, asked.port) as udp_socket:

@@ -27,6 +27,7 @@ def installed() -> pathlib.Path:
 
 
 SIGNTOOL = BUILT if IS_CHECKOUT else installed()
+SIGND = TOP / "examples/out/signd" if IS_CHECKOUT else pathlib.Path(shutil.which("signd") or "signd")
 
 
 def add_version(options: argparse.ArgumentParser, command: str) -> None:
