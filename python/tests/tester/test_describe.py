@@ -217,9 +217,9 @@ def test_a_wrong_command_is_a_word() -> None:
     table = [
         (["--to", "127.0.0.1"], b"--to"),
         (["--to", "no.such.host.invalid:161"], b"no.such.host.invalid"),
-        (["--to", f"127.0.0.1:{port}", "--characters", "0"], b"--characters"),
-        (["--to", f"127.0.0.1:{port}", "--wait", "0"], b"--wait"),
-        (["--to", f"127.0.0.1:{port}", "--communities", "a b", "c"], b"--communities"),
+        (["--to", f"127.0.0.1:{port}", "--characters", "0"], b"--characters: numbers of characters are wanted"),
+        (["--to", f"127.0.0.1:{port}", "--wait", "0"], b"--wait: a number above 0"),
+        (["--to", f"127.0.0.1:{port}", "--communities", "a b", "c"], b"--communities: 1 to 32 octets"),
         (["--to", f"127.0.0.1:{port}", "--wait", "0.1"], b"nothing answers the communities public and administrator"),
     ]
     for options, words in table:

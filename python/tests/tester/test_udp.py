@@ -61,14 +61,17 @@ def test_a_wrong_command_is_a_word() -> None:
         described, port = pathlib.Path(folder) / "bench.sign", free_port()
         described.write_bytes(text.BENCH)
         table = [
-            (["--wait", "0"], b"--wait"),
-            (["--lossy", "101"], b"--lossy"),
-            (["--requests", "-1"], b"--requests"),
-            (["--silent", "0"], b"--silent"),
-            (["--budget", "nan"], b"--budget"),
+            (["--wait", "0"], b"--wait: a number above 0 is wanted, and not '0'"),
+            (["--lossy", "101"], b"--lossy: a number from 0 to 100 is wanted, and not '101'"),
+            (["--requests", "-1"], b"--requests: a whole number from 0 is wanted, and not '-1'"),
+            (["--silent", "0"], b"--silent: a whole number above 0 is wanted, and not '0'"),
+            (["--budget", "nan"], b"--budget: a number above 0 is wanted, and not 'nan'"),
+            (["--texts", "some"], b"--texts: a whole number, or all, is wanted, and not 'some'"),
+            (["--only", "nothing"], b"--only"),
             (["--repeat", ""], b"a sequence is octets"),
             (["--to", "no.such.host.invalid:161"], b"no.such.host.invalid"),
             (["--to", "127.0.0.1"], b"--to wants HOST:PORT"),
+            (["--to", "127.0.0.1:65536"], b"--to wants HOST:PORT"),
             *[
                 ([f"--{kind}", f"{folder}/none/it"], b"the report cannot be written")
                 for kind in ("html", "junit", "json")

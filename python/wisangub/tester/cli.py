@@ -3,7 +3,6 @@
 import argparse
 import datetime
 import hashlib
-import math
 import pathlib
 import signal
 import sys
@@ -15,6 +14,7 @@ from wisangub.refusal import Refusal, reason
 from .chapters import ALL, ASKED, NAMES
 from .context import Context
 from .findings.results import LOSSY, Quiet, Watcher
+from .options import above_nothing, count, share, texts, whole
 from .person.answers import Reader
 from .report import terminal, words
 from .report.baseline import Baseline
@@ -37,42 +37,6 @@ from .sign.oracle import Oracle, made
 from .sign.pair import Pair
 from .sign.port import Port
 from .sign.ticks import Ticks
-
-
-def above_nothing(word: str) -> float:
-    """A number above 0: the type of an option."""
-    number = float(word)
-    if not 0 < number < math.inf:
-        raise ValueError
-    return number
-
-
-def share(word: str) -> float:
-    """A number from 0 to 100: the type of an option."""
-    number = float(word)
-    if not 0 <= number <= 100:
-        raise ValueError
-    return number
-
-
-def whole(word: str) -> int:
-    """A whole number that is not below 0: the type of an option."""
-    number = int(word)
-    if number < 0:
-        raise ValueError
-    return number
-
-
-def count(word: str) -> int:
-    """A whole number above 0: the type of an option."""
-    if whole(word) == 0:
-        raise ValueError
-    return int(word)
-
-
-def texts(word: str) -> int:
-    """A whole number, or the word for more than there are: the type of an option."""
-    return sys.maxsize if word == "all" else whole(word)
 
 
 def arguments() -> argparse.ArgumentParser:
@@ -185,7 +149,7 @@ def _described_with(path: pathlib.Path, communities: list[str] | None) -> bytes:
 
 def _address(to: str) -> tuple[str, int]:
     host, _, port = to.rpartition(":")
-    if not host or not port.isdigit():
+    if not host or not port.isdecimal() or not 0 < int(port) < 65536:
         raise ValueError(f"--to wants HOST:PORT, not {to}")
     return host.strip("[]"), int(port)
 

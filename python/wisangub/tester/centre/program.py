@@ -21,6 +21,7 @@ from typing import Callable, Protocol
 from wisangub.process.places import SIGNTOOL, add_version, called
 from wisangub.refusal import Refusal
 from wisangub.snmp import wire
+from wisangub.tester.options import above_nothing, port
 from wisangub.tester.requests.messages import spelled
 from wisangub.tester.requests.objects import Column, Row
 from wisangub.tester.requests.steps import get
@@ -136,11 +137,11 @@ def _arguments() -> argparse.ArgumentParser:
     )
     add_version(parser, "wisangub-conform centre")
     parser.add_argument("--host", default="127.0.0.1", help="where the sign listens")
-    parser.add_argument("--port", required=True, type=int, help="the UDP port of the sign")
+    parser.add_argument("--port", required=True, type=port, help="the UDP port of the sign")
     parser.add_argument(
         "--sign", required=True, type=pathlib.Path, metavar="DESCRIPTION", help="its description, as in signs/"
     )
-    parser.add_argument("--seconds", type=float, help="how long; else until it is interrupted")
+    parser.add_argument("--seconds", type=above_nothing, help="how long; else until it is interrupted")
     parser.add_argument("--json", type=pathlib.Path, metavar="FILE", help="keeps the requests and what was counted")
     parser.add_argument(
         "--signtool",

@@ -16,6 +16,7 @@ from types import FrameType
 
 from wisangub.process.places import add_version, called
 from wisangub.refusal import Refusal, reason
+from wisangub.tester.options import number_of
 from wisangub.tester.sign.clock import RealClock
 from wisangub.tester.sign.link import UdpLink
 from wisangub.tester.sign.port import Port
@@ -35,11 +36,9 @@ def numbers(word: str) -> tuple[int, ...]:
     found: list[int] = []
     for part in word.split(","):
         matched = re.fullmatch(r"([0-9]{1,5})(?:-([0-9]{1,5}))?", part)
-        if matched is None:
-            raise ValueError
-        least, most = int(matched[1]), int(matched[2] or matched[1])
+        least, most = (int(matched[1]), int(matched[2] or matched[1])) if matched else (0, 0)
         if not 1 <= least <= most <= _MOST:
-            raise ValueError
+            raise argparse.ArgumentTypeError(f"numbers of characters are wanted, as 32-126,176, and not {word!r}")
         found += range(least, most + 1)
     return tuple(dict.fromkeys(found))
 
@@ -54,17 +53,14 @@ def address(word: str) -> tuple[str, int]:
 
 def seconds(word: str) -> float:
     """Seconds above 0: the type of an option."""
-    number = float(word)
-    if not 0 < number < 3600:
-        raise ValueError
-    return number
+    return number_of(word, "a number above 0 and below 3600", lambda number: 0 < number < 3600)
 
 
 def community(word: str) -> bytes:
     """A community, as a description can have it: the type of an option."""
     held = word.encode()
     if not 1 <= len(held) <= 32 or any(octet in b" \n\r" for octet in held):
-        raise ValueError
+        raise argparse.ArgumentTypeError(f"1 to 32 octets without a space are wanted, and not {word!r}")
     return held
 
 

@@ -19,8 +19,8 @@ from types import FrameType
 
 from wisangub.process.places import add_version, called, environment
 from wisangub.refusal import Refusal, reason
-from wisangub.tester.cli import count
 from wisangub.tester.findings.results import Verdict
+from wisangub.tester.options import count
 
 from .listed import Listed, read, refused
 

@@ -1,0 +1,49 @@
+"""Types of options of the commands: each refuses what is none in words."""
+
+import argparse
+import math
+import sys
+from typing import Callable
+
+
+def number_of(word: str, wanted: str, is_wanted: Callable[[float], bool]) -> float:
+    """A number of an option. Raises ArgumentTypeError, which says what is wanted, where it is another."""
+    try:
+        number = float(word)
+    except ValueError:
+        number = math.nan
+    if not is_wanted(number):
+        raise argparse.ArgumentTypeError(f"{wanted} is wanted, and not {word!r}")
+    return number
+
+
+def above_nothing(word: str) -> float:
+    """A number above 0: the type of an option."""
+    return number_of(word, "a number above 0", lambda number: 0 < number < math.inf)
+
+
+def share(word: str) -> float:
+    """A number from 0 to 100: the type of an option."""
+    return number_of(word, "a number from 0 to 100", lambda number: 0 <= number <= 100)
+
+
+def whole(word: str) -> int:
+    """A whole number that is not below 0: the type of an option."""
+    return int(number_of(word, "a whole number from 0", lambda number: number >= 0 and word.isdecimal()))
+
+
+def count(word: str) -> int:
+    """A whole number above 0: the type of an option."""
+    return int(number_of(word, "a whole number above 0", lambda number: number > 0 and word.isdecimal()))
+
+
+def port(word: str) -> int:
+    """A UDP port, or 0 for one that is free: the type of an option."""
+    return int(number_of(word, "a port from 0 to 65535", lambda number: number <= 65535 and word.isdecimal()))
+
+
+def texts(word: str) -> int:
+    """A whole number, or the word for more than there are: the type of an option."""
+    if word == "all":
+        return sys.maxsize
+    return int(number_of(word, "a whole number, or all,", lambda number: number >= 0 and word.isdecimal()))
