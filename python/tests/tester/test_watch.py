@@ -237,6 +237,28 @@ def test_it_answers_on_a_port_and_tells_at_its_end() -> None:
                 sign.kill()
 
 
+def test_a_wrong_command_is_a_word() -> None:
+    for options, words in (
+        (["--port", "65536"], b"--port: a port from 0 to 65535 is wanted, and not '65536'"),
+        (["--port", "0", "--seconds", "nan"], b"--seconds: a number above 0 is wanted, and not 'nan'"),
+        (["--port", "0", "--json", "/no/such/folder/report.json"], b"/no/such/folder"),
+    ):
+        call = [sys.executable, "-m", "wisangub.tester.centre.program", *options, "--signtool", "model"]
+        ended = subprocess.run(
+            [*call, "--sign", str(TOP / "signs/roadside.sign")], cwd=TOP, capture_output=True, timeout=60, check=False
+        )
+        assert ended.returncode == 2 and words in ended.stderr and b"Traceback" not in ended.stderr, ended
+
+
+def test_a_row_s_owner_is_shown_without_control_octets() -> None:
+    sign, watch = ModelOracle(text.BENCH), Watch(b"public")
+    for step in taken(b"me\x1b[2J"):
+        assert step is not None
+        sign.datagram(step.octets(1, CONTEXT.communities))
+    told(sign, watch, taken(b"you"))
+    assert [held.words for held in watch.seen] == [r"row 3.1 of me\x1b[2J, by you"]
+
+
 def test_a_report_is_written_anew_each_minute() -> None:
     with tempfile.TemporaryDirectory() as folder:
         path, watch = pathlib.Path(folder) / "report.json", Watch(b"public")

@@ -6,6 +6,7 @@ from enum import Enum
 
 from wisangub.snmp import wire
 from wisangub.snmp.names import KINDS, Memory, RowStatus, scalar
+from wisangub.tester.findings.compare import shown
 from wisangub.tester.findings.results import Verdict
 from wisangub.tester.requests.messages import spelled
 from wisangub.tester.requests.objects import COMMANDS, Binding, Column, Name, Row, column_of, row_of, spoken, word_of
@@ -223,7 +224,7 @@ class Watch:
         """A row gets this owner, perhaps in the place of another's."""
         known = self.row(row)
         if known.owner not in (b"", owner) and known.owner not in self.owners:
-            before, after = (held.decode("ascii", "backslashreplace") for held in (known.owner, owner))
+            before, after = shown(known.owner), shown(owner)
             self.note(Habit.TAKEN, moment, octets, f"row {row.memory}.{row.number} of {before}, by {after or 'nobody'}")
         self.owners.add(owner)
         known.owner = b""
@@ -235,8 +236,8 @@ class Watch:
             words = f"{spoken(min(known.refused))} was refused, and the row is validated without it"
             self.note(Habit.IGNORED, moment, octets, words)
         if asked == RowStatus.NOT_USED_REQ and is_taken and self.owners and known.owner not in (b"", *self.owners):
-            owner = known.owner.decode("ascii", "backslashreplace")
-            self.note(Habit.TAKEN, moment, octets, f"row {row.memory}.{row.number} of {owner} is emptied")
+            words = f"row {row.memory}.{row.number} of {shown(known.owner)} is emptied"
+            self.note(Habit.TAKEN, moment, octets, words)
         if is_taken:
             known.is_asked = asked == RowStatus.MODIFY_REQ
             known.is_validating = asked == RowStatus.VALIDATE_REQ
