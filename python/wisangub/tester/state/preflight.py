@@ -235,8 +235,8 @@ def _is_gap(before: Name, after: Name | None) -> bool:
 def _note(unreached: list[Unreached]) -> str:
     """What cannot be brought to its value, in words."""
     first, others = unreached[0], ", ".join(spoken(held.name) for held in unreached[1:4])
-    read = value_words(first.read) if first.read else "nothing"
-    said = f"{spoken(first.name)} cannot be brought to {value_words(first.wanted)}: it reads {read}"
+    read = value_words(first.read, first.name) if first.read else "nothing"
+    said = f"{spoken(first.name)} cannot be brought to {value_words(first.wanted, first.name)}: it reads {read}"
     if others:
         said += f"; nor can {others}" + (" and others" if len(unreached) > 4 else "")
     return said
