@@ -57,6 +57,14 @@ def test_reports_say_the_same() -> None:
     assert "dmsMessageTimeRemaining" in whole and words.NOT_SEEN[0] in whole
 
 
+def test_a_chapter_says_which_differences_break_rules_of_others() -> None:
+    results, _ = found("no_minutes_are_refused", "rows")
+    said = "1 differ (1 by rules of durations)"
+    assert words.chapter_words(results.chapters[0]) == said and said in page.as_html(results, ABOUT, [])
+    results, _ = found("minutes_are_rounded_down", "durations")
+    assert words.chapter_words(results.chapters[0]) == "1 differ"
+
+
 def test_a_text_that_the_two_judge_otherwise_is_drawn() -> None:
     results, _ = found("tags_in_small_letters_alone", "validation")
     whole = page.as_html(results, ABOUT, [])

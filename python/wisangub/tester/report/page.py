@@ -11,6 +11,7 @@ from .causes import cause, causes
 from .picture import pages_of, svg
 from .words import (
     About,
+    chapter_words,
     claim_words,
     head,
     how_sure,
@@ -31,11 +32,8 @@ def _quoted(text: str) -> str:
 
 
 def _chapter_row(result: ChapterResult) -> str:
-    told = (
-        f'<span class="verdict bad">{len(result.differences)} differ</span>'
-        if result.differences
-        else "nothing differs"
-    )
+    told = _quoted(chapter_words(result))
+    told = f'<span class="verdict bad">{told}</span>' if result.differences else told
     numbers = "".join(
         f'<td class="number">{value}</td>' for value in (result.blocks, result.requests, f"{result.seconds:.1f} s")
     )

@@ -12,6 +12,7 @@ from .causes import cause, causes
 from .words import (
     About,
     besides_words,
+    chapter_words,
     claims_words,
     how_sure,
     load_words,
@@ -70,11 +71,10 @@ def difference_lines(number: int, difference: Difference, about: About) -> list[
 
 
 def _chapter_line(result: ChapterResult) -> str:
-    told = f"{len(result.differences)} differ" if result.differences else "nothing differs"
     untold = f", {len(result.once)} now and then" if result.once else ""
     untold += f", {result.missing} of {result.wanted} cases not judged" if result.missing else ""
     counts = f"{result.blocks:5} cases {result.requests:7} requests {result.seconds:7.1f} s"
-    return f"{result.chapter.title:28} {counts}  {told}{untold}"
+    return f"{result.chapter.title:28} {counts}  {chapter_words(result)}{untold}"
 
 
 class Plain:

@@ -2,6 +2,7 @@
 
 import re
 import shlex
+from collections import Counter
 from dataclasses import dataclass
 from typing import Any
 
@@ -10,7 +11,7 @@ from wisangub.tester.chapters import Chapter
 from wisangub.tester.context import Context
 from wisangub.tester.findings.compare import fields
 from wisangub.tester.findings.differences import Difference
-from wisangub.tester.findings.results import Results, Verdict
+from wisangub.tester.findings.results import ChapterResult, Results, Verdict
 from wisangub.tester.findings.trace import ALIKE, DIFFERS, NOT_SUPPORTED, Requirement
 
 NOT_SEEN = [
@@ -113,6 +114,16 @@ def verdict(results: Results) -> str:
     denied = len(results.denied())
     told += f"; {denied} steps with a person were answered no" if denied else ""
     return f"{found.value}: {told}" + (f"; {odd_words(results)}" if results.is_odd() else "")
+
+
+def chapter_words(result: ChapterResult) -> str:
+    """What differs in a chapter, and how much of that breaks rules of others."""
+    if not result.differences:
+        return "nothing differs"
+    others = Counter(held.rule.chapter for held in result.differences)
+    others.pop(result.chapter.name, None)
+    said = ", ".join(f"{count} by rules of {name}" for name, count in others.items())
+    return f"{len(result.differences)} differ" + (f" ({said})" if said else "")
 
 
 def besides_words(results: Results) -> str:
