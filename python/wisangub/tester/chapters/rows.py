@@ -166,7 +166,7 @@ def _shown(context: Context, row: Row, text: bytes, owner: bytes, sides: tuple[i
         *[*look_at_each(current, rule="shown"), reports(rule="shown")],
         activate(context.code(current, crc, minutes=31)),
         *[*look_at_each(current, rule="current buffer"), reports(rule="current buffer")],
-        *[activate(context.blank_code(1, minutes=3)), put(end, remaining(0))],
+        *[activate(context.blank_code(1, minutes=3)), put(end, remaining(0), rule="remaining")],
         *[*look_at_each(current, rule="own activation"), reports(rule="own activation")],
     ]
 
