@@ -5,8 +5,9 @@
 
 Between each test and its sign stands a relay that has that share of the requests and of the replies lost, up to 1.6
 seconds late, or doubled, a third of it each. A test is one without options but `--lossy 30`, which has to conform
-within so many minutes. A line a seed: status, differences, minutes; last `N passed, N failed`. The report and the words
-of each are left in --into. On a machine that is busy replies are late besides.
+within so many minutes. A line a seed: status, differences, minutes, and the seconds that the relay and the sign were
+late by themselves at the most, since the machine was busy: a silence that is not much longer is the machine's. Last
+`N passed, N failed`. The report and the words of each are left in --into.
 """
 
 import argparse
@@ -25,10 +26,13 @@ from concurrent import futures
 from dataclasses import dataclass, field
 
 from wisangub.process.places import TOP
+from wisangub.snmp import wire
+from wisangub.tester.requests.messages import spelled
 
 SIGNS, BIN = TOP / "signs", TOP / "bin"
 _DELAYS = (0.0, 0.0003, 0.05, 0.4, 1.1, 1.6)  # seconds that a datagram comes late, or once more
 _LOSSY = "30"  # percent that a test may lose
+_LONG_AGO = 30.0  # seconds after which a request's number stands for another request
 
 
 @dataclass(order=True)
@@ -54,13 +58,18 @@ class Way(threading.Thread):
         self.peer: tuple[str, int] | None = None
         self.waiting: list[_Waiting] = []
         self.through = self.spoilt = 0
+        self.held_up = self.slowest = 0.0  # seconds that this was late, and that the sign took, at the most
+        self.asked: dict[tuple[bytes, int], float] = {}  # when the sign was asked what it has not answered
         self.is_done = False
 
     def run(self) -> None:
         """Until it is done."""
         while not self.is_done:
-            left = self.waiting[0].due - time.monotonic() if self.waiting else 0.5
-            for file in select.select([self.test, self.sign], [], [], max(0.0, min(left, 0.5)))[0]:
+            begun = time.monotonic()
+            left = max(0.0, min(self.waiting[0].due - begun, 0.5)) if self.waiting else 0.5
+            files = select.select([self.test, self.sign], [], [], left)[0]
+            self.held_up = max(self.held_up, time.monotonic() - begun - left)
+            for file in files:
                 self._take(file)
             while self.waiting and self.waiting[0].due <= time.monotonic():
                 self._pass_on(heapq.heappop(self.waiting))
@@ -72,6 +81,8 @@ class Way(threading.Thread):
             return
         is_request = file is self.test
         self.peer = sender if is_request else self.peer
+        if not is_request:
+            self._answered(octets)
         self.through += 1
         draw, now = self.chance.random() / (self.share or 1e-9), time.monotonic()
         late = now + self.chance.choice(_DELAYS)
@@ -87,11 +98,31 @@ class Way(threading.Thread):
     def _pass_on(self, held: _Waiting) -> None:
         try:
             if held.is_request:
+                self._asked(held.octets)
                 self.sign.send(held.octets)
             elif self.peer is not None:
                 self.test.sendto(held.octets, self.peer)
         except OSError:  # nobody is there any more
             pass
+
+    def _asked(self, octets: bytes) -> None:
+        """A request goes to the sign, be it once more."""
+        message, now = spelled(octets), time.monotonic()
+        if message is not None and message.kind != wire.RESPONSE:
+            key = message.community, message.number
+            if now - self.asked.get(key, -_LONG_AGO) >= _LONG_AGO:
+                self.asked[key] = now
+
+    def _answered(self, octets: bytes) -> None:
+        """The sign has answered one."""
+        message = spelled(octets)
+        begun = None if message is None else self.asked.pop((message.community, message.number), None)
+        if begun is not None:
+            self.slowest = max(self.slowest, time.monotonic() - begun)
+
+    def late_words(self) -> str:
+        """What of a silence was the machine's."""
+        return f"the relay was up to {self.held_up:.1f} s late, and the sign took up to {self.slowest:.1f} s"
 
     def end(self) -> None:
         self.is_done = True
@@ -132,7 +163,7 @@ class Run:
             status = subprocess.run(tester, stdout=file, stderr=subprocess.STDOUT, check=False).returncode
         minutes = (time.monotonic() - begun) / 60
         way.end()
-        spoilt = f"{way.spoilt} of {way.through} datagrams lost, late or doubled"
+        spoilt = f"{way.spoilt} of {way.through} datagrams lost, late or doubled, {way.late_words()}"
         if status == 2:
             return False, f"seed {self.seed}: status 2: {words.read_text(encoding='utf-8').strip()[-200:]}"
         differences = len(json.loads(report.read_bytes())["differences"])

@@ -9,11 +9,14 @@ import subprocess
 import sys
 import tempfile
 import threading
+import time
 import xml.etree.ElementTree as ET
 
 from model import text
 from trials.lossy_ways import Way
 from wisangub.process.places import TOP
+from wisangub.snmp.names import scalar
+from wisangub.tester.requests.steps import get
 
 from .endpoints import LONG, free_port, front_end, in_real_time
 
@@ -184,31 +187,33 @@ def test_a_sign_that_answers_from_another_port_is_not_reached() -> None:
 
 
 class Echo(threading.Thread):
-    """Answers each datagram with itself, until an empty one comes."""
+    """Answers each datagram with itself, after so many seconds, until an empty one comes."""
 
-    def __init__(self) -> None:
+    def __init__(self, seconds: float = 0.0) -> None:
         super().__init__(daemon=True)
+        self.seconds = seconds
         self.socket = socket.socket(socket.AF_INET, socket.SOCK_DGRAM)
         self.socket.bind(("127.0.0.1", 0))
         self.port = int(self.socket.getsockname()[1])
 
     def run(self) -> None:
         while (received := self.socket.recvfrom(65_535))[0]:
+            time.sleep(self.seconds)
             self.socket.sendto(*received)
 
 
-def through(share: float, count: int = 60) -> tuple[list[bytes], Way]:
-    """What comes back of so many datagrams over a way, of which that share is lost, late or doubled."""
-    echo = Echo()
+def through(share: float, sent: list[bytes], seconds: float = 0.0) -> tuple[list[bytes], Way]:
+    """What comes back of datagrams over a way, of which that share is lost, late or doubled."""
+    echo = Echo(seconds)
     echo.start()
     way, back = Way(echo.port, share, seed=1), list[bytes]()
     way.start()
     with socket.socket(socket.AF_INET, socket.SOCK_DGRAM) as test:
         test.settimeout(4)
-        for number in range(count):
-            test.sendto(b"%d" % number, ("127.0.0.1", way.port))
+        for octets in sent:
+            test.sendto(octets, ("127.0.0.1", way.port))
         try:
-            while len(back) < count or share:
+            while len(back) < len(sent) or share:
                 back.append(test.recv(100))
         except TimeoutError:
             pass
@@ -222,11 +227,19 @@ def through(share: float, count: int = 60) -> tuple[list[bytes], Way]:
 def test_a_share_of_what_goes_over_a_lossy_way_is_lost_late_or_doubled() -> None:
     sent = [b"%d" % number for number in range(60)]
     with in_real_time():
-        back, way = through(0.0)
+        back, way = through(0.0, sent)
         assert back == sent and way.spoilt == 0 and way.through == 120
-        back, way = through(1.0)
+        back, way = through(1.0, sent)
         assert way.spoilt == way.through and set(back) < set(sent) and len(set(back)) < len(back), back
         assert back != sorted(back, key=int)
+
+
+def test_a_lossy_way_tells_what_of_a_silence_is_the_sign_s() -> None:
+    asked = get(scalar("vmsSignHeightPixels")).octets(7, (b"public", b"admin"))
+    with in_real_time():
+        back, way = through(0.0, [asked, asked], seconds=0.3)
+        assert back == [asked, asked] and 0.3 <= way.slowest < 30 and "the sign took up to" in way.late_words()
+        assert through(0.0, [b"no message"], seconds=0.3)[1].slowest == 0
 
 
 def test_nobody_answers() -> None:
