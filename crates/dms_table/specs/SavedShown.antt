@@ -1,5 +1,6 @@
 -- What a saved state says of a message that is shown or was kept, and why there is no such message (this profile).
-use Rattle.std.specs.Prelude.{ℕ, ◌*◌, ◌==◌, ◌&&◌, ◌||◌, Bool, true, not, if◌then◌else◌, Option, Some, None, nat_le, length}
+use Rattle.std.specs.Prelude.{ℕ, ◌*◌, ◌==◌, ◌&&◌, ◌||◌, Bool, true, not, if◌then◌else◌}
+use Rattle.std.specs.Prelude.{Option, Some, None, nat_le, length}
 use Rattle.std.specs.Option.{option_or}
 use Rattle.dms_codes.specs.Checksum.{message_checksum}
 use Rattle.dms_codes.specs.Memory.{blank_memory}
@@ -50,10 +51,10 @@ abbrev pub is_blank_by_its_source : ShownModel → Bool
 is_blank_by_its_source shown =
     not (shown.source.memory == blank_memory) || is_blank_of shown.source.number shown
 
--- no end; or, where a code set one, the seconds of the most minutes that are an end
+-- no end; or, but for what a loss of power put up, the seconds of the most minutes that are an end
 abbrev pub is_time : ℕ → Option ℕ → Bool
 is_time mode None = true
-is_time mode (Some seconds) = mode == mode_number Central && nat_le seconds (65534 * 60)
+is_time mode (Some seconds) = not (mode == mode_number PowerLoss) && nat_le seconds (65534 * 60)
 
 -- the first thing that is wrong with the row of a message
 abbrev pub message_fault : ShownModel → Option ShownFault

@@ -25,13 +25,13 @@ pub struct SavedShown<'a> {
     pub pixel: u8,
     /// The run-time priority, 1 to 255.
     pub priority: u8,
-    /// The row, as the code that activated it named it: with the message's checksum, or the blank message that is shown.
+    /// The row, as the code that activated it named it: with the message's checksum, or the blank message shown.
     pub source: MessageId,
     /// What put it up, by its number in dmsMsgSourceMode (`Mode`).
     pub mode: u8,
     /// The network address of the one who activated it.
     pub address: [u8; 4],
-    /// The seconds until it ends, at most those of 65534 minutes; none without an end, as where no code put it up.
+    /// The seconds until it ends, at most those of 65534 minutes; none without an end, as after a loss of power.
     pub remaining: Option<u32>,
     /// The defaults when it came up.
     pub defaults: Defaults,
@@ -56,7 +56,7 @@ pub enum ShownFault {
     Blank,
     /// No mode has this number.
     Mode,
-    /// More seconds are left than 65534 minutes have, or some are where no code put the message up.
+    /// More seconds are left than 65534 minutes have, or some are where a loss of power put the message up.
     Remaining,
 }
 
@@ -192,6 +192,6 @@ fn is_time(mode: u8, remaining: Option<u32>) -> bool
 {
     match remaining {
         None => true,
-        Some(seconds) => mode == Mode::Central.number() && seconds <= 65534 * 60,
+        Some(seconds) => mode != Mode::PowerLoss.number() && seconds <= 65534 * 60,
     }
 }

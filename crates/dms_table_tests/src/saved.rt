@@ -181,9 +181,13 @@ fn a_message_is_shown_once_more(rt: HostRuntime) {
 }
 
 #[test]
-fn a_code_alone_sets_an_end_of_at_most_65534_minutes(rt: HostRuntime) {
-    let staying = SavedShown {
+fn an_end_is_at_most_65534_minutes_away_and_none_is_without_power(rt: HostRuntime) {
+    let recovered = SavedShown {
         mode: Mode::PowerRecovery.number(),
+        ..SHOWN
+    };
+    let without_power = SavedShown {
+        mode: Mode::PowerLoss.number(),
         ..SHOWN
     };
     for (saved, found) in [
@@ -201,11 +205,12 @@ fn a_code_alone_sets_an_end_of_at_most_65534_minutes(rt: HostRuntime) {
             },
             Some(ShownFault::Remaining),
         ),
-        (staying, Some(ShownFault::Remaining)),
+        (recovered, None),
+        (without_power, Some(ShownFault::Remaining)),
         (
             SavedShown {
                 remaining: None,
-                ..staying
+                ..without_power
             },
             None,
         ),
