@@ -252,7 +252,8 @@ def get(community: bytes, number: int, names: Iterable[Name]) -> bytes:
 
 def _shortest(octets: bytes, at: int, tag: int) -> _Place | None:
     """The content of the element at `at`, where it has this tag and its length is in the shortest form."""
-    if octets[at : at + 1] == bytes((tag,)) and at + 1 < len(octets) and (size := octets[at + 1]) < _SHORT:
+    size = octets[at + 1] if at + 1 < len(octets) and octets[at] == tag else _SHORT
+    if size < _SHORT:  # as mostly
         return (at + 2, at + 2 + size) if at + 2 + size <= len(octets) else None
     try:
         begin, end = content(octets, at, len(octets), (tag,))
