@@ -1,15 +1,16 @@
 #!/usr/bin/env python3
-"""Sizes and times of the library for C, and examples/signd beside Net-SNMP's snmpd.
+"""Sizes and times of the library for C, and both front ends of a sign beside Net-SNMP's snmpd.
 
-    measures/c_speed.py [--library crates/wisangub_c/out/libwisangub_c.a] [--seconds 2] [--turns 5] [--calls]
+    measures/c_speed.py [--library crates/wisangub_c/out/libwisangub_c.a] [--signtool crates/signtool/out/signtool]
+        [--seconds 2] [--turns 5] [--calls]
 
 It wants a C compiler with make and size, and for the second table Debian's package snmpd (without it that table is left
 out). Times of calls are the least of forty passes. Requests a second are those of measures/c_requests.c on loopback;
-signd and snmpd take turns, and the middle turn of each is told. snmpd has the sign's own objects, name for name, with
-its directive `override`, beside all of its own; so that the first three kinds are the same datagrams to both, and the
-next three are of the objects that are its own. A walk is 200 GetNexts, each of the name that the one before it read. A
-SET writes a number (a row's run-time priority; nsCacheDefaultTimeout); one that is kept a text of 12 octets, which
-signd has on the disk before it answers, and snmpd (sysContact) in its persistent file.
+examples/signd, bin/wisangub-sign and snmpd take turns, and the middle turn of each is told. snmpd has the sign's own
+objects, name for name, with its directive `override`, beside all of its own; so that the first three kinds are the same
+datagrams to all, and the next three are of the objects that are its own. A walk is 200 GetNexts, each of the name that
+the one before it read. A SET writes a number (a row's run-time priority; nsCacheDefaultTimeout); one that is kept a
+text of 12 octets, which a sign has on the disk before it answers, and snmpd (sysContact) in its persistent file.
 """
 
 from __future__ import annotations
@@ -168,65 +169,73 @@ def overridden(name: tuple[int, ...], value: tuple[int, object]) -> str:
     return f"override -rw .{'.'.join(map(str, name))} {told}\n"
 
 
-def beside(folder: pathlib.Path, seconds: float, turns: int) -> None:
-    """The second table: requests a second of signd and of snmpd."""
+def begun(ends: contextlib.ExitStack, command: list[str], words: list[str]) -> Agent:
+    """A front end of a sign with these options, as long as the stack."""
+    agent = Agent(free_port())
+    ends.enter_context(running([*command[:-1], *words, "--port", str(agent.port), command[-1]], {}))
+    if not agent.is_there(request(wire.SET, column(9), (wire.INTEGER, 6))):
+        raise SystemExit(f"{command[0]} does not answer")
+    return agent
+
+
+def beside(folder: pathlib.Path, seconds: float, turns: int, signtool: pathlib.Path) -> None:
+    """The second table: requests a second of signd, of wisangub-sign and of snmpd."""
     snmpd = shutil.which("snmpd") or "/usr/sbin/snmpd"
     if not os.path.exists(snmpd):
         print("\nhere is no snmpd")
         return
-    ports = free_port(), free_port(), free_port()
-    signd = [str(folder / "signd"), "--quiet"]
-    kept = ["--journal", str(folder / "journal"), "--most-recorded", "1000000"]
     sign = str(TOP / "signs" / "gantry.sign")
-    with (
-        running([*signd, "--port", str(ports[0]), sign], {}),
-        running([*signd, "--port", str(ports[1]), *kept, sign], {}),
-    ):
-        ours = Agent(ports[0])
-        if not ours.is_there(request(wire.SET, column(9), (wire.INTEGER, 6))):
-            raise SystemExit("signd does not answer")
-        has = objects_of(ours, SIGN)
+    front_ends = [
+        [str(folder / "signd"), "--quiet", sign],
+        [sys.executable, str(TOP / "bin/wisangub-sign"), "--quiet", "--signtool", str(signtool), f"--sign={sign}"],
+    ]
+    with contextlib.ExitStack() as ends:
+        agents = []
+        for number, command in enumerate(front_ends):
+            kept = ["--journal", str(folder / f"journal{number}"), "--most-recorded", "1000000"]
+            agents.append((begun(ends, command, []), begun(ends, command, kept)))
+        has = objects_of(agents[0][0], SIGN)
         conf = "rocommunity public 127.0.0.1\nrwcommunity administrator 127.0.0.1\n"
         (folder / "conf").write_text(conf + "".join(overridden(*one) for one in has))
         theirs = [snmpd, "-f", "-C", "-c", str(folder / "conf"), "-Lf", "/dev/null", "-p", str(folder / "pid")]
-        with running([*theirs, f"udp:127.0.0.1:{ports[2]}"], {"SNMP_PERSISTENT_DIR": str(folder)}):
-            compare(folder, seconds, turns, ours, Agent(ports[1]), Agent(ports[2]), len(has))
+        other = Agent(free_port())
+        ends.enter_context(running([*theirs, f"udp:127.0.0.1:{other.port}"], {"SNMP_PERSISTENT_DIR": str(folder)}))
+        compare(folder, seconds, turns, agents, other, len(has))
 
 
 def compare(
-    folder: pathlib.Path, seconds: float, turns: int, ours: Agent, keeping: Agent, other: Agent, count: int
+    folder: pathlib.Path, seconds: float, turns: int, agents: list[tuple[Agent, Agent]], other: Agent, count: int
 ) -> None:
+    """Of each front end there is an agent that keeps nothing, and one that does."""
     contact, owner = (*SYSTEM, 1, 4, 0), column(4)
     if not other.is_there(request(wire.GET, contact)):
         raise SystemExit("snmpd does not answer")
-    if not keeping.is_there(request(wire.SET, column(9), (wire.INTEGER, 6))):
-        raise SystemExit("signd does not answer")
     told = len(objects_of(other, SIGN)), len(objects_of(other, (1, 3, 6)))
-    print(f"\nobjects: {count} of signd; snmpd has {told[0]} under the same names, and {told[1]} in all")
+    print(f"\nobjects: {count} of a sign; snmpd has {told[0]} under the same names, and {told[1]} in all")
     number, text = (wire.INTEGER, 5), (wire.OCTETS, b"control room")
-    get, walk, change = request(wire.GET, owner), ours.walk(SIGN), request(wire.SET, column(8), number)
+    get, walk, change = request(wire.GET, owner), agents[0][0].walk(SIGN), request(wire.SET, column(8), number)
     kinds = [
-        ("Get, the same object", ours, [get], [get]),
-        ("walk, the same objects", ours, walk, walk),
-        ("SET, the same object", ours, [change], [change]),
-        ("Get, an object of its own", ours, [get], [request(wire.GET, contact)]),
-        ("walk, objects of its own", ours, walk, other.walk(SYSTEM)),
-        ("SET, an object of its own", ours, [change], [request(wire.SET, TIMEOUT, number)]),
-        ("SET that is kept", keeping, [request(wire.SET, owner, text)], [request(wire.SET, contact, text)]),
+        ("Get, the same object", 0, [get], [get]),
+        ("walk, the same objects", 0, walk, walk),
+        ("SET, the same object", 0, [change], [change]),
+        ("Get, an object of its own", 0, [get], [request(wire.GET, contact)]),
+        ("walk, objects of its own", 0, walk, other.walk(SYSTEM)),
+        ("SET, an object of its own", 0, [change], [request(wire.SET, TIMEOUT, number)]),
+        ("SET that is kept", 1, [request(wire.SET, owner, text)], [request(wire.SET, contact, text)]),
     ]
-    print("\n| replies a second | in flight | signd | snmpd | ratio |\n|---|---|---|---|---|")
-    for kind, agent, mine, its in kinds:
-        for asked, octets in ((agent, mine[0]), (other, its[0])):
-            reply = asked.ask(octets)
+    print("\n| replies a second | in flight | signd | wisangub-sign | snmpd | signd's ratio | wisangub-sign's |")
+    print("|---|---|---|---|---|---|---|")
+    for kind, which, mine, its in kinds:
+        asked = [*((pair[which], mine) for pair in agents), (other, its)]
+        for agent, octets in asked:
+            reply = agent.ask(octets[0])
             if reply is None or reply.status != 0:
                 raise SystemExit(f"{kind} is not answered well: {reply}")
         for window in (1, 8):
-            pairs = [
-                (rate(folder, agent, window, seconds, mine), rate(folder, other, window, seconds, its))
-                for _ in range(turns)
-            ]
-            one, two = (statistics.median(pair[place] for pair in pairs) for place in (0, 1))
-            print(f"| {kind} | {window} | {one:,.0f} | {two:,.0f} | {one / two:.1f} |", flush=True)
+            rates = [[rate(folder, agent, window, seconds, octets) for agent, octets in asked] for _ in range(turns)]
+            found = [statistics.median(turn[place] for turn in rates) for place in range(3)]
+            ratios = " | ".join(f"{one / found[2]:.2f}" for one in found[:2])
+            print(f"| {kind} | {window} | {' | '.join(f'{one:,.0f}' for one in found)} | {ratios} |", flush=True)
 
 
 def main() -> None:
@@ -234,6 +243,8 @@ def main() -> None:
     parser.add_argument(
         "--library", type=pathlib.Path, default=TOP / "crates/wisangub_c/out/libwisangub_c.a", help="the library for C"
     )
+    program = TOP / "crates/signtool/out/signtool"
+    parser.add_argument("--signtool", type=pathlib.Path, default=program, help="the program of wisangub-sign")
     parser.add_argument("--seconds", type=float, default=2.0, help="how long each is measured, in a turn")
     parser.add_argument("--turns", type=int, default=5, help="how often each is measured")
     parser.add_argument("--calls", action="store_true", help="the first table alone")
@@ -243,7 +254,7 @@ def main() -> None:
         compiled(folder, asked.library.absolute())
         calls(folder, asked.library)
         if not asked.calls:
-            beside(folder, asked.seconds, asked.turns)
+            beside(folder, asked.seconds, asked.turns, asked.signtool.absolute())
     print(f"\nload {os.getloadavg()[0]:.1f}")
 
 

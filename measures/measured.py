@@ -5,12 +5,14 @@
     measures/measured.py --recorded               the tables of measures/measured.tsv, and a line a topic
     measures/measured.py --compare [TOPIC ..]     which take more instructions than stand there
     measures/measured.py --record [TOPIC ..]      writes the new figures of what stands there
+    measures/measured.py --growth                 whether twice the work takes the program twice the instructions
 
 It runs the program that measures/run.sh builds, crates/dms_measures/out/measure; its `--list` names the topics. Times
 are the least of interleaved passes of two milliseconds or more. Instructions are counted by callgrind (Debian's package
 valgrind): those of no calls are taken from those of some. They are the same whatever else the machine does. With
 neither option both are printed. With --compare the last line counts what was compared, and the exit status is 1 where a
-measure takes over half a per cent more than is recorded, or where one that is recorded is not measured.
+measure takes over half a per cent more than is recorded, or where one that is recorded is not measured. With --growth
+crates/signtool/out/signtool is counted, and the exit status is 1 where something grows faster than its input.
 """
 
 import argparse
@@ -22,6 +24,7 @@ import sys
 import tempfile
 
 from compared import compared
+from growth import growth
 from recorded import FILE, Row, read, renewed, summary, table, written
 
 MEASURE = pathlib.Path(__file__).resolve().parent.parent / "crates/dms_measures/out/measure"
@@ -87,12 +90,15 @@ def options() -> argparse.Namespace:
     which.add_argument("--recorded", action="store_true", help="the tables of what is recorded, and a line a topic")
     which.add_argument("--compare", action="store_true", help="which take more instructions than are recorded")
     which.add_argument("--record", action="store_true", help="writes the new figures of what is recorded")
+    which.add_argument("--growth", action="store_true", help="whether twice the work takes twice the instructions")
     parser.add_argument("topics", nargs="*", metavar="TOPIC", help="these topics; else all")
     return parser.parse_args()
 
 
 def main() -> int:
     asked = options()
+    if asked.growth:
+        return growth()
     if asked.recorded:
         rows = read(FILE.read_text(encoding="utf-8"))
         show(rows)
