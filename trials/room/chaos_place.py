@@ -30,10 +30,10 @@ class Place:
 
 
 @contextlib.contextmanager
-def placed(kind: str, folder: pathlib.Path, libraries: str = "") -> Iterator[Place]:
-    """The database, as long as the run; a server of PostgreSQL has these libraries."""
+def placed(kind: str, folder: pathlib.Path, **settings: str) -> Iterator[Place]:
+    """The database, as long as the run; a server of PostgreSQL has these settings."""
     if kind == KINDS[0]:
         yield Place(str(folder / "database"))
         return
-    with cluster.cluster(libraries) as server:
+    with cluster.cluster(**settings) as server:
         yield Place(server.database(), server)

@@ -25,22 +25,15 @@ from wisangub.room.store.programs import program
 from .ports import free_port
 
 USERS = ("postgres", "nobody")
+PORT = "ROOM_SERVER"  # of the environment: that of a server which many processes of tests share
 START = 60.0  # seconds that the server has to answer
 
 
-class Cluster:
-    """The server, which can be stopped and started again over the same files."""
+class Server:
+    """A server that somebody has started, at a port of this machine."""
 
-    def __init__(self, folder: pathlib.Path, libraries: str = "") -> None:
-        self.folder, self.data, self.port, self.libraries = folder, folder / "data", free_port(), libraries
-        self.process: subprocess.Popen[bytes] | None = None
-        self.made = 0
-        self.user = self.other_user()
-        if self.user is not None:
-            os.chown(folder, self.user.pw_uid, self.user.pw_gid)
-        self.call(
-            "initdb", "-D", str(self.data), "-A", "trust", "-U", "control", "-E", "UTF8", "--locale=C", "--no-sync"
-        )
+    def __init__(self, port: int) -> None:
+        self.port, self.user, self.made = port, self.other_user(), 0
 
     @staticmethod
     def other_user() -> pwd.struct_passwd | None:
@@ -79,23 +72,33 @@ class Cluster:
     def url(self, name: str = "postgres") -> str:
         return f"postgresql://control@127.0.0.1:{self.port}/{name}"
 
+    def database(self, like: str = "template1") -> str:
+        """The URL of a new database, with what another one has to which nobody is connected."""
+        self.made += 1
+        name = f"room_{os.getpid()}_{self.made}"  # of several who share the server
+        self.call("createdb", "-h", "127.0.0.1", "-p", str(self.port), "-U", "control", "-T", like, name)
+        return self.url(name)
+
+
+class Cluster(Server):
+    """A server of its own with these settings, which can be stopped and started again over the same files."""
+
+    def __init__(self, folder: pathlib.Path, settings: dict[str, str]) -> None:
+        super().__init__(free_port())
+        self.folder, self.data, self.settings = folder, folder / "data", settings
+        self.process: subprocess.Popen[bytes] | None = None
+        if self.user is not None:
+            os.chown(folder, self.user.pw_uid, self.user.pw_gid)
+        self.call(
+            "initdb", "-D", str(self.data), "-A", "trust", "-U", "control", "-E", "UTF8", "--locale=C", "--no-sync"
+        )
+
     def start(self) -> None:
         """The server, once it answers."""
-        call = [
-            *self.words("postgres"),
-            "-D",
-            str(self.data),
-            "-p",
-            str(self.port),
-            "-c",
-            "listen_addresses=127.0.0.1",
-            "-c",
-            f"unix_socket_directories={self.folder}",
-            "-c",
-            "max_connections=100",
-            "-c",
-            f"shared_preload_libraries={self.libraries}",
-        ]
+        places = {"listen_addresses": "127.0.0.1", "unix_socket_directories": str(self.folder)}
+        call = [*self.words("postgres"), "-D", str(self.data), "-p", str(self.port)]
+        for name, value in {**places, "max_connections": "100", **self.settings}.items():
+            call += ["-c", f"{name}={value}"]
         with open(self.folder / "log", "ab") as log:
             self.process = subprocess.Popen(
                 call, stdin=subprocess.DEVNULL, stdout=log, stderr=log, cwd="/", process_group=0
@@ -119,23 +122,23 @@ class Cluster:
                 self.process.wait()
             self.process = None
 
-    def database(self) -> str:
-        """The URL of a new database."""
-        self.made += 1
-        self.call("createdb", "-h", "127.0.0.1", "-p", str(self.port), "-U", "control", f"room{self.made}")
-        return self.url(f"room{self.made}")
-
 
 @contextlib.contextmanager
-def cluster(libraries: str = "") -> Iterator[Cluster]:
+def cluster(**settings: str) -> Iterator[Cluster]:
     """A server that stands as long as the block; a Refusal says why there is none."""
     with tempfile.TemporaryDirectory(prefix="control-postgresql-") as folder:
-        made = Cluster(pathlib.Path(folder), libraries)
+        made = Cluster(pathlib.Path(folder), settings)
         try:
             made.start()
             yield made
         finally:
             made.stop(signal.SIGQUIT)
+
+
+def shared() -> contextlib.AbstractContextManager[Server] | None:
+    """The server of whom the environment names the port, where it names one. It goes on."""
+    port = os.environ.get(PORT)
+    return contextlib.nullcontext(Server(int(port))) if port else None
 
 
 def main() -> int:

@@ -280,7 +280,7 @@ def main() -> int:
         start.needed("trials.room.measure", "psycopg")
     signal.signal(signal.SIGTERM, lambda *_: sys.exit(143))
     with tempfile.TemporaryDirectory(prefix="measure-") as folder, placed(
-        asked.database, pathlib.Path(folder), LIBRARY
+        asked.database, pathlib.Path(folder), shared_preload_libraries=LIBRARY
     ) as place:
         return 0 if run(asked, pathlib.Path(folder), place) else 1
 

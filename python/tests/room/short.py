@@ -2,21 +2,26 @@
 
     python3 -m tests.room.short [--signtool PATH]
 
-All run side by side with a python3 that sees Debian's packages. What is skipped is said in lines `skipped NAME: why`;
-the last line counts, `N passed, M failed`.
+All run side by side with a python3 that sees Debian's packages: each lane takes the next test, and they share one
+server of PostgreSQL. What is skipped is said in lines `skipped NAME: why`; the last line counts, `N passed, M failed`.
 """
 
 import argparse
+import contextlib
 import os
 import re
 import subprocess
 import sys
 import tempfile
 from dataclasses import dataclass, field
+from typing import Iterator
 
+from trials.room.cluster import PORT, cluster
 from wisangub.process.places import SIGNTOOL, TOP
-from wisangub.refusal import status_of
+from wisangub.refusal import Refusal, status_of
 from wisangub.room import start
+
+from .lanes import FOLDER
 
 MODULES = ("pytest", "aiohttp", "jinja2", "psycopg")
 CHAOS = (
@@ -52,8 +57,10 @@ ALONE = (
     "sqlite",
 )  # a service over SQLite whose connections alone keep the log from who ends beside it
 BROWSER = "python/tests/room/test_browser*.py"  # some minutes by themselves: run by hand
-PYTEST = ("-q", "-rs", "-p", "no:cacheprovider")
-PARTS = 2  # in which the tests run, side by side
+PYTEST = ("-q", "-rs", "-p", "no:cacheprovider", "-p", "tests.room.lanes")
+LANES = len(os.sched_getaffinity(0)) + 2  # since tests wait now and then
+# of the server that the lanes share: nobody tidies up hundreds of small databases
+SETTINGS = {"max_connections": "400", "autovacuum_naptime": "1h"}
 WORDS = re.compile(r"(\d+) (passed|failed|error|errors)\b")
 SKIPPED = re.compile(r"^SKIPPED \[\d+\] (\S+?)(?::\d+)?: (.*)$", re.MULTILINE)
 LIMIT = 900  # seconds, on a machine that is busy
@@ -111,36 +118,35 @@ def judged(program: Program) -> Outcome:
     return found
 
 
-def kind_of_database(python: str, environment: dict[str, str]) -> tuple[str, list[str]]:
-    """PostgreSQL's where a server of its own can be started; else SQLite's, and what is skipped and why."""
-    done = subprocess.run(
-        [python, "-m", "trials.room.cluster"],
-        cwd=TOP,
-        env=environment,
-        stdin=subprocess.DEVNULL,
-        capture_output=True,
-        text=True,
-    )
-    if done.returncode == 0:
-        return "postgresql", []
-    return "sqlite", [f"chaos over PostgreSQL: {(done.stderr.strip().splitlines() or ['no server'])[-1]}"]
+@contextlib.contextmanager
+def server() -> Iterator[tuple[str, dict[str, str], list[str]]]:
+    """A server of PostgreSQL that the lanes share: the kind of database that chaos has, what the lanes find in the
+    environment, and what is skipped and why. Where there can be none it is SQLite's."""
+    with contextlib.ExitStack() as stack:
+        try:
+            made = stack.enter_context(cluster(**SETTINGS))
+        except Refusal as refused:
+            yield "sqlite", {}, [f"chaos over PostgreSQL: {str(refused).splitlines()[-1]}"]
+            return
+        yield "postgresql", {PORT: str(made.port)}, []
 
 
-def parts() -> list[list[str]]:
-    """The files of tests but the browser's, in as many parts as run side by side."""
-    files = sorted(set(TOP.glob("python/tests/room/test_*.py")) - set(TOP.glob(BROWSER)))
-    return [[str(path.relative_to(TOP)) for path in files[at::PARTS]] for at in range(PARTS)]
+def files() -> list[str]:
+    """The files of tests but the browser's."""
+    found = set(TOP.glob("python/tests/room/test_*.py")) - set(TOP.glob(BROWSER))
+    return sorted(str(path.relative_to(TOP)) for path in found)
 
 
 def short(python: str, program: str) -> int:
     """Tests and chaos, side by side."""
     environment = {**os.environ, "SIGNTOOL": program}
-    tests = [Program(python, environment, "pytest", *PYTEST, *files) for files in parts()]
-    kind, skipped = kind_of_database(python, environment)
-    chaos = Program(python, environment, "trials.room.chaos", *CHAOS, "--database", kind, "--signtool", program)
     alone = Program(python, environment, "trials.room.chaos", *ALONE, "--signtool", program)
-    found = [judged(alone), judged(chaos), *map(judged, tests)]
-    for words in [*skipped, *(words for outcome in found for words in outcome.skipped)]:
+    with server() as (kind, at, skipped), tempfile.TemporaryDirectory(prefix="lanes-") as folder:
+        chaos = Program(python, environment, "trials.room.chaos", *CHAOS, "--database", kind, "--signtool", program)
+        of_lanes = {**environment, **at, FOLDER: folder}
+        lanes = [Program(python, of_lanes, "pytest", *PYTEST, *files()) for _ in range(LANES)]
+        found = [judged(one) for one in (alone, chaos, *lanes)]
+    for words in dict.fromkeys([*skipped, *(words for outcome in found for words in outcome.skipped)]):
         print(f"skipped {words}")
     failed = sum(outcome.failed for outcome in found)
     print(f"{sum(outcome.passed for outcome in found)} passed, {failed} failed")

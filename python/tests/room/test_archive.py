@@ -12,7 +12,7 @@ from typing import Any
 
 import pytest
 
-from trials.room.cluster import Cluster
+from trials.room.cluster import Server
 from wisangub.process.places import TOP
 from wisangub.refusal import Refusal
 from wisangub.room import fleet
@@ -160,7 +160,7 @@ def test_a_number_that_went_is_taken(tmp_path: pathlib.Path, where: str) -> None
     room.held.close()
 
 
-def test_a_line_that_waits_for_an_archive_is_refused(tmp_path: pathlib.Path, server: Cluster) -> None:
+def test_a_line_that_waits_for_an_archive_is_refused(tmp_path: pathlib.Path, server: Server) -> None:
     """On PostgreSQL an insert under a key that is being deleted waits; when that is done, the number is taken."""
     room = Room(tmp_path / "room", server.database())
     other, found = Store(database.opened(room.where)), []

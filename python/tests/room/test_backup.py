@@ -6,7 +6,6 @@ import threading
 
 import pytest
 
-from trials.room.cluster import Cluster
 from wisangub.refusal import Refusal
 from wisangub.room.fleet import LAST_NUMBER
 from wisangub.room.store import advance, backup, database
@@ -19,15 +18,6 @@ from wisangub.snmp import wire
 from .bench import HELLO, Bench, bench
 from .test_database import BLANK, two_stores
 from .test_worker import begin, carried_on
-
-
-@pytest.fixture
-def empty(where: str, tmp_path: pathlib.Path, request: pytest.FixtureRequest) -> str:
-    """Where a database of the same kind is not yet."""
-    if not database.is_url(where):
-        return str(tmp_path / "restored")
-    server: Cluster = request.getfixturevalue("server")
-    return server.database()
 
 
 def numbers_sent(at: Bench) -> dict[int, set[bytes]]:

@@ -10,10 +10,8 @@ from wisangub.room.store.commands import Command
 from wisangub.room.store.database import Database, Taken
 from wisangub.room.store.store import Store
 
-from .test_backup import empty
 from .test_database import BLANK
 
-__all__ = ["empty"]
 BEFORE = 14  # the last migration of the version before
 OLD = (
     "INSERT INTO signs (name, place, address, poll, holder, until, centre, polled, reading_number, least, tabled,"
@@ -58,9 +56,9 @@ def check(made: Database) -> None:
     assert store.leases.take([one], "another", 10.0) == {one}, "the lease of before is over"
 
 
-def test_a_database_of_before_is_carried_over(where: str, capsys: pytest.CaptureFixture[str]) -> None:
-    old(where).close()
-    made = database.opened(where)
+def test_a_database_of_before_is_carried_over(nowhere: str, capsys: pytest.CaptureFixture[str]) -> None:
+    old(nowhere).close()
+    made = database.opened(nowhere)
     said = capsys.readouterr().err
     assert "an earlier program refuses it" in said and "wisangub-control backup copy" in said
     signs = made.run(
@@ -68,7 +66,7 @@ def test_a_database_of_before_is_carried_over(where: str, capsys: pytest.Capture
     )
     assert signs == [("a worker", 90, 80, 70, 60, 1), (None, 0, 0, 0, 0, 0)]
     check(made)
-    database.opened(where).close()
+    database.opened(nowhere).close()
     assert not capsys.readouterr().err, "it is said once"
 
 
@@ -78,11 +76,11 @@ def test_a_program_of_before_refuses_it(where: str) -> None:
         database.migrate(made, known_before())
 
 
-def test_a_copy_of_before_stays_one_and_is_carried_over(where: str, empty: str, tmp_path: pathlib.Path) -> None:
-    before = old(where)
-    backup.copy(where, tmp_path / "copy")
+def test_a_copy_of_before_stays_one_and_is_carried_over(nowhere: str, empty: str, tmp_path: pathlib.Path) -> None:
+    before = old(nowhere)
+    backup.copy(nowhere, tmp_path / "copy")
     assert before.run("SELECT holder FROM signs WHERE name = 'one'") == [("a worker",)], "a copy changes nothing"
-    if not database.is_url(where):
+    if not database.is_url(nowhere):
         copied = database.connected(str(tmp_path / "copy"))
         assert copied.run("SELECT how FROM commands ORDER BY id") == [("accepted",), (None,), (None,)]
         copied.close()

@@ -69,9 +69,9 @@ def test_a_migration_that_fails_leaves_nothing(where: str) -> None:
 
 
 def test_a_name_that_is_no_database_s_makes_none(
-    where: str, tmp_path: pathlib.Path, monkeypatch: pytest.MonkeyPatch
+    nowhere: str, tmp_path: pathlib.Path, monkeypatch: pytest.MonkeyPatch
 ) -> None:
-    of = ["--database", where]
+    of = ["--database", nowhere]
     programs = {
         "worker": [*of, "--fleet", str(TOP / "signs/fleet.toml")],
         "users": [*of, "list"],
@@ -83,11 +83,11 @@ def test_a_name_that_is_no_database_s_makes_none(
         monkeypatch.setattr(sys, "argv", [name, *words])
         with pytest.raises(Refusal, match="--create makes"):
             importlib.import_module(PARTS[name]).main()
-        assert database.is_url(where) or not list(tmp_path.iterdir()), name
-    if database.is_url(where):
-        assert not database.connected(where).has_table("migrations")
-    monkeypatch.setattr(sys, "argv", ["users", "--database", where, "--create", "list"])
-    assert importlib.import_module(PARTS["users"]).main() == 0 and database.opened(where, may_create=False).has_table(
+        assert database.is_url(nowhere) or not list(tmp_path.iterdir()), name
+    if database.is_url(nowhere):
+        assert not database.connected(nowhere).has_table("migrations")
+    monkeypatch.setattr(sys, "argv", ["users", "--database", nowhere, "--create", "list"])
+    assert importlib.import_module(PARTS["users"]).main() == 0 and database.opened(nowhere, may_create=False).has_table(
         "signs"
     )
 

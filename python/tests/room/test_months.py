@@ -11,7 +11,7 @@ needs.modules("psycopg")
 
 import pytest
 
-from trials.room.cluster import Cluster
+from trials.room.cluster import Server
 from wisangub.refusal import Refusal
 from wisangub.room.store import database, history, months, queries, retention
 from wisangub.room.store.audit import note
@@ -27,7 +27,7 @@ ALL = "SELECT sign, number, at, heard, minutes, shown, fault FROM readings ORDER
 
 
 @pytest.fixture
-def url(server: Cluster) -> str:
+def url(server: Server) -> str:
     return server.database()
 
 

@@ -14,7 +14,7 @@ from typing import Any, Iterator
 
 import pytest
 
-from trials.room.cluster import Cluster, cluster
+from trials.room.cluster import Cluster, Server, cluster
 from wisangub.endpoint.sockets import Waiting
 from wisangub.process.places import TOP
 from wisangub.refusal import Refusal
@@ -33,7 +33,7 @@ from .test_worker import begin, carried_on
 
 
 @pytest.fixture
-def url(server: Cluster) -> str:
+def url(server: Server) -> str:
     """A new database of the server."""
     return server.database()
 

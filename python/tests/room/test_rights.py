@@ -36,13 +36,13 @@ def publish(text: str, run_priority: int = 100, priority: int = 100) -> str:
     return f"publish 3 1 {text} - 0 0 {run_priority} 65535 {priority} 192.0.2.1"
 
 
-def test_a_user_of_before_may_what_he_might(where: str) -> None:
-    made = database.connected(where)
+def test_a_user_of_before_may_what_he_might(nowhere: str) -> None:
+    made = database.connected(nowhere)
     database.migrate(made, [one for one in database.migrations() if one[0] <= BEFORE])
     for role in Role:
         made.run("INSERT INTO users (name, role, secret) VALUES (?, ?, '-')", role.word, role.word)
     made.close()
-    store = Store(database.opened(where))
+    store = Store(database.opened(nowhere))
     (sign,) = store.signs.enter([SIGN])
     levels = {role: rights.of_user(store.database, role.word).level(sign) for role in Role}
     assert levels == {Role.READER: 1, Role.OPERATOR: 3, Role.ADMINISTRATOR: 3}

@@ -1,5 +1,6 @@
 """The roles of PostgreSQL of the example roles.sql: a service works, and changes neither audit nor journals."""
 
+import contextlib
 import datetime
 import pathlib
 import re
@@ -11,12 +12,12 @@ from . import needs
 
 needs.modules("aiohttp", "jinja2", "psycopg")
 
-from trials.room.cluster import Cluster
+from trials.room.cluster import Server
 from wisangub.process.places import TOP
 from wisangub.refusal import Refusal
 from wisangub.room.store import database, months
 from wisangub.room.store.audit import note
-from wisangub.room.store.database import Failed
+from wisangub.room.store.database import Failed, Taken
 
 from .bench import HELLO, bench
 from .visits import Bench, Visitors, run
@@ -52,12 +53,12 @@ def recipe() -> list[str]:
 
 
 @pytest.fixture
-def role(server: Cluster) -> Iterator[str]:
+def role(server: Server) -> Iterator[str]:
     """A new database of the owner, as the service's role sees it."""
     url = server.database()
     first = database.connected(url)
     for name in (OWNER, SERVICE):
-        if not first.run("SELECT 1 FROM pg_roles WHERE rolname = ?", name):
+        with contextlib.suppress(Failed, Taken):  # they are the server's, which other tests may share
             first.run(f"CREATE ROLE {name} LOGIN")
     first.run(f"ALTER DATABASE {url.rpartition('/')[2]} OWNER TO {OWNER}")
     first.close()

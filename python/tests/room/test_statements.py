@@ -22,7 +22,7 @@ def test_counts_are_of_a_thing_or_of_a_day() -> None:
 
 def test_a_server_counts() -> None:
     try:
-        with cluster.cluster(LIBRARY) as server:
+        with cluster.cluster(shared_preload_libraries=LIBRARY) as server:
             held = database.opened(server.database())
             before = counted(held)
             for number in range(5):

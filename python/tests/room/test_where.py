@@ -3,6 +3,7 @@
 import pathlib
 import socket
 import time
+from collections import Counter
 from typing import Any
 
 import pytest
@@ -29,20 +30,30 @@ PATIENCE = 60.0
 
 
 class Names:
-    """Names that resolve to what a test says; all others as they do."""
+    """Names that resolve to what a test says; all others as they do. How often each was asked for is counted."""
 
     def __init__(self, monkeypatch: pytest.MonkeyPatch) -> None:
         self.before = socket.getaddrinfo
         self.of: dict[str, list[str]] = {}
+        self.asked: Counter[str] = Counter()
         monkeypatch.setattr(addresses, "getaddrinfo", self.getaddrinfo)
 
     def getaddrinfo(self, host: str, port: int, **words: Any) -> Any:
         if not host.endswith(".example"):
             return self.before(host, port, **words)
+        if not words["flags"]:
+            self.asked[host] += 1
         found = [] if words["flags"] else self.of.get(host, [])
         if not found:
             raise socket.gaierror(socket.EAI_NONAME, "Name or service not known")
         return [one for address in found for one in self.before(address, port, **words)]
+
+    def again(self) -> None:
+        """Waits until each was looked up anew from now on: what that found is known once it is asked for once more."""
+        wanted, ends = {host: count + 2 for host, count in self.asked.copy().items()}, time.monotonic() + PATIENCE
+        while any(self.asked[host] < count for host, count in wanted.items()):
+            assert time.monotonic() < ends, "names are looked up again and again"
+            time.sleep(AGAIN / 10)
 
 
 @pytest.fixture
@@ -54,10 +65,10 @@ def named(name: str, host: str, port: int = 1161) -> Sign:
     return Sign(name, "", host, port, b"", b"public", 10.0, 1)
 
 
-def looks(where: Where, store: Store) -> list[str | None]:
+def looks(where: Where, store: Store, names: Names) -> list[str | None]:
     """Why each sign stands still, once each name was looked up again."""
     where.next_look = 0.0
-    time.sleep(3 * AGAIN)
+    names.again()
     where.look()
     return [one.still for one in sign_views(store.database)]
 
@@ -84,7 +95,7 @@ def test_a_name_that_is_found_no_more_stands_for_what_it_was(names: Names) -> No
     assert held.of(("127.1", 7)).host == "127.0.0.1"
     for count in (1, 0):
         names.of["a.example"] = ["127.0.0.3"] * count
-        time.sleep(3 * AGAIN)
+        names.again()
         assert held.of(("a.example", 7)).host == "127.0.0.3"
     held.close()
 
@@ -123,12 +134,12 @@ def test_the_second_that_comes_to_one_address_stands_still(
     one, two = rows
     used(store, one, 70, -400)
     held = Where(store, rows, AGAIN)
-    assert looks(held, store) == [None, None] and held.signs[two].host == "127.0.0.2"
+    assert looks(held, store, names) == [None, None] and held.signs[two].host == "127.0.0.2"
     names.of["b.example"] = ["127.0.0.2", "127.0.0.1"]
-    assert looks(held, store) == [None, "its address is that of a"] and set(held.signs) == {one}
+    assert looks(held, store, names) == [None, "its address is that of a"] and set(held.signs) == {one}
     assert "b: it stands still: its address is that of a" in capfd.readouterr().err
     names.of["a.example"] = ["127.0.0.3"]
-    assert looks(held, store) == [None, None] and held.signs[two].host == "127.0.0.1"
+    assert looks(held, store, names) == [None, None] and held.signs[two].host == "127.0.0.1"
     assert least_of(store, two) == (72 + MARGIN, -400 - MARGIN), "a stood where b is"
     assert "b: it goes on, at 127.0.0.1" in capfd.readouterr().err
     held.close()
@@ -140,7 +151,7 @@ def test_where_nothing_resolves_anew_no_sign_is_looked_at(
     names.of.update({"a.example": ["127.0.0.1"]})
     store = Store(database.opened(where))
     held = Where(store, store.signs.enter([named("a", "a.example"), named("b", "127.0.0.2")]), AGAIN)
-    assert looks(held, store) == [None, None]
+    assert looks(held, store, names) == [None, None]
     asked: list[object] = []
     monkeypatch.setattr(held.addresses, "of", asked.append)
     assert held.look() == set() and asked == []
@@ -155,10 +166,10 @@ def test_two_that_change_places_go_on_above_one_another(where: str, names: Names
     used(store, one, 70, -400)
     used(store, two, 5, -3)
     held = Where(store, rows, AGAIN)
-    assert looks(held, store) == [None, None]
+    assert looks(held, store, names) == [None, None]
     names.of.update({"a.example": ["127.0.0.2"], "b.example": ["127.0.0.1"]})
-    looks(held, store)
-    assert looks(held, store) == [None, None]
+    looks(held, store, names)
+    assert looks(held, store, names) == [None, None]
     assert (held.signs[one].host, held.signs[two].host) == ("127.0.0.2", "127.0.0.1")
     assert least_of(store, two)[0] == 72 + MARGIN and least_of(store, one)[0] == 72 + 2 * MARGIN
     held.close()

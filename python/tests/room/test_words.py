@@ -125,8 +125,8 @@ def test_both_engines_take_the_same_words(where: str) -> None:
     held.close()
 
 
-def test_a_database_of_before_is_carried_over(where: str) -> None:
-    held = database.connected(where)
+def test_a_database_of_before_is_carried_over(nowhere: str) -> None:
+    held = database.connected(nowhere)
     database.migrate(held, [one for one in database.migrations() if one[0] <= BEFORE])
     fill(held, random.Random(14), 60)
     database.migrate(held, database.migrations())
