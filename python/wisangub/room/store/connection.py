@@ -57,8 +57,10 @@ class Database:
     lock = ""  # at the end of a SELECT: its rows are this transaction's, in their order, until it ends
     skip = ""  # the same, without those that are another one's now
     has_months = False  # whether some tables stand in a partition a month (months.py)
-    # the newest numbers of commands that have words, below one, so many at most; how a word is spelled in it, and many
-    with_words, a_word, and_words = "", "", ""
+    # the newest numbers of commands, or of lines of the audit, that have words, below one, so many at most; how a word
+    # is spelled in it, one that stands alone, many, and others in their place
+    with_words, with_audit_words = "", ""
+    a_word, one_word, and_words, or_words = "", "", "", ""
 
     def __init__(self) -> None:
         self.turn = threading.RLock()
@@ -159,8 +161,8 @@ class Database:
         """Whether it is SQLite with its search of texts."""
         return False
 
-    def has_words(self) -> bool:
-        """Whether there is an index of the words of commands (words.py)."""
+    def has_words(self, name: str = "command_words") -> bool:
+        """Whether there is an index of the words of commands, or `audit_words` (words.py)."""
         raise NotImplementedError
 
     def close(self) -> None:

@@ -1,10 +1,11 @@
 """What the pages ask the database for: what was asked together, the ledger, earlier readings, the audit."""
 
 from dataclasses import dataclass, field, replace
+from typing import Sequence
 
 from .database import Database, Value
 from .queries import COMMANDS, CommandView, Shown, command_view, least, where_of, within
-from .values import text_or_none, texts, time_of, whole
+from .values import places, text_or_none, texts, time_of, whole
 
 Line = tuple[int, str, float]  # of a centre: its number, what it says, and when it was handed over
 Entry = tuple[int, float, str, str]  # of the audit: number, time, who, what
@@ -103,7 +104,8 @@ def readings(database: Database, number: int, most: int = 100) -> list[ReadingVi
 
 @dataclass(frozen=True)
 class AuditWanted:
-    """Which lines of the audit are looked for, the newest first: of whom, from when until when, below which number."""
+    """Which lines of the audit are looked for, the newest first: of whom, from when until when, below which number;
+    `numbers` are those looked at."""
 
     who: str = ""
     since: float | None = None
@@ -111,15 +113,20 @@ class AuditWanted:
     before: int | None = None
     most: int = 100
     first: int | None = None
+    numbers: Sequence[int] | None = None
 
     def where(self) -> tuple[str, list[Value]]:
-        return where_of(
+        where, values = where_of(
             ("who = ?", self.who or None),
             ("at + 0 >= ?", self.since),
             ("at + 0 < ?", self.until),
             ("id < ?", self.before),
             ("id >= ?", self.first),
         )
+        if self.numbers is None:
+            return where, values
+        among = f"id IN ({places(self.numbers)})" if self.numbers else "1 = 0"
+        return f"{where} AND {among}" if where else f" WHERE {among}", [*values, *self.numbers]
 
 
 def audited(database: Database, wanted: AuditWanted) -> list[Entry]:

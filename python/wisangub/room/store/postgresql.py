@@ -58,7 +58,11 @@ class Postgresql(Database):
         " CAST(? AS tsquery) UNION ALL SELECT id FROM commands WHERE outcome IS NULL)"
         " SELECT id FROM found WHERE id < ? ORDER BY id DESC LIMIT ?"
     )
-    a_word, and_words = "'{}':*", " & "
+    with_audit_words = (
+        "WITH found AS MATERIALIZED (SELECT id FROM audit WHERE audit_words(what) @@ CAST(? AS tsquery))"
+        " SELECT id FROM found WHERE id < ? ORDER BY id DESC LIMIT ?"
+    )
+    a_word, one_word, and_words, or_words = "'{}':*", "'{}'", " & ", " | "
 
     def __init__(self, url: str) -> None:
         super().__init__()
@@ -168,7 +172,7 @@ class Postgresql(Database):
     def has_table(self, name: str) -> bool:
         return self.run("SELECT to_regclass(?) IS NOT NULL", name) == [(True,)]
 
-    def has_words(self) -> bool:
+    def has_words(self, name: str = "command_words") -> bool:
         return True
 
     def close(self) -> None:

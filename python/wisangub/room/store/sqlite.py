@@ -16,7 +16,7 @@ from wisangub.endpoint.files import MODE
 from wisangub.refusal import Refusal, reason
 
 from .connection import PATIENCE, Away, Database, Failed, NotYet, Row, Taken
-from .ends import command_words
+from .ends import audit_words, command_words
 
 _MAKING = threading.Lock()
 _Mark = tuple[int, int] | None
@@ -49,7 +49,8 @@ class Sqlite(Database):
     clock = "((julianday('now') - 2440587.5) * 86400.0)"
     key = "INTEGER PRIMARY KEY"
     with_words = "SELECT rowid FROM command_words WHERE command_words MATCH ? AND rowid < ? ORDER BY rowid DESC LIMIT ?"
-    a_word, and_words = '"{}" *', " AND "
+    with_audit_words = with_words.replace("command_words", "audit_words")
+    a_word, one_word, and_words, or_words = '"{}" *', '"{}"', " AND ", " OR "
 
     def __init__(self, path: str) -> None:
         super().__init__()
@@ -61,7 +62,8 @@ class Sqlite(Database):
             self.connection = sqlite3.connect(
                 address_of(path, "rw"), uri=True, timeout=PATIENCE, isolation_level=None, check_same_thread=False
             )
-            self.connection.create_function("command_words", 1, command_words, deterministic=True)
+            for function in (command_words, audit_words):
+                self.connection.create_function(function.__name__, 1, function, deterministic=True)
             for pragma in ("journal_mode = WAL", "synchronous = FULL", "foreign_keys = ON"):
                 self.run(f"PRAGMA {pragma}")
             self.run("SELECT count(*) FROM sqlite_master")  # from here on it has the log
@@ -141,8 +143,8 @@ class Sqlite(Database):
         """Whether this SQLite can search texts."""
         return bool(self.run("SELECT 1 FROM pragma_module_list WHERE name = 'fts5'"))
 
-    def has_words(self) -> bool:
-        return self.has_table("command_words")
+    def has_words(self, name: str = "command_words") -> bool:
+        return self.has_table(name)
 
     def close(self) -> None:
         self.connection.close()

@@ -1,33 +1,44 @@
-"""Which commands have words in what they have shown, by an index: of PostgreSQL of `command_words(line)`, of SQLite a
-table of FTS5, where that is there (039_words.sql). A word of which something stands anywhere is found by the end of it
-that begins so. What is found so is looked at again; nothing is missed that stands in a line.
+"""Which commands have words in what they have shown, and which lines of the audit in what they say, by an index: of
+PostgreSQL of `command_words(line)` and `audit_words(what)`, of SQLite tables of FTS5, where that is there
+(039_words.sql, 040_audit_words.sql). A word of which something stands anywhere is found by the end of it that begins
+so. What is found so is looked at again; nothing is missed that stands in a line.
 """
 
 import heapq
 import itertools
 from dataclasses import replace
-from typing import Iterable, Iterator, Sequence
+from typing import Callable, Iterable, Iterator, Sequence, TypeVar
 
 from . import search
 from .connection import Database, Value
-from .ends import LONGEST, SHORTEST, WORD
+from .ends import ANY, LONGEST, SHORTEST, WORD
+from .history import AuditWanted, Entry, audited
 from .queries import CommandView, Wanted, commands
 from .search import Slice
 from .values import texts, whole
 
-_FIRST, _AT_ONCE = 400, 200  # numbers that are asked for first, and commands
+_Row = TypeVar("_Row")
+_Candidates = Callable[[int, int], list[int] | None]  # the newest numbers below one, so many at most
+_FIRST, _AT_ONCE = 400, 200  # numbers that are asked for first, and rows
 _MOST_SIGNS = 20  # whose commands are looked at one by one, since a word stands in their names
 # what pages say of commands whatever their text is
 _SAID = (
     *("publish", "blank", "show", "another", "command", "in", "nothing", "accepted"),
     *("permanent", "changeable", "volatile", "memory", "what", "was", "shown", "before"),
 )
+# and of commands in the audit
+_SAID_OF_IT = (
+    *_SAID,
+    *("without", "end", "min", "activation", "priority", "while", "with", "beacon", "pixel", "service"),
+)
 
 
-def _looked_for(find: str) -> list[str]:
+def _looked_for(find: str, said_of_all: Sequence[str] = _SAID) -> list[str]:
     """The words that an index can look for, the longest first."""
     found = {word for word in WORD.findall(find.lower()) if len(word) >= SHORTEST and max(word) <= "\xff"}
-    return sorted((word for word in found if not any(word in said for said in _SAID)), key=lambda word: -len(word))
+    return sorted(
+        (word for word in found if not any(word in said for said in said_of_all)), key=lambda word: -len(word)
+    )
 
 
 def _outcomes(database: Database) -> list[str]:
@@ -47,9 +58,14 @@ def _newest(database: Database, column: str, values: Sequence[Value], before: in
     return [[whole(number) for number, in database.run(sql, value, before, most)] for value in values]
 
 
+def _spelled(database: Database, words: Sequence[str]) -> str:
+    """All of the words, as the database's index takes them."""
+    return database.and_words.join(database.a_word.format(word[:LONGEST]) for word in words)
+
+
 def _in_texts(database: Database, words: Sequence[str], before: int, most: int) -> list[int]:
-    spelled = database.and_words.join(database.a_word.format(word[:LONGEST]) for word in words)
-    return [whole(number) for number, in database.run(database.with_words, spelled, before, most)]
+    rows = database.run(database.with_words, _spelled(database, words), before, most)
+    return [whole(number) for number, in rows]
 
 
 def candidates(database: Database, find: str, before: int, most: int) -> list[int] | None:
@@ -74,29 +90,61 @@ def candidates(database: Database, find: str, before: int, most: int) -> list[in
     return list(itertools.islice(_once(heapq.merge(*found, reverse=True)), most))
 
 
+def audit_candidates(database: Database, find: str, before: int, most: int) -> list[int] | None:
+    """The newest lines of the audit below a number in which all of the words may stand, so many at most; None where it
+    were better to look at all of them."""
+    words = _looked_for(find, _SAID_OF_IT)
+    if not words or not database.has_words("audit_words"):
+        return None
+    spelled = f"({_spelled(database, words)}){database.or_words}{database.one_word.format(ANY)}"
+    return [whole(number) for number, in database.run(database.with_audit_words, spelled, before, most)]
+
+
 def slices(database: Database, wanted: Wanted, find: str, before: int) -> Iterator[Slice[CommandView]] | None:
     """The commands that are wanted, of those below a number in which the words may stand, for `search`."""
-    first = candidates(database, find, before, _FIRST)
-    return None if first is None else _slices(database, wanted, find, first)
+    return _begun(
+        lambda below, most: candidates(database, find, below, most),
+        lambda numbers: commands(database, replace(wanted, numbers=numbers, before=None, most=_AT_ONCE)),
+        before,
+    )
 
 
-def _slices(database: Database, wanted: Wanted, find: str, found: list[int]) -> Iterator[Slice[CommandView]]:
+def audit_slices(database: Database, wanted: AuditWanted, find: str, before: int) -> Iterator[Slice[Entry]] | None:
+    """The same of the audit."""
+    return _begun(
+        lambda below, most: audit_candidates(database, find, below, most),
+        lambda numbers: audited(database, replace(wanted, numbers=numbers, before=None, most=_AT_ONCE)),
+        before,
+    )
+
+
+def _begun(
+    newest: _Candidates, rows: Callable[[Sequence[int]], Sequence[_Row]], before: int
+) -> Iterator[Slice[_Row]] | None:
+    first = newest(before, _FIRST)
+    return None if first is None else _slices(newest, rows, first)
+
+
+def _slices(
+    newest: _Candidates, rows: Callable[[Sequence[int]], Sequence[_Row]], found: list[int]
+) -> Iterator[Slice[_Row]]:
     most = _FIRST
     while len(found) == most:
-        yield from _parts(database, wanted, found, found[-1])
+        yield from _parts(rows, found, found[-1])
         if most == search.MOST_SEEN:
             return
         most = search.MOST_SEEN
-        found = candidates(database, find, found[-1], most) or []
-    yield from _parts(database, wanted, found, None)
+        found = newest(found[-1], most) or []
+    yield from _parts(rows, found, None)
 
 
-def _parts(database: Database, wanted: Wanted, found: Sequence[int], below: int | None) -> Iterator[Slice[CommandView]]:
+def _parts(
+    rows: Callable[[Sequence[int]], Sequence[_Row]], found: Sequence[int], below: int | None
+) -> Iterator[Slice[_Row]]:
     """Those of some numbers that are wanted; where it goes on after the last of them."""
     for at in range(0, len(found), _AT_ONCE):
         part = found[at : at + _AT_ONCE]
-        rows = commands(database, replace(wanted, numbers=part, before=None, most=_AT_ONCE))
-        yield rows, part[-1] if at + _AT_ONCE < len(found) else below
+        yield rows(part), part[-1] if at + _AT_ONCE < len(found) else below
     if not found:
         yield [], below
 

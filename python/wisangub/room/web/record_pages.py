@@ -211,6 +211,7 @@ async def audit(request: web.Request) -> web.Response:
             asked.takes_entry,
             number_of(request, "before"),
             _MOST_LINES,
+            lambda before: find_words.audit_slices(database, wanted, asked.find, before),
         )
         return lines, before, history.audit_people(database), queries.now(database)
 
