@@ -1,5 +1,5 @@
 -- What a sign takes up of a saved state leaves it whole.
-use Rattle.std.proofs.Common.{◌≡◌, ℕ, ◌*◌, ◌≤◌, ◌&&◌, Bool, true, false, not, cond, List, length, Option, Some, None, nat_le, refl, ap, sym, subst, ◌∙◌, arith}
+use Rattle.std.proofs.Common.{◌≡◌, ℕ, ◌*◌, ◌≤◌, ◌==◌, ◌&&◌, Bool, true, false, not, cond, List, length, Option, Some, None, nat_le, refl, ap, sym, subst, ◌∙◌, arith}
 use Rattle.std.specs.Prelude.{IsTrue, option_map}
 use Rattle.std.specs.Option.{option_or, IfSome}
 use Rattle.std.specs.Int.Digits.{AllBelowBase}
@@ -17,6 +17,7 @@ use Rattle.dms_table.specs.Rows.{RowModel, TableModel, Text, Owner, Beacon, Pixe
 use Rattle.dms_table.specs.Activation.{ShownModel, shown_row}
 use Rattle.dms_table.specs.SavedRows.{put_over, may_have_beacon, may_have_pixel, value_fault, row_fault}
 use Rattle.dms_table.specs.SavedShown.{is_time, is_mode, has_its_checksum, is_blank_by_its_source, message_fault, showing_fault, shown_fault}
+use Rattle.dms_sign_access.specs.Reports.{no_error, is_validation_error, is_activation_error, is_syntax_error, is_place_of, report_fault}
 use Rattle.dms_sign.specs.declared.sign.Sign.TheInside.{Inside}
 use Rattle.dms_sign.specs.declared.sign.restoring.SignParts.{SignParts}
 use Rattle.dms_sign.specs.declared.sign.restoring.MessageFault.TheVariants as messages
@@ -57,6 +58,9 @@ both false b e = absurd (cc)
 
 time_in_range : (mode : ℕ) (o : Option ℕ) → is_time mode o ≡ true → IsTimeInRange o
 time_in_range mode o is = grind arith
+
+place_within : (none : Bool) (place : ℕ) → cond none (place == 0) (nat_le place longest_text) ≡ true → place ≤ longest_text
+place_within none place e = grind arith
 
 within : (n most : ℕ) → nat_le n most ≡ true → n ≤ most
 within n most e = grind arith
@@ -103,10 +107,10 @@ shown_in_range shown is none =
       defaults = is.defaults;
     }
 
-message_in_range : (services : Services) (face : FaceModel) (shown : ShownModel) → IsTyped shown → restoring.message_fault services face shown ≡ None
+message_in_range : (table : TableModel) (face : FaceModel) (shown : ShownModel) → IsTyped shown → restoring.message_fault table face shown ≡ None
     → IsShownInRange shown
-message_in_range services face shown is none =
-    shown_in_range shown is (unmapped messages.Shown (shown_fault shown) (neither (option_map messages.Shown (shown_fault shown)) (restoring.standing_fault services face shown) none).0)
+message_in_range table face shown is none =
+    shown_in_range shown is (unmapped messages.Shown (shown_fault shown) (neither (option_map messages.Shown (shown_fault shown)) (restoring.standing_fault table face shown) none).0)
 
 -- ---- the parts
 
@@ -114,26 +118,31 @@ message_in_range services face shown is none =
 pub parts_kept : (s : SignState) (parts : SignParts) → IsKept s → AreSettingsInRange parts.settings → IsTyped parts.shown → IsTyped parts.shown_at_power_loss
     → AreTyped parts.reports → parts_fault s parts ≡ None → IsKept (with_parts s parts)
 parts_kept s parts is settings shown kept reports none =
-    let first = neither (restoring.value_fault s.config.face parts) _ none in
-    let shown_wrong = restoring.message_fault s.table.services s.config.face parts.shown in
-    let kept_wrong = restoring.message_fault s.table.services s.config.face parts.shown_at_power_loss in
-    let each = neither (option_map faults.Shown shown_wrong) (option_map faults.Kept kept_wrong) first.1 in
+    let first = neither (restoring.set_fault s.config.face parts.settings parts.silent_seconds) _ none in
+    let shown_wrong = restoring.message_fault s.table s.config.face parts.shown in
+    let kept_wrong = restoring.message_fault s.table s.config.face parts.shown_at_power_loss in
+    let second = neither (option_map faults.Shown shown_wrong) _ first.1 in
+    let third = neither (option_map faults.Kept kept_wrong) (restoring.told_fault parts) second.1 in
     let fits = passed (fit s.config.face.fonts parts.settings.defaults) _ _ first.0 in
     let silent = passed (nat_le parts.silent_seconds (60 * 65535)) _ _ fits.1 in
-    let place = passed (nat_le parts.reports.syntax_error_position 512) _ _ silent.1 in
+    let told = unmapped faults.Reports (report_fault parts.reports) (neither (option_map faults.Reports (report_fault parts.reports)) _ third.1).0 in
+    let validated = passed (is_validation_error parts.reports.validate_error) _ _ told in
+    let activated = passed (is_activation_error parts.reports.activate_error) _ _ validated.1 in
+    let syntax = passed (is_syntax_error parts.reports.syntax_error) _ _ activated.1 in
+    let place = passed (is_place_of parts.reports.syntax_error parts.reports.syntax_error_position) _ _ syntax.1 in
     record {
       in_range = record {
         config = is.in_range.config;
         table = is.in_range.table;
         settings = settings;
         silent_seconds = within parts.silent_seconds (60 * 65535) silent.0;
-        shown = message_in_range s.table.services s.config.face parts.shown shown (unmapped faults.Shown shown_wrong each.0);
-        shown_at_power_loss = message_in_range s.table.services s.config.face parts.shown_at_power_loss kept (unmapped faults.Kept kept_wrong each.1);
+        shown = message_in_range s.table s.config.face parts.shown shown (unmapped faults.Shown shown_wrong second.0);
+        shown_at_power_loss = message_in_range s.table s.config.face parts.shown_at_power_loss kept (unmapped faults.Kept kept_wrong third.0);
         reports = record {
           validate_error = reports.validate_error;
           activate_error = reports.activate_error;
           syntax_error = reports.syntax_error;
-          syntax_error_position = within parts.reports.syntax_error_position 512 place.0;
+          syntax_error_position = place_within (parts.reports.syntax_error == no_error) parts.reports.syntax_error_position place.0;
           accepted_code = reports.accepted_code;
           failed_code = reports.failed_code;
         };

@@ -4,13 +4,18 @@ ghost use Rattle.std.specs.Prelude.{◌≡◌, ◌≤◌, IfSome};
 ghost use Rattle.dms_codes.specs.Limits.{longest_text};
 ghost use Rattle.dms_sign_access.specs.Reports.{first_reports, with_fault, with_cause, text_reports};
 ghost use Rattle.dms_sign_access.specs.Reports.{settled_reports, refused_reports, accepted_reports, IsCauseInRange};
+ghost use Rattle.dms_sign_access.specs.Reports.{is_validation_error, is_activation_error, is_text_error};
+ghost use Rattle.dms_sign_access.specs.Reports.{is_syntax_error, is_place_of, report_fault};
 
-use dms_codes::ValidationError;
-use dms_face::MultiFault;
+use dms_codes::{MAX_TEXT, ValidationError};
+use dms_face::{MultiFault, MultiFaultCode};
 use dms_table::{Cause, Verdict};
 
 /// "none" of dmsActivateMsgError and dmsMultiSyntaxError: what is reported where nothing is wrong.
 const NO_ERROR: u8 = 2;
+
+/// The greatest number of a cause (`Cause::number`).
+const LAST_CAUSE: u8 = 8;
 
 /// Errors by the numbers of their objects; codes are the twelve octets that came (MessageActivationCode).
 #[derive(Clone, Copy, Debug, PartialEq, Eq)]
@@ -27,6 +32,19 @@ pub struct Reports {
     pub accepted_code: [u8; 12],
     /// dmsActivateErrorMsgCode: the code last refused
     pub failed_code: [u8; 12],
+}
+
+/// Why no sign reports this.
+#[derive(Clone, Copy, Debug, PartialEq, Eq)]
+pub enum ReportFault {
+    /// No validation has this error.
+    ValidateError,
+    /// No activation has this error.
+    ActivateError,
+    /// No text has this fault.
+    SyntaxError,
+    /// No fault of a text stands there, or there is none that stands anywhere.
+    Position,
 }
 
 impl Reports {
@@ -119,5 +137,60 @@ impl Reports {
             Cause::Syntax(fault) => self.with_fault(fault),
             _ => self,
         }
+    }
+
+    /// The first thing for which no sign reports this.
+    pub fn fault(&self) -> Option<ReportFault>
+        ensures { result ≡ report_fault self.now }
+    {
+        if !is_validation_error(self.validate_error) {
+            Some(ReportFault::ValidateError)
+        } else if !is_activation_error(self.activate_error) {
+            Some(ReportFault::ActivateError)
+        } else if !is_syntax_error(self.syntax_error) {
+            Some(ReportFault::SyntaxError)
+        } else if !is_place_of(self.syntax_error, self.syntax_error_position) {
+            Some(ReportFault::Position)
+        } else {
+            None
+        }
+    }
+}
+
+fn is_validation_error(number: u8) -> bool
+    ensures { result ≡ is_validation_error number }
+{
+    ValidationError::None.number() <= number && number <= ValidationError::SyntaxMulti.number()
+}
+
+fn is_activation_error(number: u8) -> bool
+    ensures { result ≡ is_activation_error number }
+{
+    NO_ERROR <= number && number <= LAST_CAUSE
+}
+
+fn is_text_error(number: u8) -> bool
+    ensures { result ≡ is_text_error number }
+{
+    (MultiFaultCode::UnsupportedTag.number() <= number
+        && number <= MultiFaultCode::CharacterNotDefined.number())
+        || (MultiFaultCode::TagConflict.number() <= number
+            && number <= MultiFaultCode::FontVersionId.number())
+}
+
+fn is_syntax_error(number: u8) -> bool
+    ensures { result ≡ is_syntax_error number }
+{
+    number == NO_ERROR || is_text_error(number)
+}
+
+/// Whether a fault of this number stands at this place.
+fn is_place_of(number: u8, place: u16) -> bool
+    ensures { result ≡ is_place_of number place }
+{
+    if number == NO_ERROR {
+        place == 0
+    } else {
+        usize::from(place) <= MAX_TEXT
     }
 }

@@ -5,15 +5,18 @@ ghost use Rattle.std.specs.Int.Digits.{AllBelowBase};
 ghost use Rattle.dms_face.specs.Face.{FaceModel, fit};
 ghost use Rattle.dms_table.specs.Rows.{changed};
 ghost use Rattle.dms_table.specs.SavedRows.{row_saved, put_over, row_fault};
-ghost use Rattle.dms_sign.specs.Restoring.{with_table, with_parts, standing_fault, message_fault};
-ghost use Rattle.dms_sign.specs.Restoring.{value_fault, parts_fault};
+ghost use Rattle.dms_sign.specs.Restoring.{with_table, with_parts, names_a_row, standing_fault, message_fault};
+ghost use Rattle.dms_sign.specs.Restoring.{set_fault, has_its_power, told_fault, parts_fault};
+ghost use Rattle.dms_sign.specs.RestoringTexts.{report_fault_text};
 
 use crate::sign::typed::{reports_are_typed, settings_are_typed, shown_is_typed};
 use crate::sign::{Sign, source_of};
-use dms_codes::{MAX_TEXT, RowId};
+use dms_codes::{MessageId, Mode, RowId};
 use dms_face::{Defaults, Face, MultiFault, check_with};
-use dms_sign_access::{Reports, SignSettings};
-use dms_table::{RowFault, SavedRow, Services, Shown, ShownFault};
+use dms_sign_access::{ReportFault, Reports, SignSettings};
+use dms_table::{RowFault, SavedRow, Shown, ShownFault, Table};
+use std::error::Error;
+use std::fmt;
 
 /// What a saved state has beside the rows of the message table.
 #[derive(Debug, Drop)]
@@ -37,6 +40,8 @@ pub struct SignParts {
 pub enum MessageFault {
     /// There is no such message.
     Shown(ShownFault),
+    /// The sign has no row of the name of its source.
+    Source,
     /// It has a beacon, and the sign has none.
     Beacons,
     /// It has a pixel service, and the sign has none.
@@ -54,13 +59,56 @@ pub enum StateFault {
     Defaults,
     /// More seconds are silent than 65535 minutes have.
     Silence,
-    /// The place of a text's fault lies past the longest text.
-    Position,
     /// What is shown.
     Shown(MessageFault),
     /// What was shown when the power was lost.
     Kept(MessageFault),
+    /// No sign reports this.
+    Reports(ReportFault),
+    /// There is power where a loss of power put up what is shown, or none where something else did; or a loss of power
+    /// put up what was kept.
+    Power,
 }
+
+impl fmt::Display for MessageFault {
+    ghost use Rattle.std.specs.Prelude.{Some};
+    ghost use Rattle.dms_sign.specs.RestoringTexts.{message_fault_text};
+
+    ghost output = { λ fault. Some (message_fault_text fault) };
+
+    fn fmt<W: fmt::Write>(&self, f: &mut fmt::Formatter<W>) -> fmt::Result {
+        match self {
+            MessageFault::Shown(fault) => write!(f, "{fault}"),
+            MessageFault::Source => f.write_str("the sign has no row of its source"),
+            MessageFault::Beacons => f.write_str("the sign has no beacons"),
+            MessageFault::PixelService => f.write_str("the sign has no pixel service"),
+            MessageFault::Defaults => f.write_str("its defaults do not fit the face"),
+            MessageFault::Text(fault) => write!(f, "{fault}"),
+        }
+    }
+}
+
+impl Error for MessageFault {}
+
+impl fmt::Display for StateFault {
+    ghost use Rattle.std.specs.Prelude.{Some};
+    ghost use Rattle.dms_sign.specs.RestoringTexts.{state_fault_text};
+
+    ghost output = { λ fault. Some (state_fault_text fault) };
+
+    fn fmt<W: fmt::Write>(&self, f: &mut fmt::Formatter<W>) -> fmt::Result {
+        match self {
+            StateFault::Defaults => f.write_str("the defaults do not fit the face"),
+            StateFault::Silence => f.write_str("too many seconds were silent"),
+            StateFault::Shown(fault) => write!(f, "what is shown: {fault}"),
+            StateFault::Kept(fault) => write!(f, "what was kept: {fault}"),
+            StateFault::Reports(fault) => f.write_str(report_fault_text(*fault)),
+            StateFault::Power => f.write_str("another power than that of its messages"),
+        }
+    }
+}
+
+impl Error for StateFault {}
 
 impl Sign {
     /// Puts a row of a saved state where one is that is not used. Its text is looked at when it is activated.
@@ -114,7 +162,7 @@ impl Sign {
     fn parts_fault(&self, parts: &SignParts) -> Option<StateFault>
         ensures { result ≡ parts_fault self.now parts.now }
     {
-        if let Some(fault) = value_fault(&self.face, parts) {
+        if let Some(fault) = self.set_fault(&parts.settings, parts.silent_seconds) {
             return Some(fault);
         }
         if let Some(fault) = self.message_fault(&parts.shown) {
@@ -122,40 +170,84 @@ impl Sign {
         }
         match self.message_fault(&parts.shown_at_power_loss) {
             Some(fault) => Some(StateFault::Kept(fault)),
-            None => None,
+            None => told_fault(parts),
+        }
+    }
+
+    /// The first thing for which what was set and the silence are not taken up.
+    pub fn set_fault(&self, settings: &SignSettings, silent_seconds: u32) -> Option<StateFault>
+        ensures { result ≡ set_fault self.now.config.face settings.now silent_seconds }
+    {
+        if !fits(&settings.defaults, &self.face) {
+            Some(StateFault::Defaults)
+        } else if silent_seconds > 60 * 65535 {
+            Some(StateFault::Silence)
+        } else {
+            None
         }
     }
 
     /// The first thing for which a message is not taken up.
-    fn message_fault(&self, shown: &Shown) -> Option<MessageFault>
-        ensures { result ≡ message_fault self.now.table.services self.now.config.face shown.now }
+    pub fn message_fault(&self, shown: &Shown) -> Option<MessageFault>
+        ensures { result ≡ message_fault self.now.table self.now.config.face shown.now }
     {
         match shown.saved().fault() {
             Some(fault) => Some(MessageFault::Shown(fault)),
-            None => standing_fault(self.table.services(), &self.face, shown),
+            None => standing_fault(&self.table, &self.face, shown),
         }
     }
 }
 
-/// The first thing that is wrong with what was set, with the silence and with the reports.
-fn value_fault(face: &Face, parts: &SignParts) -> Option<StateFault>
-    ensures { result ≡ value_fault face.now parts.now }
+/// The first thing that is wrong with the reports, and with the power.
+fn told_fault(parts: &SignParts) -> Option<StateFault>
+    ensures { result ≡ told_fault parts.now }
 {
-    if !fits(&parts.settings.defaults, face) {
-        Some(StateFault::Defaults)
-    } else if parts.silent_seconds > 60 * 65535 {
-        Some(StateFault::Silence)
-    } else if usize::from(parts.reports.syntax_error_position) > MAX_TEXT {
-        Some(StateFault::Position)
-    } else {
-        None
+    match parts.reports.fault() {
+        Some(fault) => Some(StateFault::Reports(fault)),
+        None if has_its_power(parts) => None,
+        None => Some(StateFault::Power),
     }
 }
 
-/// The first thing for which a sign of these services and this face cannot show a message.
-fn standing_fault(services: Services, face: &Face, shown: &Shown) -> Option<MessageFault>
-    ensures { result ≡ standing_fault services face.now shown.now }
+fn report_fault_text(fault: ReportFault) -> &'static str
+    ensures { result.now ≡ report_fault_text fault }
 {
+    match fault {
+        ReportFault::ValidateError => "no such error of a validation",
+        ReportFault::ActivateError => "no such error of an activation",
+        ReportFault::SyntaxError => "no such fault of a text",
+        ReportFault::Position => "no such place of this fault",
+    }
+}
+
+/// Whether there is power where something else than a loss of power put up what is shown, and there alone; it never put
+/// up what was kept.
+fn has_its_power(parts: &SignParts) -> bool
+    ensures { result ≡ has_its_power parts.now }
+{
+    let without_power = parts.shown.mode == Mode::PowerLoss.number();
+    parts.powered != without_power && parts.shown_at_power_loss.mode != Mode::PowerLoss.number()
+}
+
+/// Whether the table has a row of the name of a code.
+fn names_a_row(table: &Table, id: MessageId) -> bool
+    ensures { result ≡ names_a_row table.now id }
+{
+    let id = RowId {
+        memory: id.memory,
+        number: id.number,
+    };
+    table.row(id).is_some()
+}
+
+/// The first thing for which a sign of this table and this face cannot show a message.
+fn standing_fault(table: &Table, face: &Face, shown: &Shown) -> Option<MessageFault>
+    ensures { result ≡ standing_fault table.now face.now shown.now }
+{
+    if !names_a_row(table, shown.source) {
+        return Some(MessageFault::Source);
+    }
+    let services = table.services();
     if shown.beacon == 1 && !services.beacon {
         return Some(MessageFault::Beacons);
     }
