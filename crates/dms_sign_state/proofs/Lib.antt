@@ -20,3 +20,7 @@ pub mod SettingForms
 pub mod RowForms
 -- the whole text
 pub mod StateForms
+-- rows that are put one after the other
+pub mod RowsPut
+-- the text of a sign that was restored
+pub mod RestoredText
