@@ -70,8 +70,8 @@ fn answer_command(alloc: Global, centre: &mut Centre, line: &[u8]) -> Result<Vec
     ensures unchanged { OnErr result (centre.new.state ≡ centre.old.state) }
 {
     match read_command(alloc, centre.order(), line)? {
-        Some(asked) => give(alloc, centre, asked.lent()),
-        None => bad_line(alloc),
+        Ok(asked) => give(alloc, centre, asked.lent()),
+        Err(_) => bad_line(alloc),
     }
 }
 

@@ -28,7 +28,7 @@ use Rattle.dms_text_forms.proofs.WordReading.{last_found, by_text}
 use Rattle.dms_text_forms.proofs.FieldLaws.{same_rest, next_octets_found, next_octets_only}
 use Rattle.dms_centre_text.specs.CommandFields.{SpellsAddressPart, SpellsAddress, SpellsCode}
 use Rattle.dms_centre_text.specs.CommandLine.{SpellsPublication, SpellsBlank, SpellsCommand}
-use Rattle.dms_centre_text.specs.CommandReading.{address_at, address_of, code_from, last_code_at, row_at, attributes_at, last_terms_at, publish_at, blank_at, command_word, command_after, command_of}
+use Rattle.dms_centre_text.specs.CommandReading.{address_at, address_of, code_from, code_at, last_code_at, next_address_at, row_at, attributes_at, last_terms_at, publish_at, blank_at, command_word, command_after, command_of}
 use Rattle.dms_centre_text.specs.declared.command_word.CommandWord.{CommandWord}
 use Rattle.dms_centre_text.specs.declared.command_word.CommandWord.TheVariants as key
 
@@ -109,24 +109,41 @@ code_only order word code spelled =
       omega (arith, twelve, digits),
     )
 
+record FoundCode (order : Order) (words : List (List ℕ)) (found : Activation × List (List ℕ)) : Type 0 where
+  word : List ℕ
+  words_are : words ≡ word ∷ found.1
+  spelled : SpellsCode order found.0 word
+
+next_code_found : (order : Order) (words : List (List ℕ)) (found : Activation × List (List ℕ)) → code_at order words ≡ Some found → FoundCode order words found
+unfolding code_at
+next_code_found order words found e =
+    let read = begun _ _ _ e in
+    let code = begun _ _ _ read.2 in
+    subst (FoundCode order words) (same_Some _ _ code.2) (record {
+      word = read.0.0;
+      words_are = (word_found words read.0 read.1).0;
+      spelled = code_found order read.0.0 code.0 code.1;
+    })
+
 last_code_found : (order : Order) (keyword : List ℕ) (words : List (List ℕ)) (code : Activation) → last_code_at order words ≡ Some code
     → SpellsOne keyword (SpellsCode order code) (keyword ∷ words)
 unfolding last_code_at
 last_code_found order keyword words code e =
     let read = begun _ _ _ e in
-    let found = begun _ _ _ read.2 in
-    let end = last_found found.0 read.0.1 code found.2 in
+    let at_code = next_code_found order words read.0 read.1 in
+    let end = last_found read.0.0 read.0.1 code read.2 in
     record {
-      word = read.0.0;
-      words_are = ap (λ rest. keyword ∷ rest) ((word_found words read.0 read.1).0 ∙ ap (λ rest. read.0.0 ∷ rest) end.0);
-      spelled = subst (λ c. SpellsCode order c read.0.0) end.1 (code_found order read.0.0 found.0 found.1);
+      word = at_code.word;
+      words_are = ap (λ rest. keyword ∷ rest) (at_code.words_are ∙ ap (λ rest. at_code.word ∷ rest) end.0);
+      spelled = subst (λ c. SpellsCode order c at_code.word) end.1 at_code.spelled;
     }
 
 last_code_only : (order : Order) (word : List ℕ) (code : Activation) → SpellsCode order code word → last_code_at order (word ∷ []) ≡ Some code
-unfolding last_code_at
+unfolding last_code_at code_at
 last_code_only order word code spelled =
     let is = code_only order word code spelled in
-    goes_on _ _ _ (word_only word [] is.1) ∙ goes_on _ _ _ is.0
+    let found : code_at order (word ∷ []) ≡ Some (code, []) = goes_on _ _ _ (word_only word [] is.1) ∙ goes_on _ _ _ is.0 in
+    goes_on _ _ _ found
 
 -- ---- addresses
 
@@ -257,6 +274,22 @@ attributes_only beacon pixel run_priority beacon_word pixel_word run_word rest i
     ∙ goes_on _ _ _ (decimal_only 0 255 pixel pixel_word _ in_pixel)
     ∙ goes_on _ _ _ (decimal_only 0 255 run_priority run_word rest in_run)
 
+record FoundAddress (words : List (List ℕ)) (found : List ℕ × List (List ℕ)) : Type 0 where
+  word : List ℕ
+  words_are : words ≡ word ∷ found.1
+  spelled : SpellsAddress found.0 word
+
+next_address_found : (words : List (List ℕ)) (found : List ℕ × List (List ℕ)) → next_address_at words ≡ Some found → FoundAddress words found
+unfolding next_address_at
+next_address_found words found e =
+    let read = begun _ _ _ e in
+    let address = begun _ _ _ read.2 in
+    subst (FoundAddress words) (same_Some _ _ address.2) (record {
+      word = read.0.0;
+      words_are = (word_found words read.0 read.1).0;
+      spelled = address_found read.0.0 address.0 address.1;
+    })
+
 record FoundTerms (words : List (List ℕ)) (terms : Terms) : Type 0 where
   minutes_word : List ℕ
   priority_word : List ℕ
@@ -271,31 +304,32 @@ unfolding last_terms_at
 terms_found words terms e =
     let minutes = begun _ _ _ e in
     let priority = begun _ _ _ minutes.2 in
-    let word = begun _ _ _ priority.2 in
-    let address = begun _ _ _ word.2 in
+    let address = begun _ _ _ priority.2 in
     let at_minutes = decimal_found 0 65535 words minutes.0 minutes.1 in
     let at_priority = decimal_found 0 255 minutes.0.1 priority.0 priority.1 in
-    let end = last_found _ word.0.1 terms address.2 in
+    let at_address = next_address_found priority.0.1 address.0 address.1 in
+    let end = last_found _ address.0.1 terms address.2 in
     subst (FoundTerms words) end.1 (record {
       minutes_word = at_minutes.word;
       priority_word = at_priority.word;
-      address_word = word.0.0;
+      address_word = at_address.word;
       words_are = at_minutes.words_are ∙ ap (λ rest. at_minutes.word ∷ rest) (at_priority.words_are ∙ ap (λ rest. at_priority.word ∷ rest)
-          ((word_found priority.0.1 word.0 word.1).0 ∙ ap (λ rest. word.0.0 ∷ rest) end.0));
+          (at_address.words_are ∙ ap (λ rest. at_address.word ∷ rest) end.0));
       minutes = at_minutes.spelled;
       priority = at_priority.spelled;
-      address = address_found word.0.0 address.0 address.1;
+      address = at_address.spelled;
     })
 
 terms_only : (minutes priority : ℕ) (address minutes_word priority_word address_word : List ℕ) → SpellsTwoOctets minutes minutes_word
     → SpellsOctet priority priority_word → SpellsAddress address address_word
     → last_terms_at (minutes_word ∷ priority_word ∷ address_word ∷ []) ≡ Some (record { minutes = minutes; priority = priority; address = address })
-unfolding last_terms_at
+unfolding last_terms_at next_address_at
 terms_only minutes priority address minutes_word priority_word address_word in_minutes in_priority in_address =
+    let found : next_address_at (address_word ∷ []) ≡ Some (address, []) =
+    goes_on _ _ _ (word_only address_word [] (address_some address_word address in_address)) ∙ goes_on _ _ _ (address_only address_word address in_address) in
     goes_on _ _ _ (decimal_only 0 65535 minutes minutes_word _ in_minutes)
     ∙ goes_on _ _ _ (decimal_only 0 255 priority priority_word _ in_priority)
-    ∙ goes_on _ _ _ (word_only address_word [] (address_some address_word address in_address))
-    ∙ goes_on _ _ _ (address_only address_word address in_address)
+    ∙ goes_on _ _ _ found
 
 publish_found : (order : Order) (words : List (List ℕ)) (asked : CommandModel) → publish_at words ≡ Some asked
     → SpellsCommand order asked (codes "publish" ∷ words)

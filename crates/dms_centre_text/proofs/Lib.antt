@@ -1,3 +1,4 @@
 pub mod CommandLaws
 mod LedgerLines
 pub mod CodeDigits
+pub mod WantedWords

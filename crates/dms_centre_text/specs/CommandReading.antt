@@ -39,12 +39,25 @@ abbrev pub code_from : Order → Result (List ℕ) FromHexError → Option Activ
 code_from order (Ok octets) = if length octets == 12 then Some (activation_of order octets) else None
 code_from order (Err fault) = None
 
+-- a code, and the words after it
+unfoldable pub code_at : Order → List (List ℕ) → Option (Activation × List (List ℕ))
+code_at order words = do
+  found ← word_at words
+  code ← code_from order (decode_of found.0)
+  Some (code, found.1)
+
 -- a code, and nothing after it
 unfoldable pub last_code_at : Order → List (List ℕ) → Option Activation
 last_code_at order words = do
+  code ← code_at order words
+  if_last code.0 code.1
+
+-- an address, and the words after it
+unfoldable pub next_address_at : List (List ℕ) → Option (List ℕ × List (List ℕ))
+next_address_at words = do
   found ← word_at words
-  code ← code_from order (decode_of found.0)
-  if_last code found.1
+  address ← address_of found.0
+  Some (address, found.1)
 
 -- ---- commands
 
@@ -68,9 +81,8 @@ unfoldable pub last_terms_at : List (List ℕ) → Option Terms
 last_terms_at words = do
   minutes ← two_octets_at words
   priority ← octet_at minutes.1
-  found ← word_at priority.1
-  address ← address_of found.0
-  if_last (record { minutes = minutes.0; priority = priority.0; address = address }) found.1
+  address ← next_address_at priority.1
+  if_last (record { minutes = minutes.0; priority = priority.0; address = address.0 }) address.1
 
 unfoldable pub publish_at : List (List ℕ) → Option CommandModel
 publish_at words = do

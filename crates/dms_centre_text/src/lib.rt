@@ -9,10 +9,11 @@
 //! ```
 //! let line = b"blank 1 65535 255 10.0.0.1".as_slice();
 //! let asked = read_command(alloc, Order::High, line)?;
-//! assert!(rt; matches!(asked, Some(OwnedCommand::Blank { number: 1, terms }) if terms.minutes == 65535));
+//! assert!(rt; matches!(asked, Ok(OwnedCommand::Blank { number: 1, terms }) if terms.minutes == 65535));
 //! ```
 #![tactic(auto)]
 
+mod cause;
 mod command_word;
 mod fields;
 pub mod laws;
@@ -20,6 +21,7 @@ mod ledger_text;
 mod owned_command;
 mod reading;
 
+pub use cause::CommandCause;
 pub use command_word::CommandWord;
 pub use fields::address;
 pub use ledger_text::{put_code, put_ledger};

@@ -1,5 +1,5 @@
 -- A line of an event whose words are all as they are wanted is read.
-use Rattle.std.proofs.Common.{◌≡◌, ℕ, ◌+◌, true, cond, List, [], ◌∷◌, Option, Some, None, option_map, Result, Ok, Err, refl, sym, ap, subst, ◌∙◌}
+use Rattle.std.proofs.Common.{◌≡◌, ℕ, ◌+◌, true, cond, List, [], ◌∷◌, Option, Some, None, option_map, Result, Ok, Err, refl, ap, ◌∙◌}
 use Rattle.std.proofs.lemmas.Option.{same_Some}
 use Rattle.hex.specs.Hex.{decode_of}
 use Rattle.hex.specs.declared.error.FromHexError.{FromHexError}
@@ -14,19 +14,18 @@ use Rattle.dms_codes.proofs.Options.{mapped_none}
 use Rattle.dms_centre_jobs.specs.declared.publication.Attributes.{Attributes}
 use Rattle.dms_centre_jobs.specs.declared.publication.Terms.{Terms}
 use Rattle.dms_centre_jobs.specs.Commands.{CommandModel, Activate}
-use Rattle.dms_text_forms.specs.Form.{ends, is_twelve, fault_from, word_fault}
+use Rattle.dms_text_forms.specs.Form.{ends, is_twelve, fault_from}
 use Rattle.dms_text_forms.specs.Form as form
 use Rattle.dms_text_forms.specs.FieldsReading.{if_last, last_number_at, octets_at, last_octets_at}
-use Rattle.dms_text_forms.specs.declared.vocabulary.Keyword.{Keyword}
 use Rattle.dms_text_forms.specs.declared.vocabulary.WordName.{WordName}
 use Rattle.dms_text_forms.specs.declared.wanted.Wanted.{Wanted}
 use Rattle.dms_text_forms.specs.declared.wanted.Wanted.TheVariants as wanted
 use Rattle.dms_sign_text.proofs.WordsFit.{fitting, ended, within_fits, then_within, number_fits, octets_fit}
-use Rattle.dms_centre_text.specs.CommandReading.{address_at, code_from, last_code_at, row_at, attributes_at, last_terms_at, publish_at, blank_at}
+use Rattle.dms_centre_text.specs.CommandReading.{address_at, code_from, code_at, last_code_at, next_address_at, row_at, attributes_at, last_terms_at, publish_at, blank_at}
 use Rattle.dms_centre_text.specs.declared.command_word.CommandWord.TheVariants as asked
 use Rattle.dms_world.specs.Event.{EventModel, command, sign_tick, centre_tick, to_sign, to_centre, power_lost, power_back, centre_restart, forge_sign, forge_centre}
 use Rattle.dms_replay.specs.EventReading.{keyword_of, event_after, event_of}
-use Rattle.dms_replay.specs.Reasons.{event_form, keyword_cause, words_cause, event_cause}
+use Rattle.dms_replay.specs.EventForm.{form_after, cause_after, cause_at, event_cause}
 use Rattle.dms_replay.specs.declared.keyword.EventKeyword.{EventKeyword}
 use Rattle.dms_replay.specs.declared.keyword.EventKeyword.TheVariants as key
 
@@ -73,11 +72,12 @@ code_of_twelve order (Err fault) e = absurd (cc)
 
 -- a code
 code_read : (order : Order) (place : ℕ) (words : List (List ℕ)) → fault_from place (wanted.Code ∷ []) words ≡ None → (code : Activation) × (last_code_at order words ≡ Some code)
-unfolding last_code_at
+unfolding last_code_at code_at
 code_read order place words e =
     let next = fitting place wanted.Code [] words e in
     let code = code_of_twelve order (decode_of next.word) next.fits in
-    (code.0, goes_on _ _ _ next.found ∙ goes_on _ _ _ code.1 ∙ ap (if_last code.0) (ended _ next.rest next.others))
+    let found : code_at order words ≡ Some (code.0, next.rest) = goes_on _ _ _ next.found ∙ goes_on _ _ _ code.1 in
+    (code.0, goes_on _ _ _ found ∙ ap (if_last code.0) (ended _ next.rest next.others))
 
 address_read : (parts : List (List ℕ)) (left : Option (List (List ℕ))) → form.address_at parts ≡ left → ends left ≡ true → (address : List ℕ) × (address_at parts ≡ Some address)
 unfolding form.address_at address_at
@@ -93,14 +93,15 @@ address_read parts (Some rest) is e =
 
 -- the terms of an activation
 terms_read : (place : ℕ) (words : List (List ℕ)) → fault_from place (wanted.Number 0 65535 ∷ wanted.Number 0 255 ∷ wanted.Address ∷ []) words ≡ None → (terms : Terms) × (last_terms_at words ≡ Some terms)
-unfolding last_terms_at
+unfolding last_terms_at next_address_at
 terms_read place words e =
     let minutes = number_fits place 0 65535 _ words e in
     let priority = number_fits _ 0 255 _ minutes.0.1 minutes.2 in
     let next = fitting _ wanted.Address [] priority.0.1 priority.2 in
     let address = address_read (parts_of 46 next.word) (form.address_at (parts_of 46 next.word)) refl next.fits in
     let terms : Terms = record { minutes = minutes.0.0; priority = priority.0.0; address = address.0 } in
-    (terms, goes_on _ _ _ minutes.1 ∙ goes_on _ _ _ priority.1 ∙ goes_on _ _ _ next.found ∙ goes_on _ _ _ address.1 ∙ ap (if_last terms) (ended _ next.rest next.others))
+    let found : next_address_at priority.0.1 ≡ Some (address.0, next.rest) = goes_on _ _ _ next.found ∙ goes_on _ _ _ address.1 in
+    (terms, goes_on _ _ _ minutes.1 ∙ goes_on _ _ _ priority.1 ∙ goes_on _ _ _ found ∙ ap (if_last terms) (ended _ next.rest next.others))
 
 row_read : (place : ℕ) (more : List Wanted) (words : List (List ℕ)) → fault_from place (wanted.Number 0 255 ∷ wanted.Number 0 65535 ∷ more) words ≡ None
     → (found : RowId × List (List ℕ)) × (row_at words ≡ Some found) × (fault_from ((place + 1) + 1) more found.1 ≡ None)
@@ -144,42 +145,34 @@ blank_read place words e =
 
 -- ---- lines
 
--- where the keyword is as it is wanted, so are the words after it
-after_keyword : (keyword : Keyword) (more : List Wanted) (words : List (List ℕ)) (found : List ℕ × List (List ℕ)) → word_at words ≡ Some found
-    → word_fault (wanted.Keyword keyword ∷ more) words ≡ None → fault_from (1 + 1) more found.1 ≡ None
-after_keyword keyword more words found is e =
-    let next = fitting 1 (wanted.Keyword keyword) more words e in
-    let same : (next.word, next.rest) ≡ found = same_Some _ _ (sym next.found ∙ is) in
-    subst (λ rest. fault_from (1 + 1) more rest ≡ None) (ap (λ (pair : List ℕ × List (List ℕ)). pair.1) same) next.others
-
 -- what is made of a value that is read is read
 made : {A B : Type 0} (f : A → B) (o : Option A) → (x : A) × (o ≡ Some x) → (y : B) × (option_map f o ≡ Some y)
 made f o found = (f found.0, ap (option_map f) found.1)
 
-after_fits : (order : Order) (keyword : EventKeyword) (words : List (List ℕ)) (found : List ℕ × List (List ℕ)) → word_at words ≡ Some found → word_fault (event_form keyword) words ≡ None
-    → (event : EventModel) × (event_after order keyword found.1 ≡ Some event)
-after_fits order (key.Command asked.Publish) words found is e = made command _ (publish_read _ _ _ found.1 (after_keyword _ _ words found is e))
-after_fits order (key.Command asked.Blank) words found is e = made command _ (blank_read _ found.1 (after_keyword _ _ words found is e))
-after_fits order (key.Command asked.Activate) words found is e = made command _ (made Activate _ (code_read order _ found.1 (after_keyword _ _ words found is e)))
-after_fits order key.SignTick words found is e = alone_read sign_tick _ found.1 (after_keyword _ _ words found is e)
-after_fits order key.CentreTick words found is e = alone_read centre_tick _ found.1 (after_keyword _ _ words found is e)
-after_fits order key.ToSign words found is e = made to_sign _ (number_read _ found.1 (after_keyword _ _ words found is e))
-after_fits order key.ToCentre words found is e = made to_centre _ (number_read _ found.1 (after_keyword _ _ words found is e))
-after_fits order key.PowerLost words found is e = alone_read power_lost _ found.1 (after_keyword _ _ words found is e)
-after_fits order key.PowerBack words found is e = made power_back _ (number_read _ found.1 (after_keyword _ _ words found is e))
-after_fits order key.CentreRestart words found is e = alone_read centre_restart _ found.1 (after_keyword _ _ words found is e)
-after_fits order key.ForgeSign words found is e = made forge_sign _ (last_octets_read _ _ found.1 (after_keyword _ _ words found is e))
-after_fits order key.ForgeCentre words found is e = made forge_centre _ (last_octets_read _ _ found.1 (after_keyword _ _ words found is e))
+after_fits : (order : Order) (keyword : EventKeyword) (place : ℕ) (words : List (List ℕ)) → fault_from place (form_after keyword) words ≡ None
+    → (event : EventModel) × (event_after order keyword words ≡ Some event)
+after_fits order (key.Command asked.Publish) place words e = made command _ (publish_read place _ _ words e)
+after_fits order (key.Command asked.Blank) place words e = made command _ (blank_read place words e)
+after_fits order (key.Command asked.Activate) place words e = made command _ (made Activate _ (code_read order place words e))
+after_fits order key.SignTick place words e = alone_read sign_tick place words e
+after_fits order key.CentreTick place words e = alone_read centre_tick place words e
+after_fits order key.ToSign place words e = made to_sign _ (number_read place words e)
+after_fits order key.ToCentre place words e = made to_centre _ (number_read place words e)
+after_fits order key.PowerLost place words e = alone_read power_lost place words e
+after_fits order key.PowerBack place words e = made power_back _ (number_read place words e)
+after_fits order key.CentreRestart place words e = alone_read centre_restart place words e
+after_fits order key.ForgeSign place words e = made forge_sign _ (last_octets_read place _ words e)
+after_fits order key.ForgeCentre place words e = made forge_centre _ (last_octets_read place _ words e)
 
 by_keyword : (order : Order) (line : List ℕ) (found : List ℕ × List (List ℕ)) (keyword : Option EventKeyword) → word_at (words_of line) ≡ Some found → keyword_of found.0 ≡ keyword
-    → keyword_cause (words_of line) keyword ≡ None → (event : EventModel) × (event_of order line ≡ Some event)
+    → cause_after found.1 keyword ≡ None → (event : EventModel) × (event_of order line ≡ Some event)
 unfolding event_of
 by_keyword order line found None is named e = absurd (cc)
 by_keyword order line found (Some keyword) is named e =
-    let read = after_fits order keyword (words_of line) found is (mapped_none _ _ e) in
+    let read = after_fits order keyword 2 found.1 (mapped_none _ _ e) in
     (read.0, goes_on _ _ _ is ∙ goes_on _ _ _ named ∙ read.1)
 
-by_word : (order : Order) (line : List ℕ) (found : Option (List ℕ × List (List ℕ))) → word_at (words_of line) ≡ found → words_cause (words_of line) found ≡ None
+by_word : (order : Order) (line : List ℕ) (found : Option (List ℕ × List (List ℕ))) → word_at (words_of line) ≡ found → cause_at found ≡ None
     → (event : EventModel) × (event_of order line ≡ Some event)
 by_word order line None is e = absurd (cc)
 by_word order line (Some found) is e = by_keyword order line found (keyword_of found.0) is refl e

@@ -128,20 +128,14 @@ event_only order line (forge_sign datagram) spelled =
 event_only order line (forge_centre datagram) spelled =
     line_read order key.ForgeCentre line _ spelled.words_are ∙ ap (option_map forge_centre) (last_octets_only datagram spelled.word spelled.spelled)
 
-spelled_if_read : (order : Order) (line : List ℕ) (found : Option ScriptEvent) → option_map script_event_model found ≡ event_of order line
-    → IfSome found (λ event. SpellsEvent order (script_event_model event) line)
-spelled_if_read order line None e = tt
-spelled_if_read order line (Some event) e = event_found order line (script_event_model event) (sym e)
+pub spelled_if_read : (order : Order) (line : List ℕ) (event : ScriptEvent) → Some (script_event_model event) ≡ event_of order line
+    → SpellsEvent order (script_event_model event) line
+spelled_if_read order line event e = event_found order line (script_event_model event) (sym e)
 
-pub none_if_not_read : (order : Order) (line : List ℕ) (found : Option ScriptEvent) → option_map script_event_model found ≡ event_of order line
-    → IfNone found ((event : EventModel) → SpellsEvent order event line → ⊥)
-none_if_not_read order line None e = λ event spelled. let never : None ≡ Some event = e ∙ event_only order line event spelled in cc
-none_if_not_read order line (Some found) e = tt
+pub none_if_not_read : (order : Order) (line : List ℕ) → None ≡ event_of order line → (event : EventModel) → SpellsEvent order event line → ⊥
+none_if_not_read order line e event spelled = let never : None ≡ Some event = e ∙ event_only order line event spelled in cc
 
-pub spelled_if_ok : {E : Type 0} (order : Order) (line : List ℕ) (result : Result (Option ScriptEvent) E)
-    → IfOk result (λ found. option_map script_event_model found ≡ event_of order line) → IfOk result (λ found. IfSome found (λ event. SpellsEvent order (script_event_model event) line))
-spelled_if_ok order line (Ok found) e = spelled_if_read order line found e
-spelled_if_ok order line (Err fault) e = tt
+pub ruleset events_spelled = (spelled_if_read, none_if_not_read)
 
 -- a line spells at most one event
 pub one_event : (order : Order) (line : List ℕ) (one other : EventModel) → SpellsEvent order one line → SpellsEvent order other line → one ≡ other

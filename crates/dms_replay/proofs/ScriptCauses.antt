@@ -24,11 +24,12 @@ use Rattle.dms_sign_text.specs.declared.setup.Setup.{Setup}
 use Rattle.dms_sign_text.proofs.LastLines.{last_are}
 use Rattle.dms_replay.specs.EventLine.{SpellsEvent}
 use Rattle.dms_replay.specs.EventReading.{event_of}
-use Rattle.dms_replay.specs.Reasons.{line_numbered, event_cause, event_cause_at, NamesASign, IsCauseOf}
+use Rattle.dms_replay.specs.EventForm.{event_cause}
+use Rattle.dms_replay.specs.Reasons.{line_numbered, event_cause_at, NamesASign, IsCauseOf}
 use Rattle.dms_replay.specs.RefusedScript.{from_no_event, no_event_number, IsRefusedIn, NamesLine}
 use Rattle.dms_replay.specs.RefusedScript as script_fault
 use Rattle.dms_replay.specs.Script.{described, NamesPrefix, SpellsScript}
-use Rattle.dms_replay.specs.declared.reasons.EventCause.{EventCause}
+use Rattle.dms_replay.specs.declared.event_cause.EventCause.{EventCause}
 use Rattle.dms_replay.specs.declared.reasons.ScriptCause.{ScriptCause}
 use Rattle.dms_replay.specs.declared.reasons.ScriptCause.TheVariants as causes
 use Rattle.dms_replay.proofs.EventFits.{event_fits}

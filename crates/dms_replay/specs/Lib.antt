@@ -1,5 +1,6 @@
 -- what a reader must believe: scripts of events, and reports of runs, as text
 pub mod EventLine
+pub mod EventForm
 pub mod Script
 pub mod RefusedScript
 pub mod Report

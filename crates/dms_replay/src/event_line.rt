@@ -1,67 +1,123 @@
 //! The lines of a script's events.
 
-ghost use Rattle.std.specs.Prelude.{◌≡◌, true, IfOk, IfSome, IfNone, OnErr, option_map};
-ghost use Rattle.dms_world.specs.Event.{EventModel};
-ghost use Rattle.dms_replay.specs.EventLine.{SpellsEvent};
+ghost use Rattle.std.specs.Prelude.{◌≡◌, ◌<◌, [], true, IfOk, IfSome, IfNone, OnErr, option_map};
+ghost use Rattle.std.specs.Result.{result_ok, result_err};
+ghost use Rattle.dms_text_forms.specs.Form.{fault_from};
 ghost use Rattle.dms_text_forms.specs.FieldsReading.{if_last};
-ghost use Rattle.dms_replay.specs.EventReading.{event_of, has_octets};
+ghost use Rattle.dms_world.specs.Event.{EventModel};
+ghost use Rattle.dms_replay.specs.EventForm.{form_after, event_cause};
+ghost use Rattle.dms_replay.specs.EventLine.{SpellsEvent};
+ghost use Rattle.dms_replay.specs.EventReading.{event_after, event_of, has_octets};
 ghost use Rattle.dms_replay.specs.EventView.{script_event_model};
+ghost use Rattle.dms_replay.specs.declared.keyword.EventKeyword.TheVariants.{Command};
 
+use crate::event_cause::EventCause;
 use crate::keyword::EventKeyword;
 use crate::script_event::ScriptEvent;
-use dms_centre_text::command_after;
+use dms_centre_text::{CommandWord, command_after};
 use dms_codes::Order;
 use dms_text::Words;
-use dms_text_forms::fields::{last_number, last_octets};
+use dms_text_forms::{LineWords, WordFault, WordName};
 use std::alloc::{AllocError, Global};
 
 /// The event that a line spells, or none where it spells none; it spells no other. A code is in this order. Only an
 /// event that has octets wants memory, and no line at fault.
-#[tactic(auto, using(crate::proofs::EventLaws::none_if_not_read))]
+#[tactic(auto, using(crate::proofs::EventLaws::events_spelled))]
 pub fn event(alloc: Global, order: Order, line: &[u8]) -> Result<Option<ScriptEvent>, AllocError>
     ensures read { IfOk result (λ found. IfSome found (λ event.
         SpellsEvent order (script_event_model event) line.now)) }
     ensures none { IfOk result (λ found. IfNone found ((event : EventModel) → SpellsEvent order event line.now → ⊥)) }
     ensures spelled { OnErr result (has_octets (event_of order line.now) ≡ true) }
 {
-    read_event(alloc, order, line)
+    match read_event(alloc, order, line)? {
+        Ok(event) => Ok(Some(event)),
+        Err(_) => Ok(None),
+    }
 }
 
-/// The event that is read of a line. Only one that has octets wants memory.
-#[tactic(auto, unfolding(crate::specs::EventReading::event_of), using(crate::proofs::EventMemory::octets_kept))]
+/// The event that is read of a line, or why none is. Only one that has octets wants memory.
+#[tactic(auto, unfolding(crate::specs::EventReading::event_of))]
 pub fn read_event(
     alloc: Global,
     order: Order,
     line: &[u8],
-) -> Result<Option<ScriptEvent>, AllocError>
-    ensures read { IfOk result (λ found. option_map script_event_model found ≡ event_of order line.now) }
+) -> Result<Result<ScriptEvent, EventCause>, AllocError>
+    ensures read { IfOk result (λ read. option_map script_event_model (result_ok read) ≡ event_of order line.now) }
+    ensures cause { IfOk result (λ read. result_err read ≡ event_cause line.now) }
     ensures spelled { OnErr result (has_octets (event_of order line.now) ≡ true) }
 {
     let Some((word, words)) = Words::of(line).next_word() else {
-        return Ok(None);
+        return Ok(Err(EventCause::Keyword));
     };
     let Some(keyword) = EventKeyword::of(word) else {
-        return Ok(None);
+        return Ok(Err(EventCause::Keyword));
     };
-    match keyword {
-        EventKeyword::Command(asked) => {
-            Ok(command_after(alloc, order, asked, words)?.map(ScriptEvent::Command))
-        }
-        EventKeyword::SignTick => Ok(alone(words, ScriptEvent::SignTick)),
-        EventKeyword::CentreTick => Ok(alone(words, ScriptEvent::CentreTick)),
-        EventKeyword::ToSign => Ok(last_number(words).map(ScriptEvent::ToSign)),
-        EventKeyword::ToCentre => Ok(last_number(words).map(ScriptEvent::ToCentre)),
-        EventKeyword::PowerLost => Ok(alone(words, ScriptEvent::PowerLost)),
-        EventKeyword::PowerBack => Ok(last_number(words).map(ScriptEvent::PowerBack)),
-        EventKeyword::CentreRestart => Ok(alone(words, ScriptEvent::CentreRestart)),
-        EventKeyword::ForgeSign => Ok(last_octets(alloc, words)?.map(ScriptEvent::ForgeSign)),
-        EventKeyword::ForgeCentre => Ok(last_octets(alloc, words)?.map(ScriptEvent::ForgeCentre)),
+    match event_after(alloc, order, keyword, LineWords { place: 2, words })? {
+        Ok(event) => Ok(Ok(event)),
+        Err(fault) => Ok(Err(EventCause::Word(fault))),
     }
 }
 
-/// The event, where no words are left.
-fn alone(words: Words<'_>, event: ScriptEvent) -> Option<ScriptEvent>
-    ensures { result ≡ if_last event words.entry }
+/// The event that begins with this word and goes on with these, or the first of these that is not what is wanted.
+#[tactic(auto, using(crate::proofs::EventMemory::octets_kept))]
+fn event_after(
+    alloc: Global,
+    order: Order,
+    keyword: EventKeyword,
+    words: LineWords<'_>,
+) -> Result<Result<ScriptEvent, WordFault>, AllocError>
+    requires { words.place < 8 }
+    ensures read { IfOk result (λ read. option_map script_event_model (result_ok read)
+        ≡ event_after order keyword words.entry.words) }
+    ensures fault { IfOk result (λ read. result_err read
+        ≡ fault_from words.entry.place (form_after keyword) words.entry.words) }
+    ensures spelled { OnErr result (has_octets (event_after order keyword words.entry.words) ≡ true) }
 {
-    if words.is_empty() { Some(event) } else { None }
+    match keyword {
+        EventKeyword::Command(asked) => command(alloc, order, asked, words),
+        EventKeyword::SignTick => Ok(alone(words, ScriptEvent::SignTick)),
+        EventKeyword::CentreTick => Ok(alone(words, ScriptEvent::CentreTick)),
+        EventKeyword::ToSign => Ok(words.last_number().map(ScriptEvent::ToSign)),
+        EventKeyword::ToCentre => Ok(words.last_number().map(ScriptEvent::ToCentre)),
+        EventKeyword::PowerLost => Ok(alone(words, ScriptEvent::PowerLost)),
+        EventKeyword::PowerBack => Ok(words.last_number().map(ScriptEvent::PowerBack)),
+        EventKeyword::CentreRestart => Ok(alone(words, ScriptEvent::CentreRestart)),
+        EventKeyword::ForgeSign => Ok(
+            words
+                .last_octets(alloc, WordName::Datagram)?
+                .map(ScriptEvent::ForgeSign),
+        ),
+        EventKeyword::ForgeCentre => Ok(
+            words
+                .last_octets(alloc, WordName::Datagram)?
+                .map(ScriptEvent::ForgeCentre),
+        ),
+    }
+}
+
+/// A command of the operator.
+#[tactic(auto, using(crate::proofs::EventMemory::octets_kept))]
+fn command(
+    alloc: Global,
+    order: Order,
+    asked: CommandWord,
+    words: LineWords<'_>,
+) -> Result<Result<ScriptEvent, WordFault>, AllocError>
+    requires { words.place < 8 }
+    ensures read { IfOk result (λ read. option_map script_event_model (result_ok read)
+        ≡ event_after order (Command asked) words.entry.words) }
+    ensures fault { IfOk result (λ read. result_err read
+        ≡ fault_from words.entry.place (form_after (Command asked)) words.entry.words) }
+    ensures spelled { OnErr result (has_octets (event_after order (Command asked) words.entry.words) ≡ true) }
+{
+    Ok(command_after(alloc, order, asked, words)?.map(ScriptEvent::Command))
+}
+
+/// The event, where no words are left.
+fn alone(words: LineWords<'_>, event: ScriptEvent) -> Result<ScriptEvent, WordFault>
+    ensures event { result_ok result ≡ if_last event words.entry.words }
+    ensures fault { result_err result ≡ fault_from words.entry.place [] words.entry.words }
+{
+    words.end()?;
+    Ok(event)
 }

@@ -28,8 +28,8 @@ fn read(alloc: Global, order: Order, line: Line<'_>) -> Result<ScriptEvent, Repl
     ensures number { IfErr result (NamesLine (λ number. number ≡ line.entry.number)) }
 {
     match read_event(alloc, order, line.octets)? {
-        Some(event) => Ok(event),
-        None => Err(ReplayFault::Line(line.number)),
+        Ok(event) => Ok(event),
+        Err(_) => Err(ReplayFault::Line(line.number)),
     }
 }
 

@@ -8,6 +8,7 @@
 //! ```
 #![tactic(auto)]
 
+mod event_cause;
 pub mod event_line;
 mod events;
 pub mod fault;
@@ -22,5 +23,6 @@ pub mod script_event;
 
 pub use dms_centre_text::address;
 pub use dms_sign_text::{LONGEST_INPUT, ReplayFault, described};
-pub use reasons::{EventCause, ScriptCause, why};
+pub use event_cause::EventCause;
+pub use reasons::{ScriptCause, why};
 pub use replaying::{bench, replay};

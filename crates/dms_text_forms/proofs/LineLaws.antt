@@ -1,8 +1,11 @@
 -- A line that is read word by word has no fault where each word is what is wanted, and else the first that is not.
 use Rattle.std.proofs.Common.{◌≡◌, ℕ, ◌+◌, true, false, List, [], ◌∷◌, Option, Some, None, arith, refl, ◌∙◌}
-use Rattle.dms_text.specs.Reading.{word_at, is_end}
+use Rattle.std.specs.Prelude.{IsSome}
+use Rattle.dms_text.specs.Reading.{word_at, octets_of, is_end}
 use Rattle.dms_text_forms.specs.Form.{is_number, is_wanted, fault_from}
-use Rattle.dms_text_forms.specs.LineReading.{number_within, Takes, Lacks}
+use Rattle.dms_text_forms.specs.FieldsReading.{octets_at}
+use Rattle.dms_text_forms.specs.FieldsView.{octets_in}
+use Rattle.dms_text_forms.specs.LineReading.{number_within, wanted_at, Takes, Lacks}
 use Rattle.dms_text_forms.specs.declared.vocabulary.WordName.{WordName}
 use Rattle.dms_text_forms.specs.declared.wanted.Wanted.{Wanted}
 use Rattle.dms_text_forms.specs.declared.wanted.Wanted.TheVariants as wants
@@ -84,3 +87,21 @@ pub later : (wanted : Wanted) (more : List Wanted) (line rest : LineWords) (foun
 later wanted more line rest found takes is = takes.others more ∙ is
 
 pub ruleset words = (here, later)
+
+-- ---- octets
+
+pub some_octets : (name : WordName) (words : List (List ℕ)) (word : List ℕ) (rest : List (List ℕ)) → wanted_at (wants.Octets name) words ≡ Some (word, rest)
+    → octets_at words ≡ Some (octets_in word, rest)
+unfolding wanted_at octets_at
+some_octets name words word rest e = grind (arith, e)
+
+pub no_octets : (name : WordName) (words : List (List ℕ)) → wanted_at (wants.Octets name) words ≡ None → octets_at words ≡ None
+unfolding wanted_at octets_at
+no_octets name words e = grind (arith, e)
+
+pub are_octets : (name : WordName) (words : List (List ℕ)) (word : List ℕ) (rest : List (List ℕ)) → wanted_at (wants.Octets name) words ≡ Some (word, rest)
+    → IsSome (octets_of word)
+unfolding wanted_at
+are_octets name words word rest e = grind (arith, e)
+
+pub ruleset octets_words = (some_octets, no_octets, are_octets)

@@ -6,7 +6,8 @@ use crate::fault::{WordFault, WordFaultKind};
 use crate::form::{fault_at_end, is_wanted, number_within};
 use crate::vocabulary::{Keyword, WordName};
 use crate::wanted::Wanted;
-use dms_text::Words;
+use dms_text::{Words, octets};
+use std::alloc::{AllocError, Global};
 
 /// The words that are left of a line, and the place of the first of them, from 1.
 #[derive(Drop)]
@@ -18,8 +19,13 @@ pub struct LineWords<'a> {
 impl<'a> LineWords<'a> {
     ghost use Rattle.std.specs.Prelude.{◌≡◌, ◌+◌, ◌≤◌, ◌<◌, ◌^◌, [], Some, None, IfOk, IfErr, true, false};
     ghost use Rattle.dms_text.specs.Words.{words_of};
-    ghost use Rattle.dms_text.specs.Reading.{word_at, keyword_at, decimal_at, is_end};
+    ghost use Rattle.std.specs.Prelude.{◌∷◌, IsSome, OnErr, option_map};
+    ghost use Rattle.std.specs.Result.{result_ok, result_err};
+    ghost use Rattle.dms_text.specs.Reading.{word_at, keyword_at, decimal_at, octets_of, is_end};
     ghost use Rattle.dms_text_forms.specs.Form.{fault_from};
+    ghost use Rattle.dms_text.specs.Views.{octets_found};
+    ghost use Rattle.dms_text_forms.specs.FieldsReading.{last_number_at, last_octets_at, octets_at};
+    ghost use Rattle.dms_text_forms.specs.FieldsView.{octets_in, octets_seen};
     ghost use Rattle.dms_text_forms.specs.Vocabulary.{keyword_text};
     ghost use Rattle.dms_text_forms.specs.LineReading.{wanted_at, Takes, Lacks};
     ghost use Rattle.dms_text_forms.specs.declared.wanted.Wanted.TheVariants as wants;
@@ -152,6 +158,66 @@ impl<'a> LineWords<'a> {
         match number_within(word, 10, 0, 4_294_967_295) {
             Some(number) => Ok((number as u32, rest)),
             None => Err(fault(place, WordFaultKind::Not(Wanted::FourOctets))),
+        }
+    }
+
+    /// A number of one to ten decimal digits below 2^32, and nothing after it. Fewer than 65,536 words stand before it.
+    #[tactic(auto, unfolding(crate::specs::FieldsReading::last_number_at), using(crate::proofs::LineLaws::words))]
+    pub fn last_number(self) -> Result<u32, WordFault>
+        requires { self.place < 2 ^ 16 }
+        ensures number { result_ok result ≡ last_number_at self.entry.words }
+        ensures fault { result_err result ≡ fault_from self.entry.place (wants.FourOctets ∷ []) self.entry.words }
+    {
+        let (number, rest) = self.four_octets()?;
+        rest.end()?;
+        Ok(number)
+    }
+
+    /// The word of octets as pairs of hexadecimal digits, `-` for none, and the words after it. It takes no memory:
+    /// `octets` has them. Fewer than 65,536 words stand before it.
+    #[tactic(auto, using(crate::proofs::LineLaws::octets_words))]
+    pub fn octets(self, name: WordName) -> Result<(&'a [u8], LineWords<'a>), WordFault>
+        requires { self.place < 2 ^ 16 }
+        ensures found { IfOk result (λ x. octets_at self.entry.words ≡ Some (octets_in x.0.now, x.1.words)) }
+        ensures none { IfErr result (λ fault. octets_at self.entry.words ≡ None) }
+        ensures takes { IfOk result (λ x. Takes (wants.Octets name) self.entry x.1) }
+        ensures lacks { IfErr result (Lacks (wants.Octets name) self.entry) }
+        ensures spelled { IfOk result (λ x. IsSome (octets_of x.0.now)) }
+    {
+        let (word, rest) = self.word(Wanted::Octets(name))?;
+        Ok((word, rest))
+    }
+
+    /// The word of octets as pairs of hexadecimal digits, and nothing after it. Fewer than 65,536 words stand before
+    /// it.
+    #[tactic(auto, unfolding(crate::specs::FieldsReading::last_octets_at), using(crate::proofs::LineLaws::words))]
+    fn last_octets_word(self, name: WordName) -> Result<&'a [u8], WordFault>
+        requires { self.place < 2 ^ 16 }
+        ensures octets { option_map octets_seen (result_ok result) ≡ last_octets_at self.entry.words }
+        ensures fault { result_err result ≡ fault_from self.entry.place (wants.Octets name ∷ []) self.entry.words }
+        ensures spelled { IfOk result (λ word. IsSome (octets_of word.now)) }
+    {
+        let (word, rest) = self.octets(name)?;
+        rest.end()?;
+        Ok(word)
+    }
+
+    /// Octets as pairs of hexadecimal digits, and nothing after them. Only where just these are spelled can it be out
+    /// of memory. Fewer than 65,536 words stand before them.
+    pub fn last_octets(
+        self,
+        alloc: Global,
+        name: WordName,
+    ) -> Result<Result<Vec<u8>, WordFault>, AllocError>
+        requires { self.place < 2 ^ 16 }
+        ensures octets { IfOk result (λ read. octets_found (result_ok read) ≡ last_octets_at self.entry.words) }
+        ensures fault { IfOk result (λ read. result_err read
+            ≡ fault_from self.entry.place (wants.Octets name ∷ []) self.entry.words) }
+        ensures spelled { OnErr result (IsSome (last_octets_at self.entry.words)) }
+    {
+        match self.last_octets_word(name) {
+            Ok(word) => Ok(Ok(octets(alloc, word)?.unwrap())),
+            Err(fault) => Ok(Err(fault)),
         }
     }
 

@@ -213,8 +213,8 @@ fn command(
         ⊎ (IsTrue (enters_by_call centre.old.state (command_in centre.old.state line.now)) × (centre.old.spare ≡ 0)) }
 {
     match read_command(alloc, centre.order(), line) {
-        Ok(Some(asked)) => give_command(centre, asked.lent(), request, size),
-        Ok(None) => AT_FAULT,
+        Ok(Ok(asked)) => give_command(centre, asked.lent(), request, size),
+        Ok(Err(_)) => AT_FAULT,
         Err(_) => NO_MEMORY,
     }
 }
