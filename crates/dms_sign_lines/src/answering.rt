@@ -57,8 +57,8 @@ pub fn answer(alloc: Global, sign: &mut Sign, line: &[u8]) -> Result<Vec<u8>, Al
     ensures memory { OnErr result (sign.new ≡ sign.old) }
 {
     match call(alloc, line)? {
-        Some(call) => carry_out(alloc, sign, &call),
-        None => bad_line(alloc),
+        Ok(call) => carry_out(alloc, sign, &call),
+        Err(_) => bad_line(alloc),
     }
 }
 

@@ -11,6 +11,7 @@
 #![tactic(auto)]
 
 mod answering;
+mod cause;
 mod keyword;
 pub mod laws;
 mod live;

@@ -1,14 +1,18 @@
 //! What a line asks of a live sign.
 
-ghost use Rattle.std.specs.Prelude.{◌≡◌, Some, IfOk, IsSome, OnErr, option_map};
-ghost use Rattle.dms_sign_lines.specs.SignReading.{call_of, keyword_in};
+ghost use Rattle.std.specs.Prelude.{◌≡◌, ◌<◌, [], Some, IfOk, IsSome, OnErr, option_map};
+ghost use Rattle.std.specs.Result.{result_ok, result_err};
+ghost use Rattle.dms_text_forms.specs.FieldsReading.{if_last};
+ghost use Rattle.dms_text_forms.specs.Form.{fault_from};
+ghost use Rattle.dms_sign_lines.specs.SignForm.{form_after, call_cause};
+ghost use Rattle.dms_sign_lines.specs.SignReading.{call_after, call_of, keyword_in};
 ghost use Rattle.dms_sign_lines.specs.declared.keyword.SignKeyword.TheVariants.{Datagram};
 ghost use Rattle.dms_sign_lines.specs.CallView.{call_model};
 
+use crate::cause::CallCause;
 use crate::keyword::SignKeyword;
 use dms_text::Words;
-use dms_text_forms::fields::{last_number, last_octets};
-use dms_text_streams::alone;
+use dms_text_forms::{LineWords, WordFault, WordName};
 use std::alloc::{AllocError, Global};
 
 /// What a line asks of a live sign.
@@ -34,28 +38,63 @@ pub(crate) enum SignCall {
     Save,
 }
 
-/// The call that a line spells, or none. Memory is asked for by a datagram alone, and not where its line is at fault.
+/// The call that a line spells, or why it spells none. Memory is asked for by a datagram alone, and not where its line
+/// is at fault.
 #[tactic(auto, unfolding(crate::specs::SignReading::call_of, crate::specs::SignReading::keyword_in))]
-pub(crate) fn call(alloc: Global, line: &[u8]) -> Result<Option<SignCall>, AllocError>
-    ensures read { IfOk result (λ found. option_map call_model found ≡ call_of line.now) }
+pub(crate) fn call(alloc: Global, line: &[u8]) -> Result<Result<SignCall, CallCause>, AllocError>
+    ensures read { IfOk result (λ read. option_map call_model (result_ok read) ≡ call_of line.now) }
+    ensures cause { IfOk result (λ read. result_err read ≡ call_cause line.now) }
     ensures memory { OnErr result (keyword_in line.now ≡ Some Datagram) }
     ensures spelled { OnErr result (IsSome (call_of line.now)) }
 {
     let Some((word, words)) = Words::of(line).next_word() else {
-        return Ok(None);
+        return Ok(Err(CallCause::Keyword));
     };
     let Some(keyword) = SignKeyword::of(word) else {
-        return Ok(None);
+        return Ok(Err(CallCause::Keyword));
     };
+    match call_after(alloc, keyword, LineWords { place: 2, words })? {
+        Ok(call) => Ok(Ok(call)),
+        Err(fault) => Ok(Err(CallCause::Word(fault))),
+    }
+}
+
+/// The call that begins with this word and goes on with these, or the first of these that is not what is wanted.
+fn call_after(
+    alloc: Global,
+    keyword: SignKeyword,
+    words: LineWords<'_>,
+) -> Result<Result<SignCall, WordFault>, AllocError>
+    requires { words.place < 8 }
+    ensures read { IfOk result (λ read. option_map call_model (result_ok read)
+        ≡ call_after keyword words.entry.words) }
+    ensures fault { IfOk result (λ read. result_err read
+        ≡ fault_from words.entry.place (form_after keyword) words.entry.words) }
+    ensures memory { OnErr result (keyword ≡ Datagram) }
+    ensures spelled { OnErr result (IsSome (call_after keyword words.entry.words)) }
+{
     match keyword {
-        SignKeyword::Datagram => Ok(last_octets(alloc, words)?.map(SignCall::Datagram)),
+        SignKeyword::Datagram => Ok(
+            words
+                .last_octets(alloc, WordName::Datagram)?
+                .map(SignCall::Datagram),
+        ),
         SignKeyword::Tick => Ok(alone(words, SignCall::Tick)),
-        SignKeyword::Ticks => Ok(last_number(words).map(SignCall::Ticks)),
+        SignKeyword::Ticks => Ok(words.last_number().map(SignCall::Ticks)),
         SignKeyword::Heard => Ok(alone(words, SignCall::Heard)),
         SignKeyword::PowerLost => Ok(alone(words, SignCall::PowerLost)),
-        SignKeyword::PowerBack => Ok(last_number(words).map(SignCall::PowerBack)),
+        SignKeyword::PowerBack => Ok(words.last_number().map(SignCall::PowerBack)),
         SignKeyword::Show => Ok(alone(words, SignCall::Show)),
         SignKeyword::State => Ok(alone(words, SignCall::State)),
         SignKeyword::Save => Ok(alone(words, SignCall::Save)),
     }
+}
+
+/// The call, where no words are left.
+fn alone(words: LineWords<'_>, call: SignCall) -> Result<SignCall, WordFault>
+    ensures call { result_ok result ≡ if_last call words.entry.words }
+    ensures fault { result_err result ≡ fault_from words.entry.place [] words.entry.words }
+{
+    words.end()?;
+    Ok(call)
 }
