@@ -38,7 +38,8 @@ pub fn read_command(
     order: Order,
     line: &[u8],
 ) -> Result<Result<OwnedCommand, CommandCause>, AllocError>
-    ensures command { IfOk result (λ read. option_map owned_command_model (result_ok read) ≡ command_of order line.now) }
+    ensures command { IfOk result (λ read. option_map owned_command_model (result_ok read)
+        ≡ command_of order line.now) }
     ensures cause { IfOk result (λ read. result_err read ≡ command_cause line.now) }
     ensures memory { OnErr result (IsOfOctets line.now) }
     ensures spelled { OnErr result (has_octets (command_of order line.now) ≡ true) }
