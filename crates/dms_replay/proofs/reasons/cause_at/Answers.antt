@@ -2,13 +2,13 @@ use Rattle.std.proofs.Common.{sym, ◌∙◌}
 use Rattle.dms_replay.proofs.ScriptCauses.{event_cause_said, no_event_line, names_none, no_sign_line}
 use Rattle.dms_replay.proofs.reasons.cause_at.Goals as goal
 
-pub returns-in_ok-found-clause-cause : goal.returns-in_ok-found-clause-cause
-returns-in_ok-found-clause-cause c =
-    event_cause_said c.args.octets.now c.in_default.field-0.1 c.in_default.field-0.0 c.args.number c.in_ok-found.field-0 c.in_default.ensures.read c.in_ok-found.ensures
+pub returns-in_default-clause-cause : goal.returns-in_default-clause-cause
+returns-in_default-clause-cause c =
+    event_cause_said c.args.octets.now c.in_default.field-0.1 c.in_default.field-0.0 c.args.number c.in_ok-found.found c.in_default.ensures.read c.in_ok-found.ensures
 
-pub returns-in_ok-found-clause-told : goal.returns-in_ok-found-clause-told
-returns-in_ok-found-clause-told c =
-    no_event_line c.args.octets.now c.in_default.field-0.1 c.in_default.field-0.0 c.args.number c.in_ok-found.field-0 c.in_default.ensures.read
+pub returns-in_default-clause-told : goal.returns-in_default-clause-told
+returns-in_default-clause-told c =
+    no_event_line c.args.octets.now c.in_default.field-0.1 c.in_default.field-0.0 c.args.number c.in_ok-found.found c.in_default.ensures.read
     c.in_default.ensures.last c.in_ok-found.ensures
 
 pub returns-in-Some : goal.returns-in-Some
