@@ -10,11 +10,10 @@ from model import text
 from model.saved import saved
 from model.sign import Sign
 
-SIGNS = pathlib.Path(__file__).parents[2] / "crates" / "dms_sign_tests" / "src" / "signs"
+CRATES = pathlib.Path(__file__).parents[2] / "crates"
+FILES = ("dms_sign_bench/src/scripts.rt", "dms_sign_state_tests/src/cases.rt", "dms_sign_state_tests/src/saved.rt")
 CONSTANT = re.compile(r'const (\w+): &str = "(?:\\\n)?([^"]*)";')
-TEXTS = {
-    found[1]: found[2] for name in ("cases.rt", "saved.rt") for found in CONSTANT.finditer((SIGNS / name).read_text())
-}
+TEXTS = {found[1]: found[2] for name in FILES for found in CONSTANT.finditer((CRATES / name).read_text())}
 
 
 def play(sign: Sign, script: str) -> None:

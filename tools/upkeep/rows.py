@@ -4,7 +4,7 @@ import re
 
 from .tree import Tree
 
-FILES = re.compile(r"crates/\w+_tests/src/(?:\w+/)*cases\.rt")
+FILES = re.compile(r"crates/(?:\w+_tests/src/(?:\w+/)*cases|dms_sign_bench/src/scripts)\.rt")
 _ROW = re.compile(r"(?i)[0-9a-f]{16}|(?:\\x[0-9a-f]{2}){8}")
 _WORDS = re.compile(r"\s*(?://|#)")
 # what another row ends with, or begins with where it is a line of its own

@@ -1,5 +1,6 @@
 //! The bench sign by its values, for the tests and measures of crates that stand below dms_sign_text, where it is a
-//! text: 23 columns, 14 rows, two fonts, a permanent row `B`, two changeable rows and a volatile one.
+//! text: 23 columns, 14 rows, two fonts, a permanent row `B`, two changeable rows and a volatile one; and scripts of
+//! what is handed to it.
 //!
 //! ```
 //! let face = face(alloc)?;
@@ -7,6 +8,8 @@
 //! assert_eq!(rt; table.row_count(memory::CHANGEABLE), 2);
 //! ```
 #![tactic(auto)]
+
+pub mod scripts;
 
 use dms_codes::Order;
 use dms_face::{Defaults, Face, Font};

@@ -4,6 +4,4 @@
 #[cfg(test)]
 mod examples;
 #[cfg(test)]
-mod restored;
-#[cfg(test)]
 mod signs;

@@ -2,7 +2,7 @@
 
 use dms_face_pages::pages_with;
 use dms_sign::{Config, ConfigFault, Receipt, Sign};
-use dms_sign_bench::{B, PICTURE_OF_A, drawing, face, stock};
+use dms_sign_bench::{B, PICTURE_OF_A, drawing, face, scripts, stock};
 use dms_table::{Order, Stock, TableFault};
 use dms_wire::{Bind, Kind, MessageParts, Oid, Out, Value, oid_cmp, read, write};
 use std::alloc::Global;
@@ -11,8 +11,6 @@ use std::test::Fail;
 
 mod cases;
 mod hostile;
-mod read_back;
-mod saved;
 
 fn bench_sign(alloc: Global) -> Result<Sign, &'static str> {
     sign_of(alloc, stock(&[B]))
@@ -150,17 +148,17 @@ fn played(alloc: Global, order: Order, before: &str, script: &str) -> Result<(),
 fn each_script_of_the_bench_sign_has_its_replies(rt: HostRuntime) {
     let high = Order::High;
     let swapped = Order::Swapped;
-    let ready = cases::A_IN_ROW_ONE;
+    let ready = scripts::A_IN_ROW_ONE;
     for (name, order, before, script) in [
         ("requests", high, "", cases::REQUESTS),
         ("activations", high, ready, cases::ACTIVATIONS),
-        ("commands", high, ready, cases::COMMANDS),
+        ("commands", high, ready, scripts::COMMANDS),
         ("power and silence", high, "", cases::POWER),
         ("sizes", high, "", cases::SIZES),
         ("silence", high, "", cases::SILENCE),
-        ("written defaults", high, "", cases::WRITTEN_DEFAULTS),
-        ("returns of the power", high, ready, cases::RETURNS),
-        ("checksum of the other order", swapped, "", cases::SWAPPED),
+        ("written defaults", high, "", scripts::WRITTEN_DEFAULTS),
+        ("returns of the power", high, ready, scripts::RETURNS),
+        ("checksum of the other order", swapped, "", scripts::SWAPPED),
     ] {
         let found = played(rt.alloc(), order, before, script);
         assert_eq!(rt; found, Ok(()), "of {name}");
@@ -323,7 +321,7 @@ fn picture_after(alloc: Global, sign: &mut Sign, script: &str) -> Result<String,
 #[test]
 fn a_message_keeps_the_font_under_which_it_came_up(rt: HostRuntime) -> Result<(), Fail> {
     let mut sign = bench_sign(rt.alloc())?;
-    play(&mut sign, cases::A_IN_ROW_ONE)?;
+    play(&mut sign, scripts::A_IN_ROW_ONE)?;
     for (script, wanted) in [
         (cases::PUT_UP, PICTURE_OF_A),
         (cases::PUT_UP_AGAIN, cases::FONT_TWO),

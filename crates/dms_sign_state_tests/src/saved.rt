@@ -1,7 +1,8 @@
 //! The text of a sign's state, against texts that the model wrote (model/tests/test_saved.py).
 
-use super::{cases, play, sign_again, sign_of};
-use dms_sign_bench::{B, stock};
+use super::bench::{play, sign_of};
+use super::cases;
+use dms_sign_bench::{B, scripts, stock};
 use dms_sign_state::{put_saved, saved};
 use dms_table::{Order, Stock};
 use std::alloc::Global;
@@ -223,20 +224,20 @@ fn left(alloc: Global, order: Order, scripts: &[&str]) -> Result<Vec<u8>, &'stat
 #[test]
 fn states_are_written(rt: HostRuntime) -> Result<(), Fail> {
     let high = Order::High;
-    let ready = cases::A_IN_ROW_ONE;
+    let ready = scripts::A_IN_ROW_ONE;
     for (order, scripts, wanted) in [
         (high, [cases::BUSY, ""], BUSY_STATE),
         (high, [cases::BUSY, cases::QUIET], STATE_WITHOUT_POWER),
-        (high, [ready, cases::COMMANDS], STATE_AFTER_COMMANDS),
-        (high, [ready, cases::RETURNS], STATE_AFTER_RETURNS),
+        (high, [ready, scripts::COMMANDS], STATE_AFTER_COMMANDS),
+        (high, [ready, scripts::RETURNS], STATE_AFTER_RETURNS),
         (
             high,
-            [cases::WRITTEN_DEFAULTS, ""],
+            [scripts::WRITTEN_DEFAULTS, ""],
             STATE_AFTER_WRITTEN_DEFAULTS,
         ),
         (
             Order::Swapped,
-            [cases::SWAPPED, ""],
+            [scripts::SWAPPED, ""],
             STATE_OF_THE_OTHER_ORDER,
         ),
     ] {
@@ -249,7 +250,10 @@ fn states_are_written(rt: HostRuntime) -> Result<(), Fail> {
 /// Each allocation of a state's text may be refused: then it is out of memory, and with memory the text is the same.
 #[test]
 fn saved_or_out_of_memory(rt: HostRuntime) -> Result<(), Fail> {
-    let mut sign = sign_again(rt.alloc())?;
+    let mut sign = match sign_of(rt.alloc(), stock(&[B])) {
+        Ok(sign) => sign,
+        Err(_) => sign_of(rt.alloc(), stock(&[B]))?,
+    };
     play(&mut sign, cases::BUSY)?;
     let text = match saved(rt.alloc(), &sign) {
         Ok(text) => text,

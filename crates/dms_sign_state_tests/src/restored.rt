@@ -1,9 +1,10 @@
 //! What a sign takes up of a saved state.
 
+use super::bench::sign_of;
 use dms_face::Defaults;
-use dms_sign::{Config, MessageFault, Sign, SignParts, StateFault};
+use dms_sign::{MessageFault, Sign, SignParts, StateFault};
 use dms_sign_access::{ReportFault, Reports};
-use dms_sign_bench::{DEFAULTS, face, stock};
+use dms_sign_bench::{DEFAULTS, stock};
 use dms_table::{
     MessageId, Mode, RowFault, RowId, SavedRow, SavedShown, Shown, ShownFault, Status, memory,
 };
@@ -48,16 +49,6 @@ const NO_SUCH_FONT: Defaults = Defaults {
     ..DEFAULTS
 };
 
-fn bench(alloc: Global) -> Result<Sign, Fail> {
-    let config = Config {
-        face: face(alloc)?,
-        stock: stock(&[]),
-        reader: b"public",
-        writer: b"admin",
-    };
-    Ok(Sign::new(alloc, config)?)
-}
-
 /// The parts of a sign, with this message and so many seconds of silence.
 fn parts(sign: &Sign, shown: Shown, silent_seconds: u32) -> SignParts {
     SignParts {
@@ -83,7 +74,7 @@ fn check_fault(rt: &impl Abort, sign: &mut Sign, saved: &SavedShown<'_>, wrong: 
 
 #[test]
 fn a_row_is_put_back(rt: HostRuntime) -> Result<(), Fail> {
-    let mut sign = bench(rt.alloc())?;
+    let mut sign = sign_of(rt.alloc(), stock(&[]))?;
     assert!(rt; sign.put_row(FIRST, &ROW) == Ok(()));
     assert!(rt; sign.put_row(FIRST, &ROW) == Err(RowFault::Used));
     assert!(rt; sign.table().row(FIRST).map(|row| row.checksum) == Some(0x9a66));
@@ -92,7 +83,7 @@ fn a_row_is_put_back(rt: HostRuntime) -> Result<(), Fail> {
 
 /// A sign whose first changeable row is that of the message.
 fn with_its_row(alloc: Global) -> Result<Sign, Fail> {
-    let mut sign = bench(alloc)?;
+    let mut sign = sign_of(alloc, stock(&[]))?;
     let _ = sign.put_row(FIRST, &ROW);
     Ok(sign)
 }
@@ -182,7 +173,7 @@ fn fault_of_power(sign: &mut Sign, powered: bool, shown: Mode, kept: Mode) -> Op
 
 #[test]
 fn there_is_power_where_a_loss_of_power_shows_nothing(rt: HostRuntime) -> Result<(), Fail> {
-    let mut sign = bench(rt.alloc())?;
+    let mut sign = sign_of(rt.alloc(), stock(&[]))?;
     let (loss, other) = (Mode::PowerLoss, Mode::Central);
     for (powered, shown, kept, found) in [
         (true, loss, other, Some(StateFault::Power)),
