@@ -11,3 +11,5 @@ mod read_back;
 mod restored;
 #[cfg(test)]
 mod saved;
+#[cfg(test)]
+mod started_again;

@@ -59,7 +59,7 @@ fn put_line(text: &mut Vec<u8>, line: &str) -> Result<(), AllocError> {
 }
 
 /// The busy state's text with a line in place of the one of a number.
-fn with_line(alloc: Global, number: usize, line: &str) -> Result<Vec<u8>, AllocError> {
+pub(super) fn with_line(alloc: Global, number: usize, line: &str) -> Result<Vec<u8>, AllocError> {
     let mut text = Vec::new(alloc);
     let mut left = number;
     for old in BUSY_STATE.lines() {
