@@ -3,6 +3,5 @@ pub mod Answers
 pub mod Codes
 pub mod Shown
 pub mod Pages
-pub mod ObjectValues
 pub mod Objects
 pub mod Centre

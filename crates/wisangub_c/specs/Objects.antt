@@ -12,8 +12,8 @@ use Rattle.dms_agent.specs.declared.agent.Agent.{Agent}
 use Rattle.dms_agent.specs.Values.{own_value, agent_value, is_bare}
 use Rattle.wisangub_c.specs.Answers.{done, nothing_sent, too_small, at_fault, out_of_range}
 use Rattle.wisangub_c.specs.Answers.{put_first, given_answer, given_buffer}
-use Rattle.wisangub_c.specs.declared.object_values.ValueParts.{ValueParts}
-use Rattle.wisangub_c.specs.ObjectValues.{name_given, octets_of, parts_of}
+use Rattle.wisangub_c_values.specs.declared.object_values.ValueParts.{ValueParts}
+use Rattle.wisangub_c_values.specs.ObjectValues.{name_given, octets_of, parts_of}
 
 -- ---- publishing
 

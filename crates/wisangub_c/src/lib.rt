@@ -17,7 +17,6 @@ mod lent_centre;
 mod lent_sign;
 mod loose;
 pub mod object_calls;
-mod object_values;
 pub mod page_calls;
 mod placed_centre;
 mod placed_sign;

@@ -5,7 +5,7 @@ ghost use Rattle.dms_wire.specs.View.{object_value, var_bind};
 ghost use Rattle.dms_device.specs.Publishing.{published};
 ghost use Rattle.dms_agent.specs.Values.{own_value, showing_fonts};
 ghost use Rattle.wisangub_c.specs.Answers.{done, no_memory, at_fault, unless_memory, given_answer, given_buffer};
-ghost use Rattle.wisangub_c.specs.ObjectValues.{name_given, value_given, access_given, octets_of};
+ghost use Rattle.wisangub_c_values.specs.ObjectValues.{name_given, value_given, access_given, octets_of};
 ghost use Rattle.wisangub_c.specs.Objects.{is_free, object_given, publish_answer, after_publish};
 ghost use Rattle.wisangub_c.specs.Objects.{fonts_answer, withdraw_answer, after_withdraw};
 ghost use Rattle.wisangub_c.specs.Objects.{value_read, read_answer, read_size, read_buffer, read_parts};
@@ -15,9 +15,6 @@ ghost use Rattle.wisangub_c.specs.Objects.{taken_octets, taken_parts, after_take
 use crate::answers::{
     AT_FAULT, DONE, NO_MEMORY, NOTHING_SENT, OUT_OF_RANGE, TOO_SMALL, give, put_first,
 };
-use crate::object_values::{
-    AccessParts, ValueParts, access_given, name_given, octets_of, parts_of, value_given,
-};
 use crate::sign_handle::SignHandle;
 use dms_agent::{Agent, PublishFault};
 use dms_agent_watched::Watched;
@@ -25,6 +22,9 @@ use dms_device::{Access, Device, Object, ObjectFault};
 use dms_mib_replies::Objects;
 use dms_wire::{Bind, Value};
 use std::alloc::Global;
+use wisangub_c_values::{
+    AccessParts, ValueParts, access_given, name_given, octets_of, parts_of, value_given,
+};
 
 /// Whether the octets are a name, by which the sign reads nothing.
 fn is_free(agent: &Agent, name: &[u8]) -> bool

@@ -7,8 +7,8 @@ use Rattle.dms_wire.specs.Message.{ObjectValue, integer, octet_string, null, obj
 use Rattle.dms_wire.specs.Message.{ip_address, counter, gauge, time_ticks, opaque}
 use Rattle.dms_device.specs.declared.access.Access.{Access}
 use Rattle.dms_device.specs.declared.access.Access.TheVariants.{ReadOnly, Number, Octets}
-use Rattle.wisangub_c.specs.declared.object_values.ValueParts.{ValueParts}
-use Rattle.wisangub_c.specs.declared.object_values.AccessParts.{AccessParts}
+use Rattle.wisangub_c_values.specs.declared.object_values.ValueParts.{ValueParts}
+use Rattle.wisangub_c_values.specs.declared.object_values.AccessParts.{AccessParts}
 
 -- ---- what is given: the types are the tags that they have in a message (X.690, 8.1.2, and RFC 1155, 3.2)
 

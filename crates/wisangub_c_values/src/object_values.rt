@@ -2,9 +2,9 @@
 
 ghost use Rattle.std.specs.Prelude.{◌≡◌, option_map};
 ghost use Rattle.dms_wire.specs.View.{object_value};
-ghost use Rattle.wisangub_c.specs.ObjectValues.{natural_given, name_given, address_given, is_octets, octets_given};
-ghost use Rattle.wisangub_c.specs.ObjectValues.{number_given, value_given, size_given, access_given};
-ghost use Rattle.wisangub_c.specs.ObjectValues.{kind_of, number_of, octets_of, parts_of};
+ghost use Rattle.wisangub_c_values.specs.ObjectValues.{natural_given, name_given, address_given, is_octets};
+ghost use Rattle.wisangub_c_values.specs.ObjectValues.{octets_given, number_given, value_given, size_given};
+ghost use Rattle.wisangub_c_values.specs.ObjectValues.{access_given, kind_of, number_of, octets_of, parts_of};
 
 use dms_device::Access;
 use dms_wire::{Oid, Value};
@@ -39,7 +39,7 @@ fn natural_given(number: i64) -> Option<u32>
 }
 
 /// The name with these content octets.
-pub(crate) fn name_given(octets: &[u8]) -> Option<Oid<'_>>
+pub fn name_given(octets: &[u8]) -> Option<Oid<'_>>
     ensures { result ≡ name_given octets.now }
 {
     name_of(octets)
@@ -87,7 +87,7 @@ fn number_given<'a>(kind: u8, number: i64) -> Option<Value<'a>>
 }
 
 /// The value of a type, with this number or these octets.
-pub(crate) fn value_given<'a>(parts: &ValueParts, octets: &'a [u8]) -> Option<Value<'a>>
+pub fn value_given<'a>(parts: &ValueParts, octets: &'a [u8]) -> Option<Value<'a>>
     ensures { option_map object_value result ≡ value_given parts.now octets.now }
 {
     if is_octets(parts.kind) {
@@ -104,7 +104,7 @@ fn size_given(number: i64) -> Option<u16>
 }
 
 /// What a manager may write.
-pub(crate) fn access_given(parts: &AccessParts) -> Option<Access>
+pub fn access_given(parts: &AccessParts) -> Option<Access>
     ensures { result ≡ access_given parts.now }
 {
     match parts.kind {
@@ -150,7 +150,7 @@ fn number_of(value: &Value<'_>) -> i64
 }
 
 /// The octets of a value, which are none where it is its number.
-pub(crate) fn octets_of<'v>(value: &'v Value<'_>) -> &'v [u8]
+pub fn octets_of<'v>(value: &'v Value<'_>) -> &'v [u8]
     ensures { result.now ≡ octets_of (object_value value.now) }
 {
     match value {
@@ -162,7 +162,7 @@ pub(crate) fn octets_of<'v>(value: &'v Value<'_>) -> &'v [u8]
 }
 
 /// A value, but for its octets.
-pub(crate) fn parts_of(value: &Value<'_>) -> ValueParts
+pub fn parts_of(value: &Value<'_>) -> ValueParts
     ensures { result ≡ parts_of (object_value value.now) }
 {
     ValueParts {
