@@ -66,6 +66,10 @@ class Status(ctypes.Structure):
     _fields_ += [(name, c_uint8) for name in ("busy", "last", "step", "why")]
 
 
+class Page(ctypes.Structure):
+    _fields_ = [("count", c_size_t)] + [(name, c_uint8) for name in ("on", "off", "background")]
+
+
 SIGN, CENTRE, SIZE, BUFFER = POINTER(Sign), POINTER(Centre), POINTER(c_size_t), c_void_p
 ARGUMENTS = {
     "sign_new": [SIGN, c_char_p, c_size_t, POINTER(c_uint32), SIZE],
@@ -78,6 +82,8 @@ ARGUMENTS = {
     "sign_shown": [SIGN, POINTER(Shown)],
     "sign_changes": [SIGN, POINTER(c_uint64)],
     "sign_ends": [SIGN, POINTER(c_uint64)],
+    "sign_page_times": [SIGN, c_size_t, POINTER(Page)],
+    "sign_due": [SIGN, c_uint64, c_uint64, POINTER(c_uint64)],
     "sign_matrix": [SIGN, POINTER(c_uint16), POINTER(c_uint16)],
     "sign_text": [SIGN, BUFFER, c_size_t, SIZE],
     "sign_reader": [SIGN, BUFFER, c_size_t, SIZE],

@@ -67,6 +67,7 @@ static void without_a_sign(void)
     struct wisangub_shown shown;
     struct wisangub_text_fault fault = {0, 0};
     struct wisangub_value value = {7, WISANGUB_INTEGER};
+    struct wisangub_page page;
     uint64_t count;
     uint16_t width, height;
     for (int turn = 0; turn < 2; turn++) {
@@ -80,6 +81,8 @@ static void without_a_sign(void)
         REFUSED(wisangub_sign_shown(none, &shown));
         REFUSED(wisangub_sign_changes(none, &count));
         REFUSED(wisangub_sign_ends(none, &count));
+        REFUSED(wisangub_sign_page_times(none, 0, &page));
+        REFUSED(wisangub_sign_due(none, 0, 0, &count));
         REFUSED(wisangub_sign_matrix(none, &width, &height));
         REFUSED(wisangub_sign_text(none, buffer, sizeof buffer, &size));
         REFUSED(wisangub_sign_reader(none, buffer, sizeof buffer, &size));
@@ -180,6 +183,27 @@ static void pages(void)
     assert(untouched(0, needed));
     DONE(wisangub_sign_pages(&sign, LOOK, room, needed, &size));
     assert(size == needed && untouched(needed, 16));
+}
+
+/* When what is shown changes by itself, or 77. */
+static uint64_t due(uint64_t up, uint64_t told)
+{
+    uint64_t tenths = 77;
+    assert(wisangub_sign_due(&sign, up, told, &tenths) == (tenths == 77 ? WISANGUB_NOTHING : WISANGUB_DONE));
+    return tenths;
+}
+
+/* The times of the one page of what is shown at the start. */
+static void times(void)
+{
+    struct wisangub_page page = {7, 7, 7, 7};
+    REFUSED(wisangub_sign_page_times(&sign, 0, NULL));
+    REFUSED(wisangub_sign_due(&sign, 0, 0, NULL));
+    assert(wisangub_sign_page_times(&sign, 1, &page) == WISANGUB_FAULT && page.count == 7 && page.on == 7);
+    DONE(wisangub_sign_page_times(&sign, 0, &page));
+    DONE(wisangub_sign_pages(&sign, LOOK, room, sizeof room, &size));
+    assert(page.count == 1 && page.on == room[0] && page.off == room[1] && page.background == room[2]);
+    assert(page.off > 0 || due(5, 0) == 77);
 }
 
 static void texts(void)
@@ -512,19 +536,17 @@ static void waiting(void)
 }
 
 /* A publication up to its end, in which the sign once hears nothing, as its room is too small. */
-static void published(void)
+static void publish(const char *command, uint32_t first)
 {
-    static const char command[] = "publish 3 1 41 - 0 0 200 65535 255 127.0.0.1";
     struct wisangub_status status = {0, 0, 1, 0, 0, 0};
-    struct wisangub_shown shown;
     uint8_t *request = room, *reply = room + 2000;
     enum wisangub_answer sends;
     size_t community = 0;
     wisangub_centre_free(&centre);
     assert(centre.at == NULL);
     DONE(wisangub_sign_writer(&sign, buffer, sizeof buffer, &community));
-    DONE(wisangub_centre_new(&centre, buffer, community, WISANGUB_HIGH, 1));
-    sends = wisangub_centre_command(&centre, command, sizeof command - 1, request, WISANGUB_DATAGRAM, &size);
+    DONE(wisangub_centre_new(&centre, buffer, community, WISANGUB_HIGH, first));
+    sends = wisangub_centre_command(&centre, command, strlen(command), request, WISANGUB_DATAGRAM, &size);
     for (int turn = 0; turn < 20 && status.busy; turn++) {
         while (sends == WISANGUB_DONE) {
             size_t asked = size;
@@ -536,9 +558,28 @@ static void published(void)
         sends = wisangub_centre_tick(&centre, request, WISANGUB_DATAGRAM, &size);
         DONE(wisangub_centre_status(&centre, &status));
     }
-    assert(status.last == WISANGUB_DID && status.entries == 1 && changes() == 1);
+    assert(status.last == WISANGUB_DID && status.entries == 1);
+}
+
+static void published(void)
+{
+    struct wisangub_shown shown;
+    publish("publish 3 1 41 - 0 0 200 65535 255 127.0.0.1", 1);
+    assert(changes() == 1);
     DONE(wisangub_sign_shown(&sign, &shown));
     assert(shown.memory == 3 && shown.number == 1 && shown.checksum == 0x9a66 && shown.minutes == 65535);
+}
+
+/* A text of two pages and a flash, `[pt10o5][flt3o4]A[np]A`, for a minute: what is due comes soonest. */
+static void moving(void)
+{
+    struct wisangub_page page = {0, 0, 0, 0};
+    publish("publish 3 2 5b707431306f355d5b666c74336f345d415b6e705d41 - 0 0 200 1 255 127.0.0.1", 200);
+    DONE(wisangub_sign_page_times(&sign, 1, &page));
+    assert(page.count == 2 && page.on == 10 && page.off == 5);
+    assert(wisangub_sign_page_times(&sign, 2, &page) == WISANGUB_FAULT);
+    assert(due(0, 0) == 3 && due(3, 0) == 4 && due(7, 0) == 3 && due(9, 0) == 1 && due(12, 0) == 3);
+    assert(due(15, 0) == 3 && due(30, 0) == 3 && due(12, ends()) == 0 && due(12, ends() - 2) == 2);
 }
 
 /* The text that is shown, with room and without. */
@@ -566,6 +607,7 @@ static void seconds(void)
     DONE(wisangub_sign_receive(&sign, room, size, room + 2000, WISANGUB_DATAGRAM, &size));
     DONE(wisangub_sign_shown(&sign, &shown));
     assert(shown.memory == 7 && shown.number == 1 && shown.minutes == 5 && changes() == 2 && ends() == 3000);
+    assert(due(0, 4) <= 2996);
     DONE(wisangub_sign_ticks(&sign, 0));
     DONE(wisangub_sign_ticks(&sign, 179));
     DONE(wisangub_sign_shown(&sign, &shown));
@@ -600,6 +642,7 @@ int main(int count, char **words)
     shown_things();
     communities();
     pages();
+    times();
     texts();
     text_pages();
     bits();
@@ -615,6 +658,7 @@ int main(int count, char **words)
     published();
     shown_text();
     seconds();
+    moving();
     wisangub_centre_free(&centre);
     wisangub_sign_free(&sign);
     assert(sign.at == NULL && centre.at == NULL);

@@ -201,18 +201,40 @@ static void print_frame(void)
     putchar('\n');
 }
 
+/* In how many tenths of a second something is due of a message without an end; 0 where it stays as it is. */
+static uint64_t due_in(uint64_t tenth)
+{
+    uint64_t left = 0;
+    enum wisangub_answer answer = wisangub_sign_due(&sign, tenth, 0, &left);
+    assert(answer == WISANGUB_DONE ? left > 0 : answer == WISANGUB_NOTHING && left == 0);
+    return left;
+}
+
 /* No lamp changes before it is due, and what is due comes nearer with each tenth of a second. */
 static void due(const struct picture *picture, uint64_t tenths)
 {
     struct frame frame, next;
     picture_frame(picture, 0, &next);
     for (uint64_t tenth = 0; tenth < tenths; tenth++) {
-        uint64_t left = picture_due(picture, tenth);
+        uint64_t left = due_in(tenth);
         frame = next;
         picture_frame(picture, tenth + 1, &next);
         assert(left == 1 || memcmp(&frame, &next, sizeof frame) == 0);
-        assert(left == 1 || picture_due(picture, tenth + 1) == (left == 0 ? 0 : left - 1));
+        assert(left == 1 || due_in(tenth + 1) == (left == 0 ? 0 : left - 1));
     }
+}
+
+/* The times of each page are those that its octets begin with. */
+static void times(const struct picture *picture)
+{
+    size_t page_size = WISANGUB_PAGE_HEAD + (size_t)picture->width * picture->height, number = 0;
+    struct wisangub_page page;
+    for (; wisangub_sign_page_times(&sign, number, &page) == WISANGUB_DONE; number++) {
+        const uint8_t *head = picture->layers[WISANGUB_LOOK] + number * page_size;
+        assert(page.on == head[0] && page.off == head[1] && page.background == head[2]);
+        assert(page.count * page_size == picture->size);
+    }
+    assert(number * page_size == picture->size);
 }
 
 static void play(const char *digits, uint64_t now, uint64_t tenths)
@@ -229,6 +251,7 @@ static void play(const char *digits, uint64_t now, uint64_t tenths)
         print_frame();
     }
     due(&controller.picture, tenths);
+    times(&controller.picture);
 }
 
 int main(int count, char **words)

@@ -22,14 +22,8 @@ int picture_draw(struct picture *picture, const struct wisangub_sign *sign);
 /*
  * The lamps that are lit when the picture has been up for so many tenths of a second: the pages take turns, each for
  * its time, and what flashes is lit and dark by turns, from where its page comes up. A picture of one page without a
- * time after it stays, and so does the last of pages without any time.
+ * time after it stays, and so does the last of pages without any time. wisangub_sign_due says when it is another one.
  */
 void picture_frame(const struct picture *picture, uint64_t tenth, struct frame *frame);
-
-/*
- * In how many tenths of a second the next page or the next turn of a flash is due, when the picture has been up for so
- * many; 0 where it stays as it is. The end of the message is wisangub_sign_ends'.
- */
-uint64_t picture_due(const struct picture *picture, uint64_t tenth);
 
 #endif

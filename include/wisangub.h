@@ -141,6 +141,14 @@ enum wisangub_layer {
  * tenths of a second, and its background. */
 #define WISANGUB_PAGE_HEAD 3
 
+/* A page of what a sign shows, but for its cells. */
+struct wisangub_page {
+    size_t count;       /* how many pages there are */
+    uint8_t on;         /* how long it is shown, in tenths of a second */
+    uint8_t off;        /* how long nothing is shown after it, in tenths of a second */
+    uint8_t background; /* its colour */
+};
+
 /*
  * Objects that firmware publishes beside the sign's, as sysDescr.0 or a photocell (docs/OBJECTS.md). Names go as the
  * octets of an object identifier (X.690, 8.19): those of 1.3.6.1.2.1.1.1.0 are 43, 6, 1, 2, 1, 1, 1 and 0;
@@ -260,6 +268,11 @@ WISANGUB_AT(code, checksum, 4);
 WISANGUB_AT(code, priority, 6);
 WISANGUB_AT(code, memory, 7);
 WISANGUB_AT(code, address, 8);
+WISANGUB_SIZE(page, 16);
+WISANGUB_AT(page, count, 0);
+WISANGUB_AT(page, on, 8);
+WISANGUB_AT(page, off, 9);
+WISANGUB_AT(page, background, 10);
 WISANGUB_SIZE(value, 16);
 WISANGUB_AT(value, number, 0);
 WISANGUB_AT(value, type, 8);
@@ -296,6 +309,8 @@ void wisangub_sign_free_at(struct wisangub_sign *sign);
 void wisangub_sign_shown_at(const struct wisangub_sign *sign, struct wisangub_shown *shown);
 void wisangub_sign_changes_at(const struct wisangub_sign *sign, uint64_t *changes);
 uint32_t wisangub_sign_ends_at(const struct wisangub_sign *sign, uint64_t *tenths);
+uint32_t wisangub_sign_page_times_at(const struct wisangub_sign *sign, size_t number, struct wisangub_page *page);
+uint32_t wisangub_sign_due_at(const struct wisangub_sign *sign, uint64_t up, uint64_t told, uint64_t *tenths);
 void wisangub_sign_matrix_at(const struct wisangub_sign *sign, uint16_t *width, uint16_t *height);
 uint32_t wisangub_sign_text_at(const struct wisangub_sign *sign, uint8_t *text, size_t room, size_t *size);
 uint32_t wisangub_sign_reader_at(const struct wisangub_sign *sign, uint8_t *community, size_t room, size_t *size);
@@ -481,6 +496,35 @@ WISANGUB_INLINE enum wisangub_answer wisangub_sign_ends(const struct wisangub_si
         return WISANGUB_NULL;
     }
     return (enum wisangub_answer)wisangub_sign_ends_at(sign, tenths);
+}
+
+/*
+ * How many pages there are of what the sign shows, and the times of the page of this number, from 0, without its cells.
+ * Answers DONE; FAULT, where there is no such page, and *page is as it was; or NULL. No memory is taken.
+ */
+WISANGUB_INLINE enum wisangub_answer wisangub_sign_page_times(const struct wisangub_sign *sign, size_t number,
+                                                              struct wisangub_page *page)
+{
+    if (sign == NULL || sign->at == NULL || page == NULL) {
+        return WISANGUB_NULL;
+    }
+    return (enum wisangub_answer)wisangub_sign_page_times_at(sign, number, page);
+}
+
+/*
+ * In how many tenths of a second what the sign shows changes by itself: by the next page, by the next turn of a flash
+ * of a character of the page that is up, or by the end of the message. The picture has been up for `up` tenths, since
+ * wisangub_sign_changes rose, and the last second was told `told` tenths ago. Pages take turns, and flashes turn, as
+ * docs/PROFILE.md, "Pictures", says; a character without a lit cell is counted too. 0 is a message whose last second is
+ * due. Answers DONE; NOTHING, where all stays as it is, and *tenths is as it was; or NULL. No memory is taken.
+ */
+WISANGUB_INLINE enum wisangub_answer wisangub_sign_due(const struct wisangub_sign *sign, uint64_t up, uint64_t told,
+                                                       uint64_t *tenths)
+{
+    if (sign == NULL || sign->at == NULL || tenths == NULL) {
+        return WISANGUB_NULL;
+    }
+    return (enum wisangub_answer)wisangub_sign_due_at(sign, up, told, tenths);
 }
 
 /* The columns, 1 to 256, and the rows, 1 to 64, of the sign's matrix. Answers DONE or NULL. */

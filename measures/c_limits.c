@@ -182,6 +182,20 @@ static enum wisangub_answer changed(const struct call *call)
     return wisangub_sign_changes(&sign, &changes);
 }
 
+static enum wisangub_answer times(const struct call *call)
+{
+    struct wisangub_page page;
+    (void)call;
+    return wisangub_sign_page_times(&sign, 5, &page);
+}
+
+static enum wisangub_answer due(const struct call *call)
+{
+    uint64_t tenths;
+    (void)call;
+    return wisangub_sign_due(&sign, UINT64_MAX, 0, &tenths);
+}
+
 static enum wisangub_answer show_fonts(const struct call *call) { return (void)call, wisangub_sign_show_fonts(&sign); }
 
 /* An object that a manager may set, of a name. */
@@ -327,6 +341,8 @@ static void take(char *word)
         measured("row_bits", bits, pages + WISANGUB_PAGE_HEAD, 256);
         measured("sign_shown", shown, NULL, 0);
         measured("sign_changes", changed, NULL, 0);
+        measured("sign_page_times", times, NULL, 0);
+        measured("sign_due", due, NULL, 0);
     } else if (strcmp(word, "anew") == 0) {
         make_both();
     }

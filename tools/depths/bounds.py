@@ -49,6 +49,8 @@ def plain(text: str) -> str:
 
 
 FONTS = "crates/dms_face/src/face.rt", r"pub const MAX_FONTS: usize = (\d+);"
+PAGES = "crates/dms_face/src/totals.rt", r"pub const MAX_PAGES: usize = (\d+);"
+PAGES_HELD = "crates/dms_face_times/src/changing.rt", "let turn = turn_at(pages.as_slice(), tenth);"
 _WHOLE = "crates/dms_sign_text_causes/src/whole.rt"
 INTEGER = "crates/dms_wire_ber/src/integer.rt"
 
@@ -59,6 +61,20 @@ BOUNDS = (
         "a call for each font, once these are known to be at most four",
         *FONTS,
         guards=((FONTS[0], "fonts.len() <= MAX_FONTS && have_own_numbers(fonts)"),),
+    ),
+    Bound(
+        ("dms_face_times::turns::round",),
+        7,
+        "a call for each page of a text, which has at most six, and one after the last",
+        *PAGES,
+        guards=(PAGES_HELD,),
+    ),
+    Bound(
+        ("dms_face_times::turns::turn_from",),
+        7,
+        "a call for each page of a text, which has at most six, and one after the last",
+        *PAGES,
+        guards=(PAGES_HELD,),
     ),
     Bound(
         ("dms_sign_text_causes::whole::number_twice",),

@@ -106,6 +106,14 @@ static void draw(struct wisangub_sign *sign)
     must(needed <= PAGES_MOST, "how large pages are");
     must(wisangub_sign_pages(sign, WISANGUB_LOOK, output - needed, needed, &size) == WISANGUB_DONE && size == needed,
          "pages");
+    struct wisangub_page page = {0, 0, 0, 0};
+    uint64_t due = 0;
+    uint16_t width = 0, height = 0;
+    wisangub_sign_matrix(sign, &width, &height);
+    must(wisangub_sign_page_times(sign, 0, &page) == WISANGUB_DONE, "the times of a page");
+    must(page.count * (WISANGUB_PAGE_HEAD + (size_t)width * height) == needed, "how many pages there are");
+    must(wisangub_sign_page_times(sign, page.count, &page) == WISANGUB_FAULT, "no more pages");
+    must(wisangub_sign_due(sign, shown.number, 0, &due) == WISANGUB_DONE || due == 0, "what is due");
 }
 
 /* ---- objects beside the sign's */

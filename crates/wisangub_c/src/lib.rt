@@ -24,3 +24,4 @@ pub mod shown_calls;
 pub mod sign_calls;
 pub mod sign_handle;
 pub mod sign_place;
+pub mod time_calls;

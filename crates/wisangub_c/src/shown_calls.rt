@@ -86,7 +86,7 @@ pub extern "C" fn wisangub_sign_changes_at(sign: &mut SignHandle, changes: &mut 
     *changes = sign.as_mut().changes();
 }
 
-fn tenths_of(seconds: u32) -> u64
+pub(crate) fn tenths_of(seconds: u32) -> u64
     ensures { result ≡ tenths_of seconds }
 {
     10 * u64::from(seconds.max(1))
