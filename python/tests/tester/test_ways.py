@@ -377,6 +377,49 @@ def test_a_read_is_sent_again_and_again_where_nothing_has_come_for_a_second() ->
         assert (round(took), times) == ((8, 1 + 7 * 4) if is_lossy else (3, 3))
 
 
+class Stalled(Silent):
+    """A link on which who waits is woken three seconds too late."""
+
+    def receive(self, until: float) -> bytes | None:
+        return super().receive(until + 3 if not self.replies else until)
+
+
+def test_while_the_tester_stands_still_the_sign_is_not_silent() -> None:
+    for make, longest in ((Silent, 3.0), (Stalled, 3.0)):
+        clock = SimulatedClock()
+        link = make(clock)
+        port = Port(link, clock)
+        assert port.ask(get(HEIGHT).octets(port.new_number(), WRITER), port.number).reply is None
+        assert (clock.now(), round(port.way.longest, 3)) == (12.0 if make is Stalled else 3.0, longest)
+        assert port.way.silence() == longest
+
+
+def test_a_set_that_is_seen_to_be_taken_begins_no_silence() -> None:
+    session, losing = begun()
+    answered(session, put((TIME, integer(8))))
+    losing.is_reply_lost = True
+    exchange = session.pair.do(put((TIME, integer(9))))
+    assert exchange is not None and exchange.is_lost and session.pair.port.way.silence() == 0
+    session.pair.clock.sleep_until(session.pair.clock.now() + 9)  # in which nothing is asked
+    same = session.pair.do(get(TIME))
+    assert same is not None and same.mismatch is None and session.pair.port.way.longest < 1
+
+
+def test_a_late_reply_to_a_look_ends_a_silence() -> None:
+    clock = SimulatedClock()
+    link = Silent(clock)
+    port = Port(link, clock)
+    number = port.new_number()
+    asked = get(HEIGHT).octets(number, WRITER)
+    assert port.look(asked, number).reply is None and port.way.silence() == clock.now() > 0
+    clock.sleep_until(0.3)
+    link.replies = [wire.written(wire.Message(wire.RESPONSE, b"admin", number, 0, 0, [(HEIGHT, integer(14))]))]
+    port.listen(0.2)
+    assert port.way.silence() == 0 and port.way.longest == 0.3 and not port.passed_over
+    port.listen(0)
+    assert port.way.percent() == 0
+
+
 class Brief(Runner):
     """Can tell no sequence of more than one step."""
 

@@ -97,6 +97,8 @@ class Port:
         is_paused = begun - self._looked > _PAUSE
         reply = self.link.receive(until)
         now = self.clock.now()
+        if now - max(begun, until) > _PAUSE:
+            self.way.stood_still(now - max(begun, until))
         self._is_timed = not is_paused or now - begun > _AT_ONCE
         self._looked = now if not is_paused or self._is_timed or reply is None else self._looked
         return reply
@@ -139,10 +141,12 @@ class Port:
             return
         if self._is_kept(reply, message):
             return
-        if message.number not in self.given_up:
-            self.passed_over += 1
-            self.way.passed_over(message.number, self._is_timed)
-            self._note_stray(message.number)
+        if message.number in self.given_up:
+            self.way.looked(message.number)
+            return
+        self.passed_over += 1
+        self.way.passed_over(message.number, self._is_timed)
+        self._note_stray(message.number)
 
     def _is_kept(self, reply: bytes, message: wire.Message) -> bool:
         """Whether it is the reply to the SET that is waited for besides, which is kept."""
@@ -196,7 +200,7 @@ class Port:
         if reply is not None:
             self.way.answered(number, is_answered and is_counted)
         elif is_answered:
-            self.way.silent(number, begun, is_counted)
+            self.way.silent(number, is_counted)
         return Heard(reply, 1, begun, self.clock.now())
 
     def ask_watched(
@@ -259,9 +263,8 @@ class Port:
         answer: bytes | None = None
         for tries, wait in enumerate(self.waits()):
             self.way.send(sentinel_number, sentinel, is_again=tries > 0)
-            begun = self.clock.now()
+            until = self.clock.now() + wait
             self.send(sentinel)
-            until = begun + wait
             while (reply := self._receive(until)) is not None:
                 message = spelled(reply)
                 if message is not None and message.number == sentinel_number:
@@ -271,7 +274,7 @@ class Port:
                     answer = reply
                 else:
                     self._pass_over(reply, message, number)
-            self.way.silent(sentinel_number, begun)
+            self.way.silent(sentinel_number)
         return answer, False
 
 

@@ -67,6 +67,9 @@ class Way:
     odd: Counter[Oddity] = field(default_factory=Counter)
     examples: dict[Oddity, bytes] = field(default_factory=dict)
     _recent: dict[int, Sent] = field(default_factory=dict)
+    _stood: float = 0.0  # seconds for which this program stood still while it waited
+    _asked_at: float = 0.0  # when a request was sent last, without these seconds, as is the next
+    _is_heard: bool = False  # whether anything has come since
     _silent_since: float | None = None
     _in_a_row: int = 0
     _most_silent: float = _PATIENCE
@@ -84,7 +87,7 @@ class Way:
         """A request is sent whose reply is waited for, be it again since there was none. Raises Stopped where it is no
         use to go on."""
         self._give_up()
-        now = self.clock.now()
+        now, self._asked_at, self._is_heard = self.clock.now(), self._awake(), False
         if is_again and number in self._recent:
             self._recent[number].waiting.append(now)
             return
@@ -94,9 +97,7 @@ class Way:
 
     def answered(self, number: int, is_counted: bool = True) -> None:
         """A request has its reply."""
-        if self._silent_since is not None:
-            self.longest = max(self.longest, self.clock.now() - self._silent_since)
-        self._silent_since, self._in_a_row = None, 0
+        self._hear()
         self.asked += is_counted
         sent = self._recent.get(number)
         if sent is not None:
@@ -104,11 +105,16 @@ class Way:
             if sent.waiting:
                 self._took(sent, True)
 
-    def silent(self, number: int, begun: float, is_counted: bool = True) -> None:
-        """A request that was sent at this moment has no reply so far."""
-        if self._silent_since is None:
-            self._silent_since = begun
-        self.longest = max(self.longest, self.clock.now() - self._silent_since)
+    def _hear(self) -> None:
+        """Something has come from the sign, which is silent no more."""
+        self.longest = max(self.longest, self.silence())
+        self._silent_since, self._in_a_row, self._is_heard = None, 0, True
+
+    def silent(self, number: int, is_counted: bool = True) -> None:
+        """A request has no reply so far. The sign is silent where nothing has come since one was sent last."""
+        if self._silent_since is None and not self._is_heard:
+            self._silent_since = self._asked_at
+        self.longest = max(self.longest, self.silence())
         self.asked += is_counted
         self._in_a_row += is_counted
         sent = self._recent.get(number)
@@ -120,7 +126,7 @@ class Way:
         """A reply to an earlier request; it may be unknown how late it is."""
         sent = self._recent.get(number)
         if sent is not None and sent.waiting:
-            self._silent_since, self._in_a_row = None, 0
+            self._hear()
             self._took(sent, is_timed)
             return
         self.doubled += 1
@@ -128,6 +134,13 @@ class Way:
             self.twice += 1
         if sent is not None:
             sent.doubled += 1
+
+    def looked(self, number: int) -> None:
+        """A reply to a look that was not waited for any longer."""
+        sent = self._recent.get(number)
+        if sent is not None and sent.waiting:
+            self._hear()
+            sent.waiting.pop()
 
     def _took(self, sent: Sent, is_timed: bool) -> None:
         """A request has a reply, which counts as one to what was sent last. It is in time where it came within the wait
@@ -168,9 +181,18 @@ class Way:
         if least > self.wait:
             raise Stopped(f"four replies of five take {least:.1f} s or longer, and --wait is {self.wait:g}")
 
+    def stood_still(self, seconds: float) -> None:
+        """This program stood still for so long while it waited, as on a busy machine: that is no silence of the
+        sign."""
+        self._stood += seconds
+
+    def _awake(self) -> float:
+        """The moment, without the seconds for which this program stood still."""
+        return self.clock.now() - self._stood
+
     def silence(self) -> float:
         """Seconds for which nothing has come so far."""
-        return 0.0 if self._silent_since is None else self.clock.now() - self._silent_since
+        return 0.0 if self._silent_since is None else self._awake() - self._silent_since
 
     def is_in_doubt(self) -> bool:
         """Whether there was no reply for so long that the sign may be gone, or leaves one request alone unanswered."""
