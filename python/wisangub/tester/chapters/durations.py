@@ -3,7 +3,7 @@
 from typing import Iterator
 
 from wisangub.snmp.names import Memory, scalar
-from wisangub.tester.context import Context, activate, remaining
+from wisangub.tester.context import ADDRESS, Context, activate, remaining
 from wisangub.tester.requests.objects import Binding, Row, integer, octets
 from wisangub.tester.requests.steps import Step, Wait, get, put
 
@@ -12,6 +12,7 @@ from .telling import telling
 
 _REMAINING = scalar("dmsMessageTimeRemaining")
 _OTHERS = (2, 3, 10, 59, 60, 61, 100, 255, 256, 1000, 32767, 32768, 65534)  # minutes
+_ADDRESSES = (ADDRESS, bytes(4), bytes([255] * 4), bytes([10, 0, 0, 1]))  # nobody's too
 _MANY = 16  # seconds: more than there are in a minute that is counted by quarters of a second, or by less
 _CUT = 12015  # minutes of which the seconds are 4 in 16 bits, and in 8
 
@@ -73,8 +74,8 @@ def _minutes(context: Context) -> Iterator[Block]:
         yield Block(
             f"an activation of {value} minutes", "shown", [activate(context.blank_code(4, 255, value)), *look()], True
         )
-    for at, value in enumerate(_OTHERS):  # of different priorities too; a block each, since a way may lose some
-        code = context.blank_code(4, (4, 9, 100, 128, 254, 255)[at % 6], value)
+    for at, value in enumerate(_OTHERS):  # of different priorities and addresses; a block each, as a way may lose some
+        code = context.blank_code(4, (4, 9, 100, 128, 254, 255)[at % 6], value, _ADDRESSES[at % len(_ADDRESSES)])
         yield Block(f"an activation of {value} minutes", "shown", [activate(code), get(_REMAINING)], True)
         written: list[Step] = [put(remaining(value)), get(_REMAINING), put(remaining(value)), get(_REMAINING)]
         yield Block(f"{value} minutes, and again", "remaining", written, True)
