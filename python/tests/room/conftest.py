@@ -1,8 +1,9 @@
 """Databases for tests: a file of SQLite, and a server of PostgreSQL that the tests start; skipped where none is."""
 
+import functools
 import importlib.util
 import pathlib
-from typing import Iterator
+from typing import Callable, Iterator
 
 import pytest
 
@@ -30,11 +31,17 @@ def server() -> Iterator[Server]:
 
 
 @pytest.fixture(scope="session")
-def tables(server: Server) -> str:
-    """The name of a database with today's tables and nothing in them, to which nobody is connected."""
-    made = server.database()
-    database.opened(made).close()
-    return made.rpartition("/")[2]
+def tables(server: Server) -> Callable[[], str]:
+    """The name of a database with today's tables and nothing in them, to which nobody is connected. It is made once:
+    where that fails, by the next test that asks."""
+
+    @functools.cache
+    def made() -> str:
+        where = server.database()
+        database.opened(where).close()
+        return where.rpartition("/")[2]
+
+    return made
 
 
 @pytest.fixture(params=KINDS)
@@ -43,7 +50,7 @@ def where(request: pytest.FixtureRequest, tmp_path: pathlib.Path) -> str:
     if request.param == "sqlite":
         return str(tmp_path / "database")
     made: Server = request.getfixturevalue("server")
-    return made.database(request.getfixturevalue("tables"))
+    return made.database(request.getfixturevalue("tables")())
 
 
 @pytest.fixture(params=KINDS)
