@@ -9,6 +9,9 @@ TOP = pathlib.Path(__file__).resolve().parents[3]
 RELEASE = TOP / "tools/release"
 PACKAGES = sorted(path.name for path in (RELEASE / "debian").iterdir() if path.is_dir())
 UNITS = sorted((RELEASE / "units").iterdir())
+NEAR = """# while many datagrams come it stays on one processor with its program
+SystemCallFilter=sched_setaffinity
+"""  # what the unit of a sign allows besides
 
 
 def test_there_are_three() -> None:
@@ -36,5 +39,6 @@ def test_units(path: pathlib.Path) -> None:
     commands = re.findall(r"(?m)^ExecStart=/usr/bin/(\S+)", text)
     assert len(commands) == 1 and (TOP / "bin" / commands[0]).exists()
     assert "User=wisangub\n" in text and "StateDirectory=wisangub\n" in text and "ConditionPathExists=" in text
-    hardening = text.split("NoNewPrivileges=")[1]
+    assert (NEAR in text) == (commands == ["wisangub-sign"])
+    hardening = text.replace(NEAR, "").split("NoNewPrivileges=")[1]
     assert hardening == UNITS[0].read_text(encoding="utf-8").split("NoNewPrivileges=")[1]
