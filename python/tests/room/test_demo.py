@@ -107,7 +107,7 @@ def test_the_whole_with_one_command(tmp_path: pathlib.Path) -> None:
             assert found is not None and said.count("log in as") == 3
             asyncio.run(asyncio.wait_for(seen(f"http://127.0.0.1:{listen}", found[1]), PATIENCE))
             process.send_signal(signal.SIGINT)
-            assert process.wait(PATIENCE) == 0
+            assert process.wait(PATIENCE + 3 * 20) == 0  # it gives each of its three programs 20 s to end
         finally:
             if process.poll() is None:
                 process.terminate()
