@@ -299,3 +299,7 @@ known_members_are end bytes b c name value rest h e v named =
     let known = known_value end bytes b c (Ok (value, rest)) h e v in
     let valued : value ≡ b.value = ap (λ x. x.0) (ok_is (value, rest) (b.value, known.0) known.1) in
     rw (named, valued) h
+
+-- where none are left, neither are bindings
+pub none_left : (rest : List ℕ) → length rest ≡ 0 → bindings_of rest ≡ []
+none_left rest none = ap bindings_of (nil_from_length rest none) ∙ no_binding 0

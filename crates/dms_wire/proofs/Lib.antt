@@ -1,6 +1,7 @@
 pub mod Values
 pub mod Bindings
 pub mod Messages
+pub mod UsualMessages
 pub mod Promises
 pub mod ShorterSpellings
 mod ShortestSpellings
@@ -9,6 +10,7 @@ pub mod LimitsLaws
 pub mod MessageOfLaws
 pub mod Sizes
 pub mod Prefixes
+pub mod ShortPrefixes
 pub mod Writes
 pub mod FewBindings
 pub mod Rows

@@ -1,5 +1,5 @@
 -- Messages: what reading gives is spelled, what is spelled is read, and the faults of octets too few or too many.
-use Rattle.std.proofs.Common.{◌≡◌, ◌+◌, ◌-◌, ◌<◌, ◌≤◌, ℕ, ℤ, pos, inl, inr, ◌++◌, List, [], ◌∷◌, length, take, drop, ltb, nat_lt, ◌==◌, Ok, Err, Some, true, ok_or, refl, sym, ap, ◌∙◌, subst, arith, append_assoc, append-nil, length-append, length-drop, one-add}
+use Rattle.std.proofs.Common.{◌≡◌, ◌+◌, ◌-◌, ◌<◌, ◌≤◌, ℕ, ℤ, pos, inl, inr, ◌++◌, List, [], ◌∷◌, length, take, drop, ltb, nat_lt, Ok, Err, Some, true, ok_or, refl, sym, ap, ◌∙◌, subst, arith, append_assoc, append-nil, length-append, length-drop, one-add}
 use Rattle.std.proofs.lemmas.Bool.{eqb-true, eq-eqb, ltb-false, lt-ltb, le-ltb, cases_lt}
 use Rattle.std.proofs.lemmas.List.{length-take-le, take-append-le, take-append-drop, take_at, drop_at}
 use Rattle.std.specs.Int.Digits.{AllBelowBase}
@@ -185,7 +185,7 @@ unfolding outer_content
 outer_content_only end len content rest form = grind (arith, append_assoc, length_only, le-ltb, length-append, take_at, drop_at)
 
 -- an outermost element, whatever follows it
-outer_only : (len content rest : List ℕ) → IsLength len (length content) → outer_at ((48 ∷ (len ++ content)) ++ rest) ≡ Ok (content, rest)
+pub outer_only : (len content rest : List ℕ) → IsLength len (length content) → outer_at ((48 ∷ (len ++ content)) ++ rest) ≡ Ok (content, rest)
 unfolding outer_at
 outer_only len content rest form = outer_content_only (1 + length ((len ++ content) ++ rest)) len content rest form
 

@@ -1,5 +1,5 @@
 -- Values and the elements around them: what reading gives is spelled, and what is spelled is read.
-use Rattle.std.proofs.Common.{◌≡◌, ℕ, pos, inl, inr, ◌++◌, List, [], ◌∷◌, length, eqb, ◌==◌, Ok, Some, true, false, Option, ok_or, option_map, refl, ap, ◌∙◌, subst, arith, eq-eqb, ◌-◌}
+use Rattle.std.proofs.Common.{◌≡◌, ℕ, pos, inl, inr, ◌++◌, List, [], ◌∷◌, length, eqb, ◌==◌, Ok, Some, true, false, Option, ok_or, option_map, refl, ap, subst, arith, eq-eqb, ◌-◌}
 use Rattle.std.proofs.lemmas.Bool.{eqb-true}
 use Rattle.std.proofs.lemmas.Bool.Decides.{nat_tests}
 use Rattle.std.proofs.lemmas.List.{nil_from_length}

@@ -15,3 +15,4 @@ pub mod Walk
 pub mod Prefix
 pub mod View
 pub mod PduView
+pub mod UnreadView

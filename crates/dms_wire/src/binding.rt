@@ -18,8 +18,8 @@ ghost use Rattle.dms_wire_ber.specs.Limits.{longest_datagram};
 use crate::fault::TooBig;
 use crate::value::{Value, put_value, read_value, size_of_value};
 use dms_wire_ber::{
-    MAX_DATAGRAM, Oid, Out, WireFault, ended, is_name, offset_of, put_head, put_octets,
-    read_content, read_element, read_name, size_of_element, size_of_octets, tag,
+    MAX_DATAGRAM, Oid, Out, WireFault, ended, is_name, offset_of, put_content, put_head,
+    put_octets, read_content, read_element, read_name, size_of_element, size_of_octets, tag,
 };
 use std::marker::Model;
 
@@ -89,12 +89,8 @@ impl<'a> Binds<'a> {
             × (self.now ≡ record { name = name; value = value } ∷ [])) }
         ensures none { IfNone result (length self.now ≢ 1) }
     {
-        let mut rest = self.again();
-        let first = rest.next_name()?;
-        match rest.next_name() {
-            None => Some(first),
-            Some(_) => None,
-        }
+        let (only, after) = first_name(self.content)?;
+        if after.is_empty() { Some(only) } else { None }
     }
 }
 
@@ -283,7 +279,7 @@ fn check_bindings(octets: &[u8], end: usize) -> Result<(), WireFault>
 
 /// Bindings up to the end of the octets.
 #[inline]
-fn bindings(octets: &[u8], end: usize) -> Result<Binds<'_>, WireFault>
+pub(crate) fn bindings(octets: &[u8], end: usize) -> Result<Binds<'_>, WireFault>
     requires { length octets.now ≤ end }
     ensures { Gives (λ bs. bs) result (bindings_at end octets.now) }
 {
@@ -400,8 +396,34 @@ pub(crate) fn put_binding_of_size(out: &mut Out, binding: &Bind<'_>, content: us
     requires room { array_vec_len out.old + length (binding_octets (var_bind binding.now)) ≤ longest_datagram }
     ensures { out.new.items ≡ out.old.items ++ binding_octets (var_bind binding.now) }
 {
-    put_head(out, tag::SEQUENCE, content);
-    put_binding_content(out, binding);
+    if content < 128 {
+        put_short_binding(out, binding, content);
+    } else {
+        put_head(out, tag::SEQUENCE, content);
+        put_binding_content(out, binding);
+    }
+}
+
+/// The same where both lengths are one octet: they are written at once.
+#[inline(always)]
+#[tactic(auto, using(crate::proofs::ShortPrefixes::short_sizes))]
+fn put_short_binding(out: &mut Out, binding: &Bind<'_>, content: usize)
+    requires content { content ≡ length (element 6 (name_octets binding.now.name)
+        ++ value_octets (object_value binding.now.value)) }
+    requires short { content < 128 }
+    requires room { array_vec_len out.old + (2 + content) ≤ longest_datagram }
+    ensures { out.new.items ≡ out.old.items ++ binding_octets (var_bind binding.now) }
+{
+    let name = binding.name.content();
+    let heads = [
+        tag::SEQUENCE,
+        content as u8,
+        tag::OBJECT_IDENTIFIER,
+        name.len() as u8,
+    ];
+    put_content(out, &heads);
+    put_content(out, name);
+    put_value(out, &binding.value);
 }
 
 /// Writes a binding.

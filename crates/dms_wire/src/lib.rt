@@ -21,6 +21,7 @@ pub mod fault;
 pub mod laws;
 pub mod message;
 mod tag;
+mod usual;
 pub mod value;
 
 pub use binding::{Bind, BindingOctets, Binds, MAX_BINDINGS};

@@ -21,15 +21,18 @@ ghost use Rattle.dms_wire.specs.Reading.{outer_content, outer_at, datagram_at, m
 ghost use Rattle.dms_wire.specs.View.{var_bind, message_around, snmp_message, snmp_message_of_parts};
 ghost use Rattle.dms_wire.specs.PduView.{numbered};
 ghost use Rattle.dms_wire.specs.Prefix.{pdu_size, content_size, message_size, pdu_prefix, message_prefix, prefix};
+ghost use Rattle.dms_wire_ber.specs.Element.{element};
+ghost use Rattle.dms_wire_ber.specs.Integer.{integer_octets};
 ghost use Rattle.dms_wire_ber.specs.Limits.{longest_datagram};
 
 use crate::binding::{
-    Bind, BindingOctets, Binds, list, put_binding_of_size, put_bindings, size_of_bindings,
-    sizes_of_binding,
+    Bind, BindingOctets, Binds, bindings, list, put_binding_of_size, put_bindings,
+    size_of_bindings, sizes_of_binding,
 };
 use crate::error_status::ErrorStatus;
 use crate::fault::TooBig;
 use crate::tag;
+use crate::usual::read_usual;
 use dms_wire_ber::{
     FaultKind, MAX_DATAGRAM, Out, WireFault, ended, fault_at, integer_of, offset_of, put_content,
     put_head, put_integer, put_integers, put_octets, read_content, read_element, read_integer,
@@ -155,9 +158,42 @@ fn read_message(octets: &[u8]) -> Result<Message<'_>, WireFault>
     datagram(octets)
 }
 
-/// A message that is the whole datagram.
-#[tactic(auto, unfolding(crate::specs::Reading::datagram_at))]
+/// A message that is the whole datagram. What is no sequence is refused at once.
+#[tactic(auto, unfolding(crate::specs::Reading::datagram_at, crate::specs::Reading::outer_at))]
 fn datagram(octets: &[u8]) -> Result<Message<'_>, WireFault>
+    ensures { Gives snmp_message result (datagram_at octets.now) }
+{
+    match octets {
+        [] => Err(fault_at(FaultKind::Truncated, 0)),
+        [universal::SEQUENCE, ..] => sequence(octets),
+        _ => Err(fault_at(FaultKind::BadTag, 0)),
+    }
+}
+
+/// A message that is the whole datagram: where it is as most are, only its bindings may be at fault.
+#[inline(never)]
+fn sequence(octets: &[u8]) -> Result<Message<'_>, WireFault>
+    ensures { Gives snmp_message result (datagram_at octets.now) }
+{
+    let Some(unread) = read_usual(octets) else {
+        // Taken apart: else what is read here would go through memory that the call writes to.
+        return Ok(any_datagram(octets)?);
+    };
+    let binds = bindings(unread.bindings, octets.len())?;
+    Ok(Message {
+        community: unread.community,
+        kind: unread.kind,
+        request: unread.request,
+        status: i64::from(unread.status),
+        index: i64::from(unread.index),
+        binds,
+    })
+}
+
+/// A message that is the whole datagram, in any form.
+#[inline(never)]
+#[tactic(auto, unfolding(crate::specs::Reading::datagram_at))]
+fn any_datagram(octets: &[u8]) -> Result<Message<'_>, WireFault>
     ensures { Gives snmp_message result (datagram_at octets.now) }
 {
     let (content, rest) = outer(octets)?;
@@ -266,7 +302,7 @@ fn tagged_pdu(octets: &[u8], end: usize) -> Result<((Kind, PduFields<'_>), &[u8]
 }
 
 /// The kind of a PDU with this tag.
-fn kind_of(tag: u8) -> Option<Kind>
+pub(crate) fn kind_of(tag: u8) -> Option<Kind>
     ensures { result ≡ kind_of tag }
 {
     match tag {
@@ -417,10 +453,107 @@ fn begin(header: &Header<'_>, size: usize, out: &mut Out) -> Result<(), TooBig>
     if size_of_element(content) > MAX_DATAGRAM {
         return Err(TooBig);
     }
-    put_head(out, universal::SEQUENCE, content);
-    put_message_prefix(out, header, pdu);
-    put_pdu_prefix(out, header, size);
+    if content < 128 {
+        put_short_prefix(out, header, size, pdu, content);
+    } else {
+        put_head(out, universal::SEQUENCE, content);
+        put_message_prefix(out, header, pdu);
+        put_pdu_prefix(out, header, size);
+    }
     Ok(())
+}
+
+/// Writes what stands before bindings of `size` octets where each length is one octet: what is known before and after
+/// the community at once.
+#[inline]
+fn put_short_prefix(out: &mut Out, header: &Header<'_>, size: usize, pdu: usize, content: usize)
+    requires pdu { pdu ≡ pdu_size (message_around header.now []) size }
+    requires content { content ≡ content_size (message_around header.now []) pdu }
+    requires short { content < 128 }
+    requires room { array_vec_len out.old + 140 ≤ longest_datagram }
+    ensures { out.new.items ≡ out.old.items ++ prefix (message_around header.now []) size }
+{
+    let community = header.community.len() as u8;
+    let before = [
+        universal::SEQUENCE,
+        content as u8,
+        universal::INTEGER,
+        1,
+        0,
+        universal::OCTET_STRING,
+        community,
+    ];
+    put_content(out, &before);
+    put_content(out, header.community);
+    put_short_pdu_prefix(out, header, size as u8, pdu as u8);
+}
+
+/// Writes the PDU's tag and what stands before the bindings in it, each length one octet: what follows the request-id
+/// at once, as most messages have it.
+#[inline]
+#[tactic(auto, using(crate::proofs::Sizes::element_steps))]
+fn put_short_pdu_prefix(out: &mut Out, header: &Header<'_>, size: u8, pdu: u8)
+    requires { array_vec_len out.old + (length (numbers_octets (message_around header.now [])) + 4) ≤ longest_datagram }
+    ensures { out.new.items ≡ out.old.items
+        ++ (tag_of header.now.kind ∷ pdu ∷ (numbers_octets (message_around header.now []) ++ 48 ∷ size ∷ [])) }
+{
+    let tag = tag_of_pdu(header.kind);
+    if let Some((status, index)) = octets_of_status(header) {
+        put_request(out, tag, pdu, &header.request);
+        let after = [
+            universal::INTEGER,
+            1,
+            status,
+            universal::INTEGER,
+            1,
+            index,
+            universal::SEQUENCE,
+            size,
+        ];
+        put_content(out, &after);
+    } else {
+        put_content(out, &[tag, pdu]);
+        put_numbers(out, header);
+        put_content(out, &[universal::SEQUENCE, size]);
+    }
+}
+
+/// Writes the PDU's tag and length and the request-id.
+#[inline(always)]
+#[tactic(auto, using(crate::proofs::ShortPrefixes::request_steps))]
+fn put_request(out: &mut Out, tag: u8, pdu: u8, request: &i64)
+    requires { array_vec_len out.old + (2 + length (element 2 (integer_octets request.now))) ≤ longest_datagram }
+    ensures { out.new.items ≡ out.old.items ++ (tag ∷ pdu ∷ element 2 (integer_octets request.now)) }
+{
+    if let Some(octet) = octet_of(request) {
+        put_content(out, &[tag, pdu, universal::INTEGER, 1, octet]);
+    } else {
+        put_content(out, &[tag, pdu]);
+        put_integer(out, request);
+    }
+}
+
+/// The error-status and the error-index where each is one octet.
+#[inline(always)]
+fn octets_of_status(header: &Header<'_>) -> Option<(u8, u8)>
+    ensures { IfSome result (λ x. (rest : List ℕ) → numbers_octets (message_around header.now []) ++ rest
+        ≡ element 2 (integer_octets header.now.request) ++ 2 ∷ 1 ∷ x.0 ∷ 2 ∷ 1 ∷ x.1 ∷ rest) }
+{
+    let status = octet_of(&header.status)?;
+    let index = octet_of(&header.index)?;
+    Some((status, index))
+}
+
+/// The content of an INTEGER where it is one octet, its first bit 0.
+#[inline(always)]
+fn octet_of(number: &i64) -> Option<u8>
+    ensures { IfSome result (λ octet. (number.now ≡ pos octet) × (octet < 128)) }
+{
+    if 0 <= *number && *number < 128 {
+        Some(*number as u8)
+    } else {
+        None
+    }
 }
 
 /// Writes what stands before the PDU's content: the version, which is 0, the community and the PDU's tag and length.

@@ -133,9 +133,22 @@ pub(crate) fn size_of_value(value: &Value<'_>) -> usize
     }
 }
 
-/// Writes a value.
-#[inline]
+/// Writes a value: those that most bindings have, with no call.
+#[inline(always)]
 pub(crate) fn put_value(out: &mut Out, value: &Value<'_>)
+    requires { array_vec_len out.old + length (value_octets (object_value value.now)) ≤ longest_datagram }
+    ensures { out.new.items ≡ out.old.items ++ value_octets (object_value value.now) }
+{
+    match value {
+        Value::Integer(number) => put_integer(out, number),
+        Value::Null => put_empty(out, universal::NULL),
+        _ => put_any_value(out, value),
+    }
+}
+
+/// Writes a value of any type.
+#[inline(never)]
+fn put_any_value(out: &mut Out, value: &Value<'_>)
     requires { array_vec_len out.old + length (value_octets (object_value value.now)) ≤ longest_datagram }
     ensures { out.new.items ≡ out.old.items ++ value_octets (object_value value.now) }
 {

@@ -147,3 +147,18 @@ pub name_only : (numbers bytes : List ℕ) → IsName numbers bytes → (is_name
 name_only numbers bytes h =
     let read = names_only h.sub_identifiers bytes 0 h.spelled (omega (arith, h.some)) (omega (arith, h.few)) in
     (read.0, ap numbers_from read.1 ∙ sym h.numbers_is)
+
+-- a sub-identifier of one octet
+one_step : (count a : ℕ) (rest : List ℕ) → a < 128 → count < most_sub_identifiers → goes_on count 0 (a ∷ rest) ≡ goes_on (count + 1) 0 rest
+unfolding goes_on
+one_step count a rest small few = grind (arith, le-ltb, lt-ltb, nat_tests)
+
+-- four of them
+pub four_steps : (count a b c d : ℕ) (rest : List ℕ) → a < 128 → b < 128 → c < 128 → d < 128 → count + 4 ≤ most_sub_identifiers
+    → goes_on count 0 (a ∷ b ∷ c ∷ d ∷ rest) ≡ goes_on (count + 4) 0 rest
+four_steps count a b c d rest sa sb sc sd few =
+    one_step count a (b ∷ c ∷ d ∷ rest) sa (omega arith)
+    ∙ one_step (count + 1) b (c ∷ d ∷ rest) sb (omega arith)
+    ∙ one_step (count + 1 + 1) c (d ∷ rest) sc (omega arith)
+    ∙ one_step (count + 1 + 1 + 1) d rest sd (omega arith)
+    ∙ ap (λ n. goes_on n 0 rest) (omega arith)

@@ -310,7 +310,7 @@ pub fn is_name(octets: &[u8]) -> bool
     ensures { IsTrue result ↔ IsTrue (is_name octets.now) }
 {
     match below_dms(octets) {
-        Some(rest) => goes_on(DMS_SUB_IDENTIFIERS, rest),
+        Some(rest) => goes_on_by_fours(DMS_SUB_IDENTIFIERS, rest),
         None => goes_on(0, octets),
     }
 }
@@ -329,6 +329,22 @@ pub fn below_dms(octets: &[u8]) -> Option<&[u8]>
     }
 }
 
+/// Whether the octets go on as an object identifier's content after `before` sub-identifiers: most of those below dms
+/// have one octet, and are looked at four at once.
+#[inline(never)]
+fn goes_on_by_fours(before: usize, octets: &[u8]) -> bool
+    requires { before ≤ most_sub_identifiers }
+    ensures { IsTrue result ↔ IsTrue (goes_on before 0 octets.now) }
+{
+    let mut count = before;
+    let mut rest = octets;
+    while let Some(others) = after_four(count, rest) {
+        count += 4;
+        rest = others;
+    }
+    goes_on(count, rest)
+}
+
 /// Whether the octets go on as an object identifier's content after `before` sub-identifiers.
 #[inline(never)]
 #[tactic(auto, unfolding(crate::specs::NameReading::goes_on))]
@@ -343,6 +359,33 @@ fn goes_on(before: usize, octets: &[u8]) -> bool
         rest = others;
     }
     rest.is_empty() && 0 < count
+}
+
+/// What follows four sub-identifiers of one octet each, where that many may come.
+#[inline(always)]
+#[tactic(auto, using(crate::proofs::Names::four_steps))]
+fn after_four(count: usize, octets: &[u8]) -> Option<&[u8]>
+    ensures some { IfSome result (λ rest. goes_on count 0 octets.now ≡ goes_on (count + 4) 0 rest.now) }
+    ensures few { IfSome result (λ _. count + 4 ≤ most_sub_identifiers) }
+    ensures shorter { IfSome result (λ rest. length rest.now < length octets.now) }
+{
+    let (a, b, c, d, rest) = first_four(octets)?;
+    if a < 128 && b < 128 && c < 128 && d < 128 && count <= MAX_SUB_IDENTIFIERS - 4 {
+        Some(rest)
+    } else {
+        None
+    }
+}
+
+/// The first four octets, and what follows them.
+#[inline(always)]
+fn first_four(octets: &[u8]) -> Option<(u8, u8, u8, u8, &[u8])>
+    ensures { IfSome result (λ x. octets.now ≡ x.0 ∷ x.1 ∷ x.2 ∷ x.3 ∷ x.4.now) }
+{
+    match octets {
+        [a, b, c, d, rest @ ..] => Some((*a, *b, *c, *d, rest)),
+        _ => None,
+    }
 }
 
 /// What follows the first sub-identifier, before which there were `count`; none where there is no octet, or where it is

@@ -1,5 +1,4 @@
 use Rattle.std.proofs.Common.{◌∷◌, List, ℕ, sym, ap, ◌∙◌}
-use Rattle.dms_wire.specs.Message.{VarBind}
 use Rattle.dms_wire.specs.Walk.{bindings_of}
 use Rattle.dms_wire.proofs.Bindings.{walk_more, whole_more, known_first, known_name, binding_joined, some_element, no_first}
 use Rattle.dms_wire.proofs.binding.first_name.Goals as goal

@@ -1,4 +1,4 @@
-use Rattle.std.proofs.Common.{◌≡◌, arith}
+use Rattle.std.proofs.Common.{arith}
 use Rattle.dms_wire.proofs.ShortestSpellings.{nothing_shortest}
 use Rattle.dms_wire.proofs.binding.shortest_octets.Goals as goal
 
