@@ -22,7 +22,7 @@ most of_font characters = fold max 0 (map (λ (character : Character). of_font c
 max_of_less : (a b : ℕ) → b ≤ a → max a b ≡ a
 max_of_less a b less = grind (arith, nat_tests)
 
-most_push : (of_font : FontModel → ℕ) (characters : List Character) (character : Character) → of_font character.style.font ≤ most of_font characters
+pub most_push : (of_font : FontModel → ℕ) (characters : List Character) (character : Character) → of_font character.style.font ≤ most of_font characters
     → most of_font (characters ++ character ∷ []) ≡ most of_font characters
 most_push of_font characters character less = grind (arith, map-append, fold-append, max_of_less)
 

@@ -10,7 +10,7 @@ pub mod GrowthLaws
 mod RoomTests
 pub mod WalkLaws
 pub mod GoodLaws
-pub mod WalkState
 pub mod ReadingLaws
 pub mod RuleLaws
 pub mod ApartLaws
+pub mod RunLaws

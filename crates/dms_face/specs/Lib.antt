@@ -13,3 +13,5 @@ pub mod Rules
 -- what only proofs go through: one walk over a text, and running sums
 pub mod OnePass
 pub mod Totals
+pub mod Runs
+pub mod Walked

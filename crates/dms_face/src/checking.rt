@@ -1,7 +1,8 @@
 //! Whether a text can be shown on a face.
 
-ghost use Rattle.std.specs.Prelude.{◌≡◌, IsTrue, ◌↔◌};
+ghost use Rattle.std.specs.Prelude.{◌≡◌, length, IsTrue, ◌↔◌};
 ghost use Rattle.std.specs.Result.{is_ok};
+ghost use Rattle.dms_multi.specs.Outcomes.{outcomes_of};
 ghost use Rattle.dms_face.specs.Face.{fit};
 ghost use Rattle.dms_face.specs.Layout.{under, blank_layout};
 ghost use Rattle.dms_face.specs.Fit.{IsGood, checked_text};
@@ -12,7 +13,7 @@ use crate::face::Face;
 use crate::multi_fault::MultiFault;
 use crate::totals::Totals;
 use dms_codes::MAX_TEXT;
-use dms_multi::{Spots, items};
+use dms_multi::outcome_at;
 
 /// The number of the text's pages, or why it can not be shown under the face's own defaults.
 pub fn check(face: &Face, text: &[u8]) -> Result<usize, MultiFault>
@@ -32,22 +33,25 @@ pub fn check_with(face: &Face, defaults: &Defaults, text: &[u8]) -> Result<usize
     if text.len() > MAX_TEXT {
         return Err(MultiFault::TOO_LONG);
     }
-    walk(face, defaults, items(text), text.len())
+    walk(face, defaults, text)
 }
 
-/// What is answered for a text that ends at this offset, by one walk over its items.
-fn walk(face: &Face, defaults: &Defaults, spots: Spots<'_>, end: usize) -> Result<usize, MultiFault>
+/// What is answered for a text, by one walk over its items.
+fn walk(face: &Face, defaults: &Defaults, text: &[u8]) -> Result<usize, MultiFault>
     requires { IsTrue (fit face.now.fonts defaults.now) }
-    ensures { result
-        ≡ walked (under face.now defaults.now) end (blank_layout (under face.now defaults.now)) spots.entry }
+    ensures { result ≡ walked (under face.now defaults.now) (length text.now)
+        (blank_layout (under face.now defaults.now)) (outcomes_of text.now) }
 {
+    let end = text.len();
     let mut totals = Totals::new(face, defaults);
-    for outcome in spots {
+    let mut rest = text;
+    while let Some((outcome, more)) = outcome_at(rest, end) {
         let spot = outcome?;
         if let Some(code) = totals.take(face, defaults, spot.item) {
             let place = spot.first;
             return Err(MultiFault { code, place });
         }
+        rest = totals.take_run(face, more);
     }
     match totals.end_fault(face) {
         None => Ok(totals.pages + 1),

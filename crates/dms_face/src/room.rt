@@ -1,9 +1,10 @@
 //! How much room characters take in their line, and lines on their page.
 
-ghost use Rattle.std.specs.Prelude.{◌≡◌, ◌≤◌, not, List, [], ◌∷◌, ◌++◌, IsTrue};
+ghost use Rattle.std.specs.Prelude.{◌≡◌, ℕ, ◌<◌, ◌≤◌, true, not, List, [], ◌∷◌, ◌++◌, IsTrue};
 ghost use Rattle.dms_face.specs.declared.justification.Place.TheVariants.{Start, Halfway, End};
 ghost use Rattle.dms_face.specs.Layout.{is_blank};
 ghost use Rattle.dms_face.specs.Room.{average, is_at, at_place, span, have_room, blocks_fit};
+ghost use Rattle.dms_face.specs.Runs.{run_at, sized, IsLimit};
 ghost use Rattle.dms_face.specs.Fit.{goes_back, is_taken};
 ghost use Rattle.dms_face.specs.Totals.{Sums, MatchesBlocks, AreWithin};
 
@@ -156,6 +157,43 @@ impl Places {
         self.any_at(place) || self.goes_back(place)
     }
 
+    /// The row of a place.
+    pub(crate) fn at(&self, place: Place) -> Run
+        ensures { result ≡ run_at place self.now }
+    {
+        match place {
+            Place::Start => self.start,
+            Place::Halfway => self.halfway,
+            Place::End => self.end,
+        }
+    }
+
+    /// The row of a place takes this room.
+    pub(crate) fn set_size(&mut self, place: Place, size: u32)
+        ensures { self.new ≡ sized place size self.old }
+    {
+        match place {
+            Place::Start => self.start.size = size,
+            Place::Halfway => self.halfway.size = size,
+            Place::End => self.end.size = size,
+        }
+    }
+
+    /// The row of a place surely has room beside the others where it takes less than this.
+    #[inline]
+    pub(crate) fn limit(&self, place: Place, whole: u32) -> u32
+        requires whole { whole ≤ 256 }
+        requires within { AreWithin 256 self.now }
+        ensures limit { IsLimit whole place self.now result }
+        ensures small { result ≤ 257 }
+    {
+        match place {
+            Place::Start => limit_at_start(whole, self.halfway.size, self.end.size),
+            Place::Halfway => limit_halfway(whole, self.start.size, self.end.size),
+            Place::End => limit_at_end(whole, self.start.size, self.halfway.size),
+        }
+    }
+
     /// Whether the places have room beside each other.
     #[inline]
     pub(crate) fn fit(&self, whole: u32) -> bool
@@ -188,4 +226,68 @@ fn have_room(whole: u32, start: u32, halfway: u32, end: u32) -> bool
     }
     let first = (whole - halfway) / 2;
     start <= first && first + halfway + end <= whole
+}
+
+/// What surely has room at the start, with so much halfway and at the end, takes less than this.
+#[tactic(auto, using(crate::proofs::RoomTests::limits))]
+#[inline]
+fn limit_at_start(whole: u32, halfway: u32, end: u32) -> u32
+    requires whole { whole ≤ 256 }
+    requires halfway { halfway ≤ 256 }
+    requires end { end ≤ 256 }
+    ensures room { (start : ℕ) → start < result
+        → have_room whole (span whole Start start ∷ span whole Halfway halfway ∷ span whole End end ∷ []) ≡ true }
+    ensures small { result ≤ 257 }
+{
+    if halfway == 0 {
+        return (whole + 1).saturating_sub(end);
+    }
+    if halfway > whole {
+        return 0;
+    }
+    let before = (whole - halfway) / 2;
+    if before + halfway + end <= whole {
+        before + 1
+    } else {
+        0
+    }
+}
+
+/// What surely has room halfway, with so much at the start and at the end, takes less than this.
+#[tactic(auto, using(crate::proofs::RoomTests::limits))]
+#[inline]
+fn limit_halfway(whole: u32, start: u32, end: u32) -> u32
+    requires whole { whole ≤ 256 }
+    requires start { start ≤ 256 }
+    requires end { end ≤ 256 }
+    ensures room { (halfway : ℕ) → halfway < result
+        → have_room whole (span whole Start start ∷ span whole Halfway halfway ∷ span whole End end ∷ []) ≡ true }
+    ensures small { result ≤ 257 }
+{
+    (whole + 1).saturating_sub(2 * start.max(end))
+}
+
+/// What surely has room at the end, with so much at the start and halfway, takes less than this.
+#[tactic(auto, using(crate::proofs::RoomTests::limits))]
+#[inline]
+fn limit_at_end(whole: u32, start: u32, halfway: u32) -> u32
+    requires whole { whole ≤ 256 }
+    requires start { start ≤ 256 }
+    requires halfway { halfway ≤ 256 }
+    ensures room { (end : ℕ) → end < result
+        → have_room whole (span whole Start start ∷ span whole Halfway halfway ∷ span whole End end ∷ []) ≡ true }
+    ensures small { result ≤ 257 }
+{
+    if halfway == 0 {
+        return (whole + 1).saturating_sub(start);
+    }
+    if halfway > whole {
+        return 0;
+    }
+    let before = (whole - halfway) / 2;
+    if start <= before {
+        whole + 1 - before - halfway
+    } else {
+        0
+    }
 }

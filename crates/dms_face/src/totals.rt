@@ -1,6 +1,11 @@
 //! What is known of a text while its items are walked: running sums of the open line and the open page.
 
-ghost use Rattle.std.specs.Prelude.{◌≡◌, List, [], ◌∷◌, ◌++◌, map, true, false, not, Some, None, IsTrue, IfNone};
+ghost use Rattle.std.specs.Prelude.{◌≡◌, ℕ, ◌<◌, ◌≤◌, List, [], ◌∷◌, ◌++◌, length, map, true, false, not};
+ghost use Rattle.std.specs.Prelude.{Some, None, Result, IsTrue, IfNone};
+ghost use Rattle.dms_multi.specs.Outcomes.{outcomes_from};
+ghost use Rattle.dms_face.specs.declared.multi_fault.MultiFault.{MultiFault};
+ghost use Rattle.dms_face.specs.Runs.{run_after, IsRunning};
+ghost use Rattle.dms_face.specs.Walked.{IsWalkedTo};
 ghost use Rattle.dms_multi.specs.declared.item.Item.TheVariants.{JustLine};
 ghost use Rattle.dms_face.specs.Face.{fit};
 ghost use Rattle.dms_face.specs.Layout.{Layout, Line, is_blank, under, open_line, standing, closed, has_line_in};
@@ -182,6 +187,54 @@ impl<'a> Totals<'a> {
         } else {
             Some(MultiFaultCode::TextTooBig)
         }
+    }
+
+    /// Whether a character of the font makes the open line higher, or more widely spaced.
+    fn grows(&self) -> bool
+        ensures low { result ≡ false → self.now.font.now.height ≤ self.now.height }
+        ensures close { result ≡ false → self.now.font.now.line_spacing ≤ self.now.spacing }
+    {
+        self.font.height() > self.height || self.font.line_spacing() > self.spacing
+    }
+
+    /// What the room of the characters on this side of the open line must stay below for characters of the font to join
+    /// them, and to change nothing else: 0 where they may change more.
+    #[inline]
+    fn run_limit(&self, face: &Face) -> u32
+        requires { AreSmall self.now }
+        ensures running { 0 < result → IsRunning face.now.width self.now result }
+        ensures small { result ≤ 257 }
+    {
+        let place = self.side.place();
+        let run = self.characters.at(place);
+        if !run.any || run.spacing != self.font.character_spacing() || self.grows() {
+            return 0;
+        }
+        self.characters.limit(place, u32::from(face.width()))
+    }
+
+    /// The characters that octets spell by themselves next join the open line, as long as they surely have room and
+    /// change nothing else. What is left of the text.
+    #[inline]
+    pub(crate) fn take_run<'t>(&mut self, face: &Face, text: &'t [u8]) -> &'t [u8]
+        requires { AreSmall self.old }
+        ensures walked { (defaults : Defaults) (end : ℕ) (answer : Result ℕ MultiFault)
+            → IsWalkedTo (under face.now defaults) end self.old (outcomes_from end text.now) answer
+            → IsWalkedTo (under face.now defaults) end self.new (outcomes_from end result.now) answer }
+        ensures rest { length result.now ≤ length text.now }
+    {
+        if !begins_plainly(text) {
+            return text;
+        }
+        let limit = self.run_limit(face);
+        if limit == 0 {
+            return text;
+        }
+        let place = self.side.place();
+        let size = self.characters.at(place).size;
+        let (rest, size) = run_after(self.font, limit, text, size);
+        self.characters.set_size(place, size);
+        rest
     }
 
     /// The open line is closed and the next one opens, or it does not fit.
@@ -379,4 +432,44 @@ impl<'a> Totals<'a> {
             font: face.font(defaults.font).unwrap(),
         }
     }
+}
+
+/// Whether a text begins with an octet that spells a character by itself.
+#[inline]
+fn begins_plainly(text: &[u8]) -> bool {
+    match text {
+        [] => false,
+        [octet, ..] => *octet != b'[' && *octet != b']',
+    }
+}
+
+/// The octets after those that spell characters of the font by themselves, each behind the ones before it, as long as
+/// these take less room than the limit; and how much they take.
+#[tactic(auto, unfolding(crate::specs::Runs::run_after))]
+#[inline(never)]
+fn run_after<'t>(font: &Font, limit: u32, text: &'t [u8], size: u32) -> (&'t [u8], u32)
+    requires size { size ≤ 256 }
+    requires limit { limit ≤ 257 }
+    ensures rest { result.0.now ≡ (run_after font.now limit text.now size).0 }
+    ensures size { result.1 ≡ (run_after font.now limit text.now size).1 }
+    ensures shorter { length result.0.now ≤ length text.now }
+{
+    let spacing = u32::from(font.character_spacing());
+    let mut rest = text;
+    let mut size = size;
+    'octets: while let [octet, more @ ..] = rest {
+        if *octet == b'[' || *octet == b']' {
+            return (rest, size);
+        }
+        let Some(glyph) = font.glyph(u16::from(*octet)) else {
+            return (rest, size);
+        };
+        let longer = size + spacing + u32::from(glyph.width());
+        if longer >= limit {
+            return (rest, size);
+        }
+        size = longer;
+        rest = more;
+    }
+    (rest, size)
 }

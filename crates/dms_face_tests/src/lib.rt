@@ -1,4 +1,4 @@
-//! Tests of faces, of the check of a text, of pages and of pictures through their public calls.
+//! Tests of faces, of the check of a text, of pages, their rows and pictures through their public calls.
 #![tactic(auto)]
 
 #[cfg(test)]
@@ -9,3 +9,5 @@ mod faces;
 mod pages;
 #[cfg(test)]
 mod pictures;
+#[cfg(test)]
+mod rows;

@@ -22,4 +22,4 @@ mod value;
 pub use fault::{FaultCode, SyntaxFault, TooLong};
 pub use item::{Item, Lead};
 pub use rendering::render;
-pub use spots::{Spot, Spots, items};
+pub use spots::{Spot, Spots, items, outcome_at};

@@ -1,5 +1,5 @@
 //! Reading a text as the spots of its items.
-ghost use Rattle.std.specs.Prelude.{◌≡◌, ◌∷◌, [], ◌≤◌, length, IfSome, IfNone};
+ghost use Rattle.std.specs.Prelude.{◌≡◌, ◌∷◌, [], ◌<◌, ◌≤◌, length, IfSome, IfNone};
 ghost use Rattle.std.specs.Iterator.{YieldsFirst, item_count};
 ghost use Rattle.dms_multi.specs.Grammar.{IsReading};
 ghost use Rattle.dms_multi.specs.Outcomes.{outcomes_from, outcomes_of};
@@ -90,13 +90,14 @@ fn item_at(text: &[u8]) -> Result<(Item, &[u8]), FaultCode>
     }
 }
 
-/// The first outcome of a text that ends at the offset `end`, and the text after it.
+/// The first outcome of a text that ends at the offset `end`, and the text after it: none where the text is empty, and
+/// no text after a fault.
 #[inline]
-fn outcome_at(text: &[u8], end: usize) -> Option<(Result<Spot, SyntaxFault>, &[u8])>
+pub fn outcome_at(text: &[u8], end: usize) -> Option<(Result<Spot, SyntaxFault>, &[u8])>
     requires { length text.now ≤ end }
     ensures none { IfNone result (outcomes_from end text.now ≡ []) }
     ensures some { IfSome result (λ x. outcomes_from end text.now ≡ x.0 ∷ outcomes_from end x.1.now) }
-    ensures rest { IfSome result (λ x. length x.1.now ≤ length text.now) }
+    ensures rest { IfSome result (λ x. length x.1.now < length text.now) }
 {
     if text.is_empty() {
         return None;

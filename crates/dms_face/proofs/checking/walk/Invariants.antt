@@ -1,10 +1,14 @@
+use Rattle.std.proofs.Common.{◌≤◌, length}
+use Rattle.dms_multi.specs.Outcomes.{outcomes_from, outcomes_of}
 use Rattle.dms_face.specs.Layout.{under, blank_layout}
 use Rattle.dms_face.specs.OnePass.{walked}
-use Rattle.dms_face.proofs.WalkState.{IsWalkedTo}
+use Rattle.dms_face.specs.Walked.{IsWalkedTo}
 use Rattle.dms_face.proofs.checking.walk.Given as goal
 
 abbrev pub invariant-loop-outcome : goal.invariant-loop-outcome
 invariant-loop-outcome l =
-    (goal.iterator-loop-outcome).can_next l.outcome-iterator ×
-    (goal.iterator-loop-outcome).is_finite l.outcome-iterator ×
-    IsWalkedTo (under l.face l.defaults) l.end l.totals l.outcome-iterator (walked (under l.face l.defaults) l.end (blank_layout (under l.face l.defaults)) l.fn.spots)
+    (length l.rest ≤ l.end) ×
+    IsWalkedTo (under l.face l.defaults) l.end l.totals (outcomes_from l.end l.rest) (walked (under l.face l.defaults) l.end (blank_layout (under l.face l.defaults)) (outcomes_of l.text))
+
+abbrev pub decreases-loop-outcome : goal.decreases-loop-outcome
+decreases-loop-outcome l = length l.rest

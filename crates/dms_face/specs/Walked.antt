@@ -1,5 +1,5 @@
--- What holds while the items of a text are walked.
-use Rattle.std.proofs.Common.{◌≡◌, ℕ, List, ◌∷◌, Result, ◌∙◌}
+-- What holds while the items of a text are walked (this profile).
+use Rattle.std.specs.Prelude.{◌≡◌, ℕ, List, Result}
 use Rattle.dms_multi.specs.declared.spots.Spot.{Spot}
 use Rattle.dms_multi.specs.declared.fault.SyntaxFault.{SyntaxFault}
 use Rattle.dms_face.specs.declared.multi_fault.MultiFault.{MultiFault}
@@ -10,7 +10,8 @@ use Rattle.dms_face.specs.OnePass.{walked}
 use Rattle.dms_face.specs.Totals.{Holds, AreSmall}
 
 -- the sums match a layout after which this rest gives the answer
-pub record IsWalkedTo (face : FaceModel) (end : ℕ) (totals : Totals) (rest : List (Result Spot SyntaxFault)) (answer : Result ℕ MultiFault) : Type 0 where
+pub record IsWalkedTo (face : FaceModel) (end : ℕ) (totals : Totals) (rest : List (Result Spot SyntaxFault))
+    (answer : Result ℕ MultiFault) : Type 0 where
   pub layout : Layout
   pub holds : Holds face totals layout
   pub small : AreSmall totals
