@@ -8,3 +8,4 @@ mod ScriptCauses
 mod ScriptRanges
 mod SpelledOctets
 pub mod EventMemory
+mod OftenLines

@@ -27,6 +27,10 @@ form_after key.CentreRestart = []
 form_after key.ForgeSign = wanted.Octets names.Datagram ∷ []
 form_after key.ForgeCentre = wanted.Octets names.Datagram ∷ []
 
+-- what is wrong with the place after the keyword of a delivery
+abbrev pub place_cause : List ℕ → Option EventCause
+place_cause rest = option_map causes.Word (fault_from 2 (wanted.FourOctets ∷ []) (words_of rest))
+
 -- the keyword is the first word of its line
 abbrev pub cause_after : List (List ℕ) → Option EventKeyword → Option EventCause
 cause_after words None = Some causes.Keyword

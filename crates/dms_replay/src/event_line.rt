@@ -1,11 +1,13 @@
 //! The lines of a script's events.
 
-ghost use Rattle.std.specs.Prelude.{◌≡◌, ◌<◌, [], true, IfOk, IfSome, IfNone, OnErr, option_map};
+ghost use Rattle.std.specs.Prelude.{◌≡◌, ◌<◌, ◌++◌, [], true, codes, IfOk, IfSome, IfNone, OnErr, IsOk, IsTrue};
+ghost use Rattle.std.specs.Prelude.{option_map};
 ghost use Rattle.std.specs.Result.{result_ok, result_err};
 ghost use Rattle.dms_text_forms.specs.Form.{fault_from};
-ghost use Rattle.dms_text_forms.specs.FieldsReading.{if_last};
-ghost use Rattle.dms_world.specs.Event.{EventModel};
-ghost use Rattle.dms_replay.specs.EventForm.{form_after, event_cause};
+ghost use Rattle.dms_text.specs.Words.{words_of};
+ghost use Rattle.dms_text_forms.specs.FieldsReading.{if_last, last_number_at};
+ghost use Rattle.dms_world.specs.Event.{EventModel, to_sign, to_centre};
+ghost use Rattle.dms_replay.specs.EventForm.{form_after, place_cause, event_cause};
 ghost use Rattle.dms_replay.specs.EventLine.{SpellsEvent};
 ghost use Rattle.dms_replay.specs.EventReading.{event_after, event_of, has_octets};
 ghost use Rattle.dms_replay.specs.EventView.{script_event_model};
@@ -35,9 +37,142 @@ pub fn event(alloc: Global, order: Order, line: &[u8]) -> Result<Option<ScriptEv
     }
 }
 
-/// The event that is read of a line, or why none is. Only one that has octets wants memory.
-#[tactic(auto, unfolding(crate::specs::EventReading::event_of))]
+/// The event that is read of a line, or why none is. Only one that has octets wants memory. The lines of which scripts
+/// have most are told by their octets, before all others.
+#[tactic(auto, using(crate::proofs::OftenLines::often_read))]
 pub fn read_event(
+    alloc: Global,
+    order: Order,
+    line: &[u8],
+) -> Result<Result<ScriptEvent, EventCause>, AllocError>
+    ensures read { IfOk result (λ read. option_map script_event_model (result_ok read) ≡ event_of order line.now) }
+    ensures cause { IfOk result (λ read. result_err read ≡ event_cause line.now) }
+    ensures spelled { OnErr result (has_octets (event_of order line.now) ≡ true) }
+{
+    if let Some(rest) = after_to_sign(line) {
+        return to_sign(rest);
+    }
+    if let Some(rest) = after_to_centre(line) {
+        return to_centre(rest);
+    }
+    if is_sign_tick(line) {
+        return Ok(Ok(ScriptEvent::SignTick));
+    }
+    if is_centre_tick(line) {
+        return Ok(Ok(ScriptEvent::CentreTick));
+    }
+    any_event(alloc, order, line)
+}
+
+/// What stands after `to-sign ` in a line.
+#[inline]
+fn after_to_sign(line: &[u8]) -> Option<&[u8]>
+    ensures { IfSome result (λ rest. line.now ≡ codes "to-sign " ++ rest.now) }
+{
+    match line {
+        [b't', b'o', b'-', b's', b'i', b'g', b'n', b' ', rest @ ..] => Some(rest),
+        _ => None,
+    }
+}
+
+/// What stands after `to-centre ` in a line.
+#[inline]
+fn after_to_centre(line: &[u8]) -> Option<&[u8]>
+    ensures { IfSome result (λ rest. line.now ≡ codes "to-centre " ++ rest.now) }
+{
+    match line {
+        [
+            b't',
+            b'o',
+            b'-',
+            b'c',
+            b'e',
+            b'n',
+            b't',
+            b'r',
+            b'e',
+            b' ',
+            rest @ ..,
+        ] => Some(rest),
+        _ => None,
+    }
+}
+
+#[inline]
+fn is_sign_tick(line: &[u8]) -> bool
+    ensures { IsTrue result → line.now ≡ codes "sign-tick" }
+{
+    match line {
+        [b's', b'i', b'g', b'n', b'-', rest @ ..] => is_tick(rest),
+        _ => false,
+    }
+}
+
+#[inline]
+fn is_centre_tick(line: &[u8]) -> bool
+    ensures { IsTrue result → line.now ≡ codes "centre-tick" }
+{
+    match line {
+        [b'c', b'e', b'n', b't', b'r', b'e', b'-', rest @ ..] => is_tick(rest),
+        _ => false,
+    }
+}
+
+#[inline]
+fn is_tick(word: &[u8]) -> bool
+    ensures { IsTrue result → word.now ≡ codes "tick" }
+{
+    matches!(word, [b't', b'i', b'c', b'k'])
+}
+
+/// The datagram of the place that these octets spell reaches the sign.
+#[inline]
+fn to_sign(rest: &[u8]) -> Result<Result<ScriptEvent, EventCause>, AllocError>
+    ensures read { IfOk result (λ read. option_map script_event_model (result_ok read)
+        ≡ option_map to_sign (last_number_at (words_of rest.now))) }
+    ensures cause { IfOk result (λ read. result_err read ≡ place_cause rest.now) }
+    ensures memory { IsOk result }
+{
+    match place(rest) {
+        Ok(place) => Ok(Ok(ScriptEvent::ToSign(place))),
+        Err(cause) => Ok(Err(cause)),
+    }
+}
+
+/// The datagram of the place that these octets spell reaches the centre.
+#[inline]
+fn to_centre(rest: &[u8]) -> Result<Result<ScriptEvent, EventCause>, AllocError>
+    ensures read { IfOk result (λ read. option_map script_event_model (result_ok read)
+        ≡ option_map to_centre (last_number_at (words_of rest.now))) }
+    ensures cause { IfOk result (λ read. result_err read ≡ place_cause rest.now) }
+    ensures memory { IsOk result }
+{
+    match place(rest) {
+        Ok(place) => Ok(Ok(ScriptEvent::ToCentre(place))),
+        Err(cause) => Ok(Err(cause)),
+    }
+}
+
+/// The place that the words after a keyword spell, or why they spell none.
+#[inline]
+fn place(rest: &[u8]) -> Result<u32, EventCause>
+    ensures number { result_ok result ≡ last_number_at (words_of rest.now) }
+    ensures cause { result_err result ≡ place_cause rest.now }
+{
+    let words = LineWords {
+        place: 2,
+        words: Words::of(rest),
+    };
+    match words.last_number() {
+        Ok(place) => Ok(place),
+        Err(fault) => Err(EventCause::Word(fault)),
+    }
+}
+
+/// The event that is read of any line, word by word, or why none is.
+#[tactic(auto, unfolding(crate::specs::EventReading::event_of))]
+#[inline(never)]
+fn any_event(
     alloc: Global,
     order: Order,
     line: &[u8],
