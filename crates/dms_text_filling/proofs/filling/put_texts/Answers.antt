@@ -1,0 +1,5 @@
+use Rattle.dms_text_filling.proofs.Parts.{two}
+use Rattle.dms_text_filling.proofs.filling.put_texts.Goals as goal
+
+pub returns-clause-octets : goal.returns-clause-octets
+returns-clause-octets c = two c.put_text-place.ensures.octets c.put_text.ensures.octets
