@@ -1,5 +1,5 @@
--- what is appended in parts
-pub mod Appended
+-- a text that is put into as many octets as it has
+mod Filled
 -- the rows of a type of memory, one by one
 pub mod RowsWritten
 -- the same text in other brackets
@@ -20,7 +20,3 @@ pub mod SettingForms
 pub mod RowForms
 -- the whole text
 pub mod StateForms
--- rows that are put one after the other
-pub mod RowsPut
--- the text of a sign that was restored
-pub mod RestoredText

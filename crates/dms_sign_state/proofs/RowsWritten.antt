@@ -1,9 +1,11 @@
 -- The rows of a type of memory, one by one.
-use Rattle.std.proofs.Common.{◌≡◌, ℕ, zero, suc, ◌+◌, ◌-◌, ◌<◌, ◌==◌, Bool, true, false, cond, List, [], ◌∷◌, ◌++◌, length, take, get_or, slice_get, flat_map, Option, Some, None, option_map, refl, sym, ap, ◌∙◌, arith}
+use Rattle.std.proofs.Common.{◌≡◌, ℕ, zero, suc, ◌+◌, ◌-◌, ◌<◌, ◌==◌, Bool, true, false, cond, List, [], ◌∷◌, ◌++◌, length, take, get_or, slice_get, flat_map, Option, Some, None, option_map, refl, sym, ap, ◌∙◌, subst, arith}
 use Rattle.std.specs.List.{enumerate_from}
 use Rattle.std.proofs.lemmas.Bool.{eqb-true}
 use Rattle.std.proofs.lemmas.List.{flat_map_more, take_more, length-take-le}
 use Rattle.std.proofs.lemmas.Option.{slice_get-get_or, same_Some}
+use Rattle.dms_text_filling.specs.Filling.{Puts}
+use Rattle.dms_text_filling.proofs.Parts.{two}
 use Rattle.dms_codes.specs.Memory.{blank_memory}
 use Rattle.dms_codes.specs.Status.{is_not_used}
 use Rattle.dms_sign_state.specs.Fields.{UsedRow}
@@ -27,15 +29,21 @@ numbered_more xs n other less =
     ∙ ap (enumerate_from 1) (sym (take_more xs n other less))
 
 -- the text of one row more
-pub row_more : {A : Type 0} (text : ℕ × A → List ℕ) (xs : List A) (n : ℕ) (x : A) (old now next : List ℕ) → n < length xs → x ≡ get_or xs n x
-    → now ≡ old ++ flat_map text (enumerate_from 1 (take n xs)) → next ≡ now ++ text (n + 1, x)
-    → next ≡ old ++ flat_map text (enumerate_from 1 (take (n + 1) xs))
-row_more text xs n x old now next less is so_far more =
-    more
-    ∙ ap (λ written. written ++ text (n + 1, x)) so_far
-    ∙ flat_map_more text old (enumerate_from 1 (take n xs)) (n + 1, x)
-    ∙ ap (λ y. old ++ flat_map text (enumerate_from 1 (take n xs) ++ (n + 1, y) ∷ [])) is
-    ∙ ap (λ xs. old ++ flat_map text xs) (numbered_more xs n x less)
+pub row_more : {A : Type 0} (text : ℕ × A → List ℕ) (xs : List A) (n : ℕ) (x : A) (from now next : ℕ) (before written last : List ℕ) → n < length xs
+    → x ≡ get_or xs n x → Puts (flat_map text (enumerate_from 1 (take n xs))) from before now written → Puts (text (n + 1, x)) now written next last
+    → Puts (flat_map text (enumerate_from 1 (take (n + 1) xs))) from before next last
+row_more text xs n x from now next before written last less is so_far more =
+    subst (λ rows. Puts rows from before next last)
+    (flat_map_more text [] (enumerate_from 1 (take n xs)) (n + 1, x)
+    ∙ ap (λ y. flat_map text (enumerate_from 1 (take n xs) ++ (n + 1, y) ∷ [])) is
+    ∙ ap (λ xs. flat_map text xs) (numbered_more xs n x less))
+    (two so_far more)
+
+-- where a branch ends
+pub reached : {octets before after last : List ℕ} {from to end : ℕ} → end ≡ to → last ≡ after → Puts octets from before to after
+    → Puts octets from before end last
+reached {octets} {before} {after} {last} {from} {to} {end} one other puts =
+    subst (λ n. Puts octets from before n last) (sym one) (subst (λ xs. Puts octets from before to xs) (sym other) puts)
 
 -- ---- what is read of a row
 

@@ -1,6 +1,6 @@
 -- The state of a sign as text: the text of its fields (this profile). What the description of the sign says does not
 -- stand in it, nor what is computed.
-use Rattle.std.specs.Prelude.{ℕ, ◌+◌, if◌then◌else◌, List, [], ◌∷◌, ◌++◌, codes, flat_map}
+use Rattle.std.specs.Prelude.{ℕ, ◌+◌, ◌*◌, if◌then◌else◌, List, [], ◌∷◌, ◌++◌, codes, flat_map, length}
 use Rattle.std.specs.List.{enumerate_from}
 use Rattle.dms_codes.specs.declared.codes.Order.{Order}
 use Rattle.dms_codes.specs.Codes.{octets_of_id}
@@ -55,6 +55,15 @@ fields_of s = record {
 -- the whole state, but for what the sign was made with
 unfoldable pub text_of_state : SignState → List ℕ
 text_of_state s = text_of_fields (fields_of s)
+
+-- the rows that a state has lines of, where they are used
+abbrev pub saved_rows : SignState → ℕ
+saved_rows s = length s.table.changeable + length s.table.volatile
+
+-- the most octets that the text of a state of a sign with so many such rows has: 1,315 for each, whose text has 512
+-- octets and whose owner 127, and 3,337 for all else
+abbrev pub most_saved : ℕ → ℕ
+most_saved rows = 3337 + 1315 * rows
 
 -- ---- its parts, as they are written
 

@@ -42,17 +42,6 @@
 //!     Err(StateError::Fault(fault)) => assert!(rt; fault.line == 2),
 //! }
 //! ```
-//!
-//! And a sign is made of it with a configuration, exactly where such a sign has this state, else a line is told:
-//!
-//! ```
-//! match restored(alloc, config, text) {
-//!     Ok(sign) => assert!(rt; sign.is_powered()),
-//!     // "line 2: no such row can be changed"
-//!     Err(RestoreFault::Sign(misfit)) => assert!(rt; misfit.line == 2),
-//!     Err(_) => {}
-//! }
-//! ```
 #![tactic(auto)]
 
 mod field;
@@ -61,12 +50,10 @@ pub mod laws;
 mod line_reading;
 mod lines;
 mod reading;
-mod restoring;
 mod saving;
 mod words;
 
 pub use field::{Put, StateError, StateFault, StateField, Stored};
 pub use fields::{MessageFields, PutFields, RowFields, StateFields};
 pub use reading::state_fields;
-pub use restoring::{Misfit, MisfitCause, RestoreFault, restored};
 pub use saving::{put_saved, saved};

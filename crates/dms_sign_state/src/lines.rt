@@ -1,114 +1,135 @@
 //! The lines of a state: a field's name and its value.
 
-ghost use Rattle.std.specs.Prelude.{◌≡◌, ◌≤◌, ◌++◌, length, OnOk};
-ghost use Rattle.dms_codes.specs.Limits.{longest_text};
+ghost use Rattle.std.specs.Prelude.{◌≤◌, ◌+◌, ◌*◌, ◌++◌, codes, length};
 ghost use Rattle.dms_table.specs.RowsView.{reading_of, IsShort};
+ghost use Rattle.dms_text_filling.specs.Filling.{Puts};
 ghost use Rattle.dms_text_values.specs.ValueText.{octets_text};
-ghost use Rattle.dms_sign_state.specs.FieldsText.{number_line, octets_line, defaults_words, colour_words};
+ghost use Rattle.dms_sign_state.specs.FieldsText.{octets_line, defaults_words, colour_words};
 ghost use Rattle.dms_sign_state.specs.FieldsText.{layout_words, time_words, octets_word, attribute_words};
-ghost use Rattle.dms_sign_state.specs.FieldsText.{message_words, part_line};
+ghost use Rattle.dms_sign_state.specs.FieldsText.{message_words};
 ghost use Rattle.dms_sign_state.specs.StateText.{message_of};
 
 use dms_face::Defaults;
 use dms_table::RowView;
-use dms_text_streams::put_digits;
-use std::io;
-use std::io::Write;
+use dms_text_filling::{put_decimal, put_digits, put_text, put_texts};
+use itoa::Integer;
 
-pub(crate) fn put_number(text: &mut Vec<u8>, name: &str, number: u32) -> io::Result<()>
-    ensures { OnOk result (text.new.items ≡ text.old.items ++ number_line name.now number) }
+/// Puts a field that is a number, under a name of two parts.
+pub(crate) fn put_part<N: Integer>(
+    buffer: &mut [u8],
+    place: usize,
+    name: &str,
+    part: &str,
+    number: N,
+) -> usize
+    ensures octets { Puts (name.now ++ part.now ++ codes " " ++ N.text number ++ codes "\n")
+        place buffer.old result buffer.new }
+    ensures short { result ≤ place + length name.now + length part.now + N.MAX_STR_LEN + 2 }
 {
-    writeln!(text, "{name} {number}")
+    let place = put_text(buffer, place, name);
+    let place = put_text(buffer, place, part);
+    let place = put_text(buffer, place, " ");
+    let place = put_decimal(buffer, place, number);
+    put_text(buffer, place, "\n")
 }
 
-/// Appends a field that is a number, under a name of two parts.
-pub(crate) fn put_part(text: &mut Vec<u8>, name: &str, part: &str, number: u32) -> io::Result<()>
-    ensures { OnOk result (text.new.items ≡ text.old.items ++ part_line name.now part.now number) }
+/// Puts a field that is octets: those of a code.
+pub(crate) fn put_code(buffer: &mut [u8], place: usize, name: &str, octets: &[u8]) -> usize
+    ensures octets { Puts (octets_line name.now octets.now) place buffer.old result buffer.new }
+    ensures short { result ≤ place + length name.now + 2 * length octets.now + 3 }
 {
-    writeln!(text, "{name}{part} {number}")
+    let place = put_texts(buffer, place, name, " ");
+    let place = put_octets(buffer, place, octets);
+    put_text(buffer, place, "\n")
 }
 
-/// Appends a field that is octets: those of a code.
-#[tactic(auto, using(crate::proofs::Appended::parts))]
-pub(crate) fn put_code(text: &mut Vec<u8>, name: &str, octets: &[u8]) -> io::Result<()>
-    requires { length octets.now ≤ longest_text }
-    ensures { OnOk result (text.new.items ≡ text.old.items ++ octets_line name.now octets.now) }
+/// Puts the nine defaults behind what their line begins with.
+pub(crate) fn put_defaults(buffer: &mut [u8], place: usize, defaults: &Defaults) -> usize
+    ensures octets { Puts (defaults_words defaults.now) place buffer.old result buffer.new }
+    ensures short { result ≤ place + 37 }
 {
-    write!(text, "{name} ")?;
-    put_octets(text, octets)?;
-    writeln!(text)
+    let place = put_colours(buffer, place, defaults);
+    let place = put_layout(buffer, place, defaults);
+    put_times(buffer, place, defaults)
 }
 
-/// Appends the nine defaults behind what their line begins with.
-#[tactic(auto, using(crate::proofs::Appended::parts))]
-pub(crate) fn put_defaults(text: &mut Vec<u8>, defaults: &Defaults) -> io::Result<()>
-    ensures { OnOk result (text.new.items ≡ text.old.items ++ defaults_words defaults.now) }
+fn put_colours(buffer: &mut [u8], place: usize, defaults: &Defaults) -> usize
+    ensures octets { Puts (colour_words defaults.now) place buffer.old result buffer.new }
+    ensures short { result ≤ place + 16 }
 {
-    put_colours(text, defaults)?;
-    put_layout(text, defaults)?;
-    put_times(text, defaults)
+    let place = put_text(buffer, place, " ");
+    let place = put_decimal(buffer, place, defaults.background);
+    let place = put_text(buffer, place, " ");
+    let place = put_decimal(buffer, place, defaults.foreground);
+    let place = put_text(buffer, place, " ");
+    let place = put_decimal(buffer, place, defaults.flash_on);
+    let place = put_text(buffer, place, " ");
+    put_decimal(buffer, place, defaults.flash_off)
 }
 
-fn put_colours(text: &mut Vec<u8>, defaults: &Defaults) -> io::Result<()>
-    ensures { OnOk result (text.new.items ≡ text.old.items ++ colour_words defaults.now) }
+fn put_layout(buffer: &mut [u8], place: usize, defaults: &Defaults) -> usize
+    ensures octets { Puts (layout_words defaults.now) place buffer.old result buffer.new }
+    ensures short { result ≤ place + 12 }
 {
-    let (background, foreground) = (defaults.background, defaults.foreground);
-    let (on, off) = (defaults.flash_on, defaults.flash_off);
-    write!(text, " {background} {foreground} {on} {off}")
+    let place = put_text(buffer, place, " ");
+    let place = put_decimal(buffer, place, defaults.font);
+    let place = put_text(buffer, place, " ");
+    let place = put_decimal(buffer, place, defaults.line);
+    let place = put_text(buffer, place, " ");
+    put_decimal(buffer, place, defaults.page)
 }
 
-fn put_layout(text: &mut Vec<u8>, defaults: &Defaults) -> io::Result<()>
-    ensures { OnOk result (text.new.items ≡ text.old.items ++ layout_words defaults.now) }
+fn put_times(buffer: &mut [u8], place: usize, defaults: &Defaults) -> usize
+    ensures octets { Puts (time_words defaults.now) place buffer.old result buffer.new }
+    ensures short { result ≤ place + 9 }
 {
-    write!(
-        text,
-        " {} {} {}",
-        defaults.font, defaults.line, defaults.page
-    )
+    let place = put_text(buffer, place, " ");
+    let place = put_decimal(buffer, place, defaults.on);
+    let place = put_text(buffer, place, " ");
+    let place = put_decimal(buffer, place, defaults.off);
+    put_text(buffer, place, "\n")
 }
 
-fn put_times(text: &mut Vec<u8>, defaults: &Defaults) -> io::Result<()>
-    ensures { OnOk result (text.new.items ≡ text.old.items ++ time_words defaults.now) }
-{
-    writeln!(text, " {} {}", defaults.on, defaults.off)
-}
-
-/// Appends a message behind what its line begins with.
-#[tactic(auto, using(crate::proofs::Appended::parts))]
-pub(crate) fn put_message(text: &mut Vec<u8>, row: &RowView<'_>) -> io::Result<()>
+/// Puts a message behind what its line begins with.
+pub(crate) fn put_message(buffer: &mut [u8], place: usize, row: &RowView<'_>) -> usize
     requires { IsShort row.now }
-    ensures { OnOk result (text.new.items ≡ text.old.items ++ message_words (message_of (reading_of row.now).row)) }
+    ensures octets { Puts (message_words (message_of (reading_of row.now).row)) place buffer.old result buffer.new }
+    ensures short { result ≤ place + 1295 }
 {
-    put_octets_word(text, row.text)?;
-    put_octets_word(text, row.owner)?;
-    put_attributes(text, row)
+    let place = put_octets_word(buffer, place, row.text);
+    let place = put_octets_word(buffer, place, row.owner);
+    put_attributes(buffer, place, row)
 }
 
-fn put_attributes(text: &mut Vec<u8>, row: &RowView<'_>) -> io::Result<()>
-    ensures { OnOk result (text.new.items ≡ text.old.items ++ attribute_words (message_of (reading_of row.now).row)) }
+fn put_attributes(buffer: &mut [u8], place: usize, row: &RowView<'_>) -> usize
+    ensures octets { Puts (attribute_words (message_of (reading_of row.now).row)) place buffer.old result buffer.new }
+    ensures short { result ≤ place + 13 }
 {
-    writeln!(text, " {} {} {}", row.beacon, row.pixel, row.priority)
+    let place = put_text(buffer, place, " ");
+    let place = put_decimal(buffer, place, row.beacon);
+    let place = put_text(buffer, place, " ");
+    let place = put_decimal(buffer, place, row.pixel);
+    let place = put_text(buffer, place, " ");
+    let place = put_decimal(buffer, place, row.priority);
+    put_text(buffer, place, "\n")
 }
 
-/// Appends a space and octets.
-#[tactic(auto, using(crate::proofs::Appended::parts))]
-fn put_octets_word(text: &mut Vec<u8>, octets: &[u8]) -> io::Result<()>
-    requires { length octets.now ≤ longest_text }
-    ensures { OnOk result (text.new.items ≡ text.old.items ++ octets_word octets.now) }
+/// Puts a space and octets.
+fn put_octets_word(buffer: &mut [u8], place: usize, octets: &[u8]) -> usize
+    ensures octets { Puts (octets_word octets.now) place buffer.old result buffer.new }
+    ensures short { result ≤ place + 2 * length octets.now + 2 }
 {
-    write!(text, " ")?;
-    put_octets(text, octets)
+    let place = put_text(buffer, place, " ");
+    put_octets(buffer, place, octets)
 }
 
-/// Appends octets as pairs of small hexadecimal digits, and `-` for none.
-pub(crate) fn put_octets(text: &mut Vec<u8>, octets: &[u8]) -> io::Result<()>
-    requires { length octets.now ≤ longest_text }
-    ensures { OnOk result (text.new.items ≡ text.old.items ++ octets_text octets.now) }
+/// Puts octets as pairs of small hexadecimal digits, and `-` for none.
+pub(crate) fn put_octets(buffer: &mut [u8], place: usize, octets: &[u8]) -> usize
+    ensures octets { Puts (octets_text octets.now) place buffer.old result buffer.new }
+    ensures short { result ≤ place + 2 * length octets.now + 1 }
 {
-    if octets.is_empty() {
-        return write!(text, "-");
+    match octets {
+        [] => put_text(buffer, place, "-"),
+        [_, ..] => put_digits(buffer, place, octets),
     }
-    text.reserve(2 * octets.len())?;
-    put_digits(text, octets);
-    Ok(())
 }

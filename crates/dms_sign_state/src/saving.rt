@@ -1,231 +1,310 @@
 //! The state of a sign, written as text.
 
-ghost use Rattle.std.specs.Prelude.{◌≡◌, ◌≤◌, ◌==◌, ◌++◌, IfOk, OnOk, codes, length, false};
+ghost use Rattle.std.specs.Prelude.{◌≡◌, ◌≤◌, ◌==◌, ◌+◌, ◌*◌, ◌++◌, IfOk, codes, decimal, length, false};
+ghost use Rattle.dms_codes.specs.Status.{status_number};
 ghost use Rattle.dms_codes.specs.Limits.{most_changeable_rows, most_volatile_rows};
 ghost use Rattle.dms_codes.specs.Codes.{octets_of_id};
 ghost use Rattle.dms_codes.specs.Memory.{blank_memory};
 ghost use Rattle.dms_table.specs.Activation.{shown_row};
 ghost use Rattle.dms_table.specs.Rows.{rows_of};
 ghost use Rattle.dms_table.specs.RowsView.{reading_of, IsShort};
+ghost use Rattle.dms_text_filling.specs.Filling.{Puts, laid};
 ghost use Rattle.dms_wire_ber.specs.NameText.{dotted};
-ghost use Rattle.dms_sign_state.specs.FieldsText.{fallbacks_text, defaults_words, settings_text, row_lines};
+ghost use Rattle.dms_sign_state.specs.FieldsText.{fallbacks_text, defaults_words, settings_text, row_lines, row_line};
 ghost use Rattle.dms_sign_state.specs.FieldsText.{message_line, source_line, address_line, remaining_text};
 ghost use Rattle.dms_sign_state.specs.FieldsText.{copied_line, reports_text, last_lines};
-ghost use Rattle.dms_sign_state.specs.StateText.{message_of, used_rows, row_text, rows_text, table_text};
-ghost use Rattle.dms_sign_state.specs.StateText.{shown_text, text_of_state};
+ghost use Rattle.dms_sign_state.specs.StateText.{message_of, used_row, used_rows, row_text, rows_text, table_text};
+ghost use Rattle.dms_sign_state.specs.StateText.{shown_text, text_of_state, saved_rows, most_saved};
 
-use crate::lines::{put_code, put_defaults, put_message, put_number, put_octets, put_part};
+use crate::lines::{put_code, put_defaults, put_message, put_octets, put_part};
 use dms_codes::{Order, RowId, Status, memory};
 use dms_face::Defaults;
 use dms_sign::Sign;
 use dms_sign::laws::signs_are_kept;
 use dms_sign_access::{Fallbacks, Reports, SignSettings};
 use dms_table::{RowView, Shown, Table};
+use dms_text_filling::{put_decimal, put_number, put_text, put_texts};
 use std::alloc::{AllocError, Global};
-use std::io;
-use std::io::Write;
 
 /// The text of a sign's state, from `state 1 sign` to `end`.
 pub fn saved(alloc: Global, sign: &Sign) -> Result<Vec<u8>, AllocError>
     ensures { IfOk result (λ text. text.items ≡ text_of_state sign.now) }
 {
-    let mut text = Vec::new(alloc);
-    put_saved(&mut text, sign)?;
+    let mut none: [u8; 0] = [];
+    let size = put_saved(&mut none, sign);
+    let mut text = vec![in alloc; 0; size]?;
+    put_saved(text.as_mut_slice(), sign);
     Ok(text)
 }
 
-/// Appends the text of a sign's state.
-pub fn put_saved(text: &mut Vec<u8>, sign: &Sign) -> Result<(), AllocError>
-    ensures { OnOk result (text.new.items ≡ text.old.items ++ text_of_state sign.now) }
-{
-    put_state(text, sign).or(Err(AllocError))
-}
-
-#[tactic(auto, unfolding(crate::specs::StateText::text_of_state), using(crate::proofs::Appended::parts))]
-fn put_state(text: &mut Vec<u8>, sign: &Sign) -> io::Result<()>
-    ensures { OnOk result (text.new.items ≡ text.old.items ++ text_of_state sign.now) }
+/// Puts the text of a sign's state into a buffer, as far as it reaches: how many octets the text has. No memory is
+/// taken.
+pub fn put_saved(buffer: &mut [u8], sign: &Sign) -> usize
+    ensures size { result ≡ length (text_of_state sign.now) }
+    ensures text { buffer.new ≡ laid 0 (text_of_state sign.now) buffer.old }
+    ensures short { result ≤ most_saved (saved_rows sign.now) }
 {
     signs_are_kept(sign);
-    writeln!(text, "state 1 sign")?;
-    put_table(text, sign.table())?;
-    put_settings(text, &sign.settings())?;
-    put_number(text, "silent", sign.silent_seconds())?;
-    put_shown(text, "shown", sign.order(), sign.shown())?;
-    put_shown(text, "kept", sign.order(), sign.shown_at_power_loss())?;
-    put_reports(text, &sign.reports())?;
-    put_last(text, sign.is_powered())
+    put_state(buffer, 0, sign)
 }
 
-#[tactic(auto, using(crate::proofs::Appended::parts))]
-fn put_table(text: &mut Vec<u8>, table: &Table) -> io::Result<()>
+/// The most octets of the text of any state of a sign with such a table.
+pub fn most_saved(sign: &Sign) -> usize
+    ensures { result ≡ most_saved (saved_rows sign.now) }
+{
+    signs_are_kept(sign);
+    let table = sign.table();
+    let rows = table.row_count(memory::CHANGEABLE) + table.row_count(memory::VOLATILE);
+    3337 + 1315 * rows
+}
+
+fn put_state(buffer: &mut [u8], place: usize, sign: &Sign) -> usize
+    ensures octets { Puts (text_of_state sign.now) place buffer.old result buffer.new }
+    ensures short { result ≤ place + most_saved (saved_rows sign.now) }
+{
+    signs_are_kept(sign);
+    let place = put_text(buffer, place, "state 1 sign\n");
+    let place = put_table(buffer, place, sign.table());
+    let place = put_settings(buffer, place, &sign.settings());
+    let place = put_number(buffer, place, "silent", sign.silent_seconds());
+    let place = put_shown(buffer, place, "shown", sign.order(), sign.shown());
+    let kept = sign.shown_at_power_loss();
+    let place = put_shown(buffer, place, "kept", sign.order(), kept);
+    let place = put_reports(buffer, place, &sign.reports());
+    put_last(buffer, place, sign.is_powered())
+}
+
+fn put_table(buffer: &mut [u8], place: usize, table: &Table) -> usize
     requires changeable { length table.now.changeable ≤ most_changeable_rows }
     requires volatile { length table.now.volatile ≤ most_volatile_rows }
-    ensures { OnOk result (text.new.items ≡ text.old.items ++ table_text table.now) }
+    ensures octets { Puts (table_text table.now) place buffer.old result buffer.new }
+    ensures short { result ≤ place + 1315 * (length table.now.changeable + length table.now.volatile) }
 {
-    put_used(text, "changeable", table, memory::CHANGEABLE)?;
-    put_used(text, "volatile", table, memory::VOLATILE)
+    let place = put_used(buffer, place, "changeable", table, memory::CHANGEABLE);
+    put_used(buffer, place, "volatile", table, memory::VOLATILE)
 }
 
-/// Appends the rows of a type of memory that are used.
+/// Puts the rows of a type of memory that are used.
 #[tactic(auto, using(crate::proofs::RowsWritten::used_lines))]
-fn put_used(text: &mut Vec<u8>, name: &str, table: &Table, kind: u8) -> io::Result<()>
+fn put_used(buffer: &mut [u8], place: usize, name: &str, table: &Table, kind: u8) -> usize
     requires stored { (kind == blank_memory) ≡ false }
     requires few { length (rows_of table.now kind) ≤ most_changeable_rows }
-    ensures { OnOk result
-        (text.new.items ≡ text.old.items ++ row_lines name.now (used_rows 1 (rows_of table.now kind))) }
+    requires name { length name.now ≤ 10 }
+    ensures octets { Puts (row_lines name.now (used_rows 1 (rows_of table.now kind)))
+        place buffer.old result buffer.new }
+    ensures short { result ≤ place + 1315 * length (rows_of table.now kind) }
 {
-    put_rows(text, name, table, kind)
+    put_rows(buffer, place, name, table, kind)
 }
 
-/// Appends the rows of a type of memory, those that are not used as nothing.
-fn put_rows(text: &mut Vec<u8>, name: &str, table: &Table, kind: u8) -> io::Result<()>
+/// Puts the rows of a type of memory, those that are not used as nothing.
+fn put_rows(buffer: &mut [u8], place: usize, name: &str, table: &Table, kind: u8) -> usize
     requires stored { (kind == blank_memory) ≡ false }
     requires few { length (rows_of table.now kind) ≤ most_changeable_rows }
-    ensures { OnOk result (text.new.items ≡ text.old.items ++ rows_text name.now (rows_of table.now kind)) }
+    requires name { length name.now ≤ 10 }
+    ensures octets { Puts (rows_text name.now (rows_of table.now kind)) place buffer.old result buffer.new }
+    ensures short { result ≤ place + 1315 * length (rows_of table.now kind) }
 {
+    let mut end = place;
     for index in 0..table.row_count(kind) {
-        let id = RowId {
-            memory: kind,
-            number: (index + 1) as u16,
-        };
-        match table.row(id) {
+        let number = (index + 1) as u16;
+        let memory = kind;
+        match table.row(RowId { memory, number }) {
             None => {}
-            Some(row) => put_row(text, name, index + 1, &row)?,
+            Some(row) => end = put_row(buffer, end, name, number, &row),
         }
     }
-    Ok(())
+    end
 }
 
-fn put_row(text: &mut Vec<u8>, name: &str, number: usize, row: &RowView<'_>) -> io::Result<()>
+fn put_row(buffer: &mut [u8], place: usize, name: &str, number: u16, row: &RowView<'_>) -> usize
     requires { IsShort row.now }
-    ensures { OnOk result (text.new.items ≡ text.old.items ++ row_text name.now (number, (reading_of row.now).row)) }
+    ensures octets { Puts (row_text name.now (number, (reading_of row.now).row)) place buffer.old result buffer.new }
+    ensures short { result ≤ place + length name.now + 1305 }
 {
     if row.status == Status::NotUsed {
-        return Ok(());
+        return put_text(buffer, place, "");
     }
-    write!(text, "{name} {number} {}", row.status.number())?;
-    put_message(text, row)
+    put_used_row(buffer, place, name, number, row)
 }
 
-#[tactic(auto, using(crate::proofs::Appended::parts))]
-fn put_fallbacks(text: &mut Vec<u8>, own: &Fallbacks) -> io::Result<()>
-    ensures { OnOk result (text.new.items ≡ text.old.items ++ fallbacks_text own.now) }
+/// Puts the line of a row that is used.
+fn put_used_row(
+    buffer: &mut [u8],
+    place: usize,
+    name: &str,
+    number: u16,
+    row: &RowView<'_>,
+) -> usize
+    requires { IsShort row.now }
+    ensures octets { Puts (row_line name.now (used_row number (reading_of row.now).row))
+        place buffer.old result buffer.new }
+    ensures short { result ≤ place + length name.now + 1305 }
 {
-    put_code(text, "short-power-recovery", &own.short_power_recovery)?;
-    put_code(text, "long-power-recovery", &own.long_power_recovery)?;
-    put_code(text, "power-loss", &own.power_loss)?;
-    put_code(text, "end-duration", &own.end_duration)?;
-    put_code(text, "communications-loss", &own.communications_loss)
+    let place = put_begun(buffer, place, name, number, row.status);
+    put_message(buffer, place, row)
 }
 
-#[tactic(auto, using(crate::proofs::Appended::parts))]
-fn put_set_defaults(text: &mut Vec<u8>, defaults: &Defaults) -> io::Result<()>
-    ensures { OnOk result
-        (text.new.items ≡ text.old.items ++ (codes "defaults" ++ defaults_words defaults.now)) }
+/// Puts a row's number and that of its status.
+fn put_begun(buffer: &mut [u8], place: usize, name: &str, number: u16, status: Status) -> usize
+    ensures octets { Puts (name.now ++ codes " " ++ decimal number ++ codes " " ++ decimal (status_number status))
+        place buffer.old result buffer.new }
+    ensures short { result ≤ place + length name.now + 10 }
 {
-    write!(text, "defaults")?;
-    put_defaults(text, defaults)
+    let place = put_text(buffer, place, name);
+    let place = put_text(buffer, place, " ");
+    let place = put_decimal(buffer, place, number);
+    let place = put_text(buffer, place, " ");
+    put_decimal(buffer, place, status.number())
 }
 
-#[tactic(auto, using(crate::proofs::Appended::parts))]
-fn put_settings(text: &mut Vec<u8>, settings: &SignSettings) -> io::Result<()>
-    ensures { OnOk result (text.new.items ≡ text.old.items ++ settings_text settings.now) }
+fn put_fallbacks(buffer: &mut [u8], place: usize, own: &Fallbacks) -> usize
+    ensures octets { Puts (fallbacks_text own.now) place buffer.old result buffer.new }
+    ensures short { result ≤ place + 145 }
 {
-    put_set_defaults(text, &settings.defaults)?;
-    put_fallbacks(text, &settings.fallbacks)?;
-    put_number(
-        text,
-        "short-power-loss-time",
-        u32::from(settings.short_power_loss_time),
-    )?;
-    put_number(text, "time-comm-loss", u32::from(settings.time_comm_loss))
+    let place = put_code(
+        buffer,
+        place,
+        "short-power-recovery",
+        &own.short_power_recovery,
+    );
+    let place = put_code(
+        buffer,
+        place,
+        "long-power-recovery",
+        &own.long_power_recovery,
+    );
+    let place = put_code(buffer, place, "power-loss", &own.power_loss);
+    let place = put_code(buffer, place, "end-duration", &own.end_duration);
+    put_code(
+        buffer,
+        place,
+        "communications-loss",
+        &own.communications_loss,
+    )
 }
 
-/// Appends what is shown or was kept.
-#[tactic(auto, using(crate::proofs::Appended::parts))]
-fn put_shown(text: &mut Vec<u8>, name: &str, order: Order, shown: &Shown) -> io::Result<()>
-    ensures { OnOk result (text.new.items ≡ text.old.items ++ shown_text name.now order shown.now) }
+fn put_set_defaults(buffer: &mut [u8], place: usize, defaults: &Defaults) -> usize
+    ensures octets { Puts (codes "defaults" ++ defaults_words defaults.now) place buffer.old result buffer.new }
+    ensures short { result ≤ place + 45 }
 {
-    put_message_line(text, name, shown)?;
-    put_source(text, name, order, shown)?;
-    put_part(text, name, "-mode", u32::from(shown.mode))?;
-    put_address(text, name, shown.address)?;
-    put_remaining(text, name, shown.remaining)?;
-    put_copied(text, name, &shown.defaults)
+    let place = put_text(buffer, place, "defaults");
+    put_defaults(buffer, place, defaults)
 }
 
-#[tactic(auto, using(crate::proofs::Appended::parts))]
-fn put_message_line(text: &mut Vec<u8>, name: &str, shown: &Shown) -> io::Result<()>
-    ensures { OnOk result
-        (text.new.items ≡ text.old.items ++ message_line name.now (message_of (shown_row shown.now))) }
+fn put_settings(buffer: &mut [u8], place: usize, settings: &SignSettings) -> usize
+    ensures octets { Puts (settings_text settings.now) place buffer.old result buffer.new }
+    ensures short { result ≤ place + 239 }
 {
-    write!(text, "{name}")?;
-    put_message(text, &shown.view())
+    let (short, silence) = (settings.short_power_loss_time, settings.time_comm_loss);
+    let place = put_set_defaults(buffer, place, &settings.defaults);
+    let place = put_fallbacks(buffer, place, &settings.fallbacks);
+    let place = put_number(buffer, place, "short-power-loss-time", short);
+    put_number(buffer, place, "time-comm-loss", silence)
 }
 
-#[tactic(auto, using(crate::proofs::Appended::parts))]
-fn put_source(text: &mut Vec<u8>, name: &str, order: Order, shown: &Shown) -> io::Result<()>
-    ensures { OnOk result
-        (text.new.items ≡ text.old.items ++ source_line name.now (octets_of_id order shown.now.source)) }
+/// Puts what is shown or was kept.
+fn put_shown(buffer: &mut [u8], place: usize, name: &str, order: Order, shown: &Shown) -> usize
+    ensures octets { Puts (shown_text name.now order shown.now) place buffer.old result buffer.new }
+    ensures short { result ≤ place + 6 * length name.now + 1418 }
 {
-    write!(text, "{name}-source ")?;
-    put_octets(text, &shown.source.to_bytes(order))?;
-    writeln!(text)
+    let place = put_message_line(buffer, place, name, shown);
+    let place = put_source(buffer, place, name, order, shown);
+    let place = put_part(buffer, place, name, "-mode", shown.mode);
+    let place = put_address(buffer, place, name, shown.address);
+    let place = put_remaining(buffer, place, name, shown.remaining);
+    put_copied(buffer, place, name, &shown.defaults)
 }
 
-#[tactic(auto, using(crate::proofs::Appended::parts))]
-fn put_address(text: &mut Vec<u8>, name: &str, address: [u8; 4]) -> io::Result<()>
-    ensures { OnOk result (text.new.items ≡ text.old.items ++ address_line name.now address) }
+fn put_message_line(buffer: &mut [u8], place: usize, name: &str, shown: &Shown) -> usize
+    ensures octets { Puts (message_line name.now (message_of (shown_row shown.now)))
+        place buffer.old result buffer.new }
+    ensures short { result ≤ place + length name.now + 1295 }
 {
-    write!(text, "{name}-address ")?;
-    put_dotted(text, address)
+    let place = put_text(buffer, place, name);
+    put_message(buffer, place, &shown.view())
 }
 
-fn put_dotted(text: &mut Vec<u8>, address: [u8; 4]) -> io::Result<()>
-    ensures { OnOk result (text.new.items ≡ text.old.items ++ (dotted address ++ codes "\n")) }
+fn put_source(buffer: &mut [u8], place: usize, name: &str, order: Order, shown: &Shown) -> usize
+    ensures octets { Puts (source_line name.now (octets_of_id order shown.now.source))
+        place buffer.old result buffer.new }
+    ensures short { result ≤ place + length name.now + 20 }
+{
+    let place = put_texts(buffer, place, name, "-source ");
+    let place = put_octets(buffer, place, &shown.source.to_bytes(order));
+    put_text(buffer, place, "\n")
+}
+
+fn put_address(buffer: &mut [u8], place: usize, name: &str, address: [u8; 4]) -> usize
+    ensures octets { Puts (address_line name.now address) place buffer.old result buffer.new }
+    ensures short { result ≤ place + length name.now + 25 }
+{
+    let place = put_texts(buffer, place, name, "-address ");
+    put_dotted(buffer, place, address)
+}
+
+fn put_dotted(buffer: &mut [u8], place: usize, address: [u8; 4]) -> usize
+    ensures octets { Puts (dotted address ++ codes "\n") place buffer.old result buffer.new }
+    ensures short { result ≤ place + 16 }
 {
     match address {
-        [a, b, c, d] => writeln!(text, "{a}.{b}.{c}.{d}"),
+        [a, b, c, d] => {
+            let place = put_decimal(buffer, place, a);
+            let place = put_dot(buffer, place, b);
+            let place = put_dot(buffer, place, c);
+            let place = put_dot(buffer, place, d);
+            put_text(buffer, place, "\n")
+        }
     }
 }
 
-/// Appends the seconds until an end, where there is one.
-fn put_remaining(text: &mut Vec<u8>, name: &str, seconds: Option<u32>) -> io::Result<()>
-    ensures { OnOk result (text.new.items ≡ text.old.items ++ remaining_text name.now seconds) }
+/// Puts a dot and a number.
+fn put_dot(buffer: &mut [u8], place: usize, number: u8) -> usize
+    ensures octets { Puts (codes "." ++ decimal number) place buffer.old result buffer.new }
+    ensures short { result ≤ place + 4 }
+{
+    let place = put_text(buffer, place, ".");
+    put_decimal(buffer, place, number)
+}
+
+/// Puts the seconds until an end, where there is one.
+fn put_remaining(buffer: &mut [u8], place: usize, name: &str, seconds: Option<u32>) -> usize
+    ensures octets { Puts (remaining_text name.now seconds) place buffer.old result buffer.new }
+    ensures short { result ≤ place + length name.now + 22 }
 {
     match seconds {
-        None => Ok(()),
-        Some(seconds) => put_part(text, name, "-remaining", seconds),
+        None => put_text(buffer, place, ""),
+        Some(seconds) => put_part(buffer, place, name, "-remaining", seconds),
     }
 }
 
-/// Appends the copy of the defaults.
-#[tactic(auto, using(crate::proofs::Appended::parts))]
-fn put_copied(text: &mut Vec<u8>, name: &str, defaults: &Defaults) -> io::Result<()>
-    ensures { OnOk result (text.new.items ≡ text.old.items ++ copied_line name.now defaults.now) }
+/// Puts the copy of the defaults.
+fn put_copied(buffer: &mut [u8], place: usize, name: &str, defaults: &Defaults) -> usize
+    ensures octets { Puts (copied_line name.now defaults.now) place buffer.old result buffer.new }
+    ensures short { result ≤ place + length name.now + 46 }
 {
-    write!(text, "{name}-defaults")?;
-    put_defaults(text, defaults)
+    let place = put_texts(buffer, place, name, "-defaults");
+    put_defaults(buffer, place, defaults)
 }
 
-#[tactic(auto, using(crate::proofs::Appended::parts))]
-fn put_reports(text: &mut Vec<u8>, reports: &Reports) -> io::Result<()>
-    ensures { OnOk result (text.new.items ≡ text.old.items ++ reports_text reports.now) }
+fn put_reports(buffer: &mut [u8], place: usize, reports: &Reports) -> usize
+    ensures octets { Puts (reports_text reports.now) place buffer.old result buffer.new }
+    ensures short { result ≤ place + 161 }
 {
-    put_number(text, "validate-error", u32::from(reports.validate_error))?;
-    put_number(text, "activate-error", u32::from(reports.activate_error))?;
-    put_number(text, "syntax-error", u32::from(reports.syntax_error))?;
-    put_number(
-        text,
-        "syntax-error-position",
-        u32::from(reports.syntax_error_position),
-    )?;
-    put_code(text, "accepted-code", &reports.accepted_code)?;
-    put_code(text, "failed-code", &reports.failed_code)
+    let position = reports.syntax_error_position;
+    let place = put_number(buffer, place, "validate-error", reports.validate_error);
+    let place = put_number(buffer, place, "activate-error", reports.activate_error);
+    let place = put_number(buffer, place, "syntax-error", reports.syntax_error);
+    let place = put_number(buffer, place, "syntax-error-position", position);
+    let place = put_code(buffer, place, "accepted-code", &reports.accepted_code);
+    put_code(buffer, place, "failed-code", &reports.failed_code)
 }
 
-fn put_last(text: &mut Vec<u8>, powered: bool) -> io::Result<()>
-    ensures { OnOk result (text.new.items ≡ text.old.items ++ last_lines powered) }
+fn put_last(buffer: &mut [u8], place: usize, powered: bool) -> usize
+    ensures octets { Puts (last_lines powered) place buffer.old result buffer.new }
+    ensures short { result ≤ place + 16 }
 {
-    writeln!(text, "powered {}\nend", u8::from(powered))
+    let place = put_text(buffer, place, "powered ");
+    let place = put_decimal(buffer, place, u8::from(powered));
+    put_text(buffer, place, "\nend\n")
 }

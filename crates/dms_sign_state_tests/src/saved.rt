@@ -260,11 +260,18 @@ fn saved_or_out_of_memory(rt: HostRuntime) -> Result<(), Fail> {
         Err(_) => saved(rt.alloc(), &sign)?,
     };
     assert!(rt; text.as_slice() == BUSY_STATE.as_bytes());
-    let mut behind = Vec::new(rt.alloc());
-    if put_saved(&mut behind, &sign).is_err() {
-        behind = Vec::new(rt.alloc());
-        put_saved(&mut behind, &sign)?;
-    }
-    assert!(rt; behind.as_slice() == BUSY_STATE.as_bytes());
+    Ok(())
+}
+
+/// A buffer takes as much of a state's text as it has room for, and what stands behind the text stays.
+#[test]
+fn states_are_put_into_buffers(rt: HostRuntime) -> Result<(), Fail> {
+    let mut sign = sign_of(rt.alloc(), stock(&[B]))?;
+    play(&mut sign, cases::BUSY)?;
+    let size = BUSY_STATE.len();
+    let (mut short, mut long) = ([7; 9], [7; 2000]);
+    assert!(rt; put_saved(&mut short, &sign) == size && &short == b"state 1 s");
+    assert!(rt; put_saved(&mut long, &sign) == size && long.starts_with(BUSY_STATE.as_bytes()));
+    assert!(rt; long.ends_with(&[7; 1000]));
     Ok(())
 }

@@ -8,7 +8,8 @@ use super::saved::{
 };
 use dms_sign::{Config, ConfigFault, Sign};
 use dms_sign_bench::{B, stock};
-use dms_sign_state::{RestoreFault, StateError, restored, saved};
+use dms_sign_restored::{RestoreFault, StateRefusal, put_state, restored};
+use dms_sign_state::{StateError, saved};
 use dms_table::{Order, Stock};
 use std::alloc::Global;
 use std::test::Fail;
@@ -21,7 +22,7 @@ fn again(alloc: Global, order: Order, text: &[u8]) -> Result<Sign, RestoreFault>
     };
     match config_of(alloc, stock) {
         Some(config) => restored(alloc, config, text),
-        None => Err(RestoreFault::Text(StateError::Memory)),
+        None => Err(RestoreFault::State(StateRefusal::Text(StateError::Memory))),
     }
 }
 
@@ -163,6 +164,50 @@ fn no_sign_is_restored_of_a_configuration_that_is_none(rt: HostRuntime) -> Resul
     };
     let fault = restored(rt.alloc(), config, BUSY_STATE.as_bytes()).err();
     assert!(rt; fault == Some(RestoreFault::Config(ConfigFault::Community)));
+    Ok(())
+}
+
+/// A sign that was made is put in the state of a text, and not in that of another sign's.
+#[test]
+fn a_made_sign_is_put_in_a_state(rt: HostRuntime) -> Result<(), Fail> {
+    let text = BUSY_STATE.as_bytes();
+    let made = sign_of(rt.alloc(), stock(&[B]))?;
+    let sign = put_state(rt.alloc(), made, text).or(Err("not put in it"))?;
+    assert!(rt; saved(rt.alloc(), &sign)?.as_slice() == text);
+    let used = put_state(rt.alloc(), sign, text)
+        .err()
+        .ok_or("put in it twice")?;
+    assert_eq!(rt; used.line(), Some(2));
+    Ok(())
+}
+
+/// The line that is refused is told, but where memory ran out.
+#[test]
+fn a_refused_line_is_told(rt: HostRuntime) -> Result<(), Fail> {
+    for (text, line) in [("", 1), ("state 1 centre\n", 1), ("state 1 sign\nend\n", 2)] {
+        let made = sign_of(rt.alloc(), stock(&[B]))?;
+        let refusal = put_state(rt.alloc(), made, text.as_bytes()).err();
+        assert_eq!(rt; refusal.and_then(|refusal| refusal.line()), Some(line));
+    }
+    assert_eq!(rt; StateRefusal::Text(StateError::Memory).line(), None);
+    Ok(())
+}
+
+/// Each allocation may be refused: then it is out of memory, and with memory the sign is put in the state.
+#[test]
+fn put_in_a_state_or_out_of_memory(rt: HostRuntime) -> Result<(), Fail> {
+    let text = BUSY_STATE.as_bytes();
+    for _ in 0..2 {
+        let Ok(made) = sign_of(rt.alloc(), stock(&[B])) else {
+            continue;
+        };
+        match put_state(rt.alloc(), made, text) {
+            Ok(sign) => assert!(rt; sign.is_powered()),
+            Err(refusal) => {
+                assert!(rt; refusal == StateRefusal::Text(StateError::Memory));
+            }
+        }
+    }
     Ok(())
 }
 

@@ -1,0 +1,6 @@
+use Rattle.dms_text_filling.proofs.Parts.{two}
+use Rattle.dms_sign_state.proofs.saving.put_set_defaults.Goals as goal
+
+pub returns-clause-octets : goal.returns-clause-octets
+returns-clause-octets c =
+    two c.put_text-place.ensures.octets c.put_defaults.ensures.octets
