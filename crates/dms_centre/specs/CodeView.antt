@@ -7,6 +7,8 @@ use Rattle.dms_centre.specs.declared.settings.Settings.{Settings}
 use Rattle.dms_centre.specs.declared.pending.Pending.{Pending}
 use Rattle.dms_centre.specs.declared.stage.Stage.{Stage}
 use Rattle.dms_centre.specs.declared.stage.Stage.TheVariants as stages
+use Rattle.dms_centre.specs.declared.stage.Phase.{Phase}
+use Rattle.dms_centre.specs.declared.stage.Phase.TheVariants as phases
 use Rattle.dms_centre.specs.declared.ledger.Entry.{Entry}
 use Rattle.dms_centre.specs.declared.outcome.Outcome.{Outcome}
 use Rattle.dms_centre.specs.State as state
@@ -22,6 +24,20 @@ entry_model numbered = record { number = numbered.0; code = numbered.1.code; out
 abbrev pub ledger_model : List (ℕ × Entry) → List state.Entry
 ledger_model entries = map entry_model entries
 
+abbrev pub pending_model : Pending → state.Pending
+pending_model pending = record {
+  number = pending.number;
+  octets = pending.octets.items;
+  sends = pending.sends;
+  age = pending.age;
+}
+
+-- the phase whose parts are lent
+abbrev pub lent_phase : Phase → state.Phase
+lent_phase phases.Idle = state.Idle
+lent_phase (phases.Awaits job pending) = state.Awaits (job_model job.now) (pending_model pending.now)
+lent_phase (phases.Due job) = state.Due (job_model job.now)
+
 -- What a datagram buffer holds after a call: nothing where nothing is sent.
 abbrev pub sent_in : List ℕ → Option (List ℕ)
 sent_in [] = None
@@ -32,14 +48,6 @@ sent_in (octet ∷ octets) = Some (octet ∷ octets)
 -- an entry that waits gets this outcome
 abbrev pub entry_given_up : Outcome → Entry → Entry
 entry_given_up outcome entry = if is_waiting entry.outcome then record entry { outcome = outcome } else entry
-
-abbrev pub pending_model : Pending → state.Pending
-pending_model pending = record {
-  number = pending.number;
-  octets = pending.octets.items;
-  sends = pending.sends;
-  age = pending.age;
-}
 
 abbrev pub phase_model : Stage → Job → Pending → state.Phase
 phase_model stages.Idle job pending = state.Idle

@@ -15,7 +15,7 @@ ghost use Rattle.dms_centre.specs.Sending.{ends};
 ghost use Rattle.dms_centre.specs.Room.{enters_at_tick, enters_by};
 ghost use Rattle.dms_centre.specs.ByPhase.{is_awaiting, awaits_activation, sends_job, adds_entry};
 ghost use Rattle.dms_centre_jobs.specs.CodeView.{command_model};
-ghost use Rattle.dms_centre.specs.CodeView.{settings_model, ledger_model, sent_in};
+ghost use Rattle.dms_centre.specs.CodeView.{settings_model, ledger_model, lent_phase, sent_in};
 
 use crate::ended::{Ended, Why};
 use crate::fault::{CommandFault, NoMemory};
@@ -23,7 +23,7 @@ use crate::ledger::{Entry, enter_job, give_up};
 use crate::outcome::Outcome;
 use crate::pending::{MOST_SENDS, Pending, TICKS_TO_WAIT};
 use crate::settings::{CentreFault, Settings};
-use crate::stage::Stage;
+use crate::stage::{Phase, Stage};
 use arrayvec::ArrayVec;
 use dms_centre_jobs::{Command, Job, put_request};
 use dms_codes::{MAX_COMMUNITY, Order, has_community_size};
@@ -120,6 +120,24 @@ impl Centre {
         ensures { result ≡ is_busy self.now.state.phase }
     {
         self.stage != Stage::Idle
+    }
+
+    /// The number that the next request takes.
+    pub fn next_number(&self) -> u32
+        ensures { result ≡ self.now.state.next }
+    {
+        self.next
+    }
+
+    /// Whether a job is on, and what comes next.
+    pub fn phase(&self) -> Phase<'_>
+        ensures { lent_phase result ≡ self.now.state.phase }
+    {
+        match self.stage {
+            Stage::Idle => Phase::Idle,
+            Stage::Awaits => Phase::Awaits(&self.job, &self.pending),
+            Stage::Due => Phase::Due(&self.job),
+        }
     }
 
     /// How the last job ended.

@@ -25,9 +25,11 @@ pub mod settings;
 mod stage;
 
 pub use centre::Centre;
-pub use dms_centre_jobs::{Attributes, Command, Publication, Step, Terms};
+pub use dms_centre_jobs::{Attributes, Command, Job, Publication, Step, Terms};
 pub use ended::{Ended, Why};
 pub use fault::{CommandFault, NoMemory};
 pub use ledger::Entry;
 pub use outcome::Outcome;
+pub use pending::Pending;
 pub use settings::{CentreFault, Settings};
+pub use stage::Phase;

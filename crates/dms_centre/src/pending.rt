@@ -14,13 +14,15 @@ pub(crate) const TICKS_TO_WAIT: u8 = 3;
 
 /// A request that waits for its reply.
 #[derive(Drop)]
-pub(crate) struct Pending {
-    pub(crate) number: u32,
-    pub(crate) octets: Out,
+pub struct Pending {
+    /// Its number.
+    pub number: u32,
+    /// The datagram that it is.
+    pub octets: Out,
     /// How many times it went out.
-    pub(crate) sends: u8,
+    pub sends: u8,
     /// The ticks since it went out last.
-    pub(crate) age: u8,
+    pub age: u8,
 }
 
 impl Pending {

@@ -1,6 +1,6 @@
 //! A job: what is to be activated, and how far it is.
 
-ghost use Rattle.std.specs.Prelude.{◌≡◌, ◌≤◌, ◌∷◌, [], true, length};
+ghost use Rattle.std.specs.Prelude.{◌≡◌, ◌≤◌, ◌∷◌, [], true, length, option_map};
 ghost use Rattle.dms_codes.specs.Checksum.{message_checksum};
 ghost use Rattle.dms_centre_jobs.specs.Job.{Publishing, Showing};
 ghost use Rattle.dms_centre_jobs.specs.Steps.{code_of, row_of};
@@ -8,7 +8,7 @@ ghost use Rattle.dms_centre_jobs.specs.Commands.{blank_code, is_good, is_publish
 ghost use Rattle.dms_centre_jobs.specs.Requests.{IsWork};
 ghost use Rattle.dms_centre_jobs.specs.CodeView.{command_model, job_model};
 ghost use Rattle.dms_centre_jobs.specs.JobView.{HasItsChecksum};
-ghost use Rattle.dms_centre_jobs.specs.PublicationView.{publication_model};
+ghost use Rattle.dms_centre_jobs.specs.PublicationView.{publication_model, publication_in};
 
 use crate::command::{Command, CommandParts};
 use crate::publication::{Attributes, Publication, Terms};
@@ -132,6 +132,32 @@ impl Work {
         ensures { result ≡ row_of self.now }
     {
         self.code.id.row()
+    }
+
+    /// The message that is written first, if one is.
+    pub fn publication(&self) -> Option<Publication<'_>>
+        ensures { option_map publication_model result ≡ publication_in self.now }
+    {
+        if !self.publishes {
+            return None;
+        }
+        let Activation {
+            minutes,
+            priority,
+            id: MessageId { memory, number, .. },
+            address,
+        } = self.code;
+        Some(Publication {
+            row: RowId { memory, number },
+            text: self.fields.text.as_slice(),
+            owner: self.fields.owner.as_slice(),
+            attributes: self.fields.attributes,
+            terms: Terms {
+                minutes,
+                priority,
+                address,
+            },
+        })
     }
 
     /// It becomes what a command is to activate.

@@ -1,0 +1,6 @@
+use Rattle.dms_text_filling.proofs.Parts.{six}
+use Rattle.dms_centre_state.proofs.ledger_lines.put_entry.Goals as goal
+
+pub returns : goal.returns
+returns c =
+    six c.put_text-place.ensures.octets c.put_decimal-place.ensures.octets c.put_text-place-2.ensures.octets c.put_code-place.ensures c.put_text-place-3.ensures.octets c.put_outcome.ensures

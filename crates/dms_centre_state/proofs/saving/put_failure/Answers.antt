@@ -1,0 +1,6 @@
+use Rattle.dms_text_filling.proofs.Parts.{four}
+use Rattle.dms_centre_state.proofs.saving.put_failure.Goals as goal
+
+pub returns : goal.returns
+returns c =
+    four c.put_text-place.ensures.octets c.put_decimal-place.ensures.octets c.put_text-place-2.ensures.octets c.put_why.ensures

@@ -1,0 +1,11 @@
+//! Tests of a central system's state as text.
+#![tactic(auto)]
+
+#[cfg(test)]
+mod cases;
+#[cfg(test)]
+mod saved;
+#[cfg(test)]
+mod scripts;
+#[cfg(test)]
+mod states;
