@@ -17,7 +17,7 @@ use Rattle.dms_centre_text.specs.CommandLine.{SpellsCommand}
 use Rattle.dms_centre_text.specs.CommandReading.{command_of}
 use Rattle.dms_centre_text.proofs.CommandLaws.{command_found, command_only}
 use Rattle.dms_text_streams.proofs.CallReading.{bare_found, nothing_found}
-use Rattle.dms_centre_lines.specs.Calls.{CentreCall, command, datagram, tick, restart, status, status_last}
+use Rattle.dms_centre_lines.specs.Calls.{CentreCall, command, datagram, tick, restart, status, status_last, save}
 use Rattle.dms_centre_lines.specs.CallReading.{last_alone_at, status_after, call_after, plain_call_at, or_command, call_of}
 use Rattle.dms_centre_lines.specs.SpelledCalls.{SpellsCallWords, SpellsCentreCall, SpellsNoCall}
 
@@ -49,6 +49,7 @@ after_found order word words call e =
     by_keyword word (codes "tick") _ _ call e (λ is read. bare_found (SpellsCallWords order) (codes "tick") word tick call words is read refl) λ e.
     by_keyword word (codes "restart") _ _ call e (λ is read. bare_found (SpellsCallWords order) (codes "restart") word restart call words is read refl) λ e.
     by_keyword word (codes "status") _ _ call e (status_found order word call words) λ e.
+    by_keyword word (codes "save") _ _ call e (λ is read. bare_found (SpellsCallWords order) (codes "save") word save call words is read refl) λ e.
     absurd (none-some call e)
 
 plain_found : (order : Order) (words : List (List ℕ)) (call : CentreCall) → plain_call_at words ≡ Some call → SpellsCallWords order call words
@@ -91,6 +92,7 @@ call_only order line tick spelled = plain_only order line tick (ap plain_call_at
 call_only order line restart spelled = plain_only order line restart (ap plain_call_at spelled)
 call_only order line status spelled = plain_only order line status (ap plain_call_at spelled)
 call_only order line status_last spelled = plain_only order line status_last (ap plain_call_at spelled)
+call_only order line save spelled = plain_only order line save (ap plain_call_at spelled)
 
 -- ---- one call a line
 

@@ -13,9 +13,10 @@ use Rattle.dms_centre.specs.Inputs.{received, ticked, restarted}
 use Rattle.dms_centre.specs.Texts.{command_fault_text, ended_text}
 use Rattle.dms_text_forms.specs.LineText.{ended}
 use Rattle.dms_centre_text.specs.LedgerLine.{ledger_line}
+use Rattle.dms_centre_state.specs.CentreText.{text_of_state}
 use Rattle.dms_text_streams.specs.Conversation.{bad_line, ok_line}
 use Rattle.dms_centre_lines.specs.BadValue.{value_text, bad_value}
-use Rattle.dms_centre_lines.specs.Calls.{CentreCall, command, datagram, tick, restart, status, status_last}
+use Rattle.dms_centre_lines.specs.Calls.{CentreCall, command, datagram, tick, restart, status, status_last, save}
 use Rattle.dms_centre_lines.specs.CallReading.{call_of}
 
 -- ---- lines
@@ -76,6 +77,7 @@ call_answer state (Some tick) = sent_line (ticked state).sent
 call_answer state (Some restart) = ok_line
 call_answer state (Some status) = status_lines state
 call_answer state (Some status_last) = last_lines state
+call_answer state (Some save) = text_of_state state ++ ok_line
 
 -- the central system after it
 abbrev pub after_call : CentreState → Option CentreCall → CentreState
@@ -86,6 +88,7 @@ after_call state (Some tick) = (ticked state).state
 after_call state (Some restart) = restarted state
 after_call state (Some status) = state
 after_call state (Some status_last) = state
+after_call state (Some save) = state
 
 abbrev pub answer_text : CentreState → List ℕ → List ℕ
 answer_text state line = call_answer state (call_of state.settings.order line)

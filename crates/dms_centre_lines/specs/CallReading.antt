@@ -6,7 +6,7 @@ use Rattle.dms_codes.specs.declared.codes.Order.{Order}
 use Rattle.dms_centre_jobs.specs.Commands.{CommandModel}
 use Rattle.dms_text_forms.specs.FieldsReading.{if_last, last_octets_at}
 use Rattle.dms_centre_text.specs.CommandReading.{command_of}
-use Rattle.dms_centre_lines.specs.Calls.{CentreCall, command, datagram, tick, restart, status, status_last}
+use Rattle.dms_centre_lines.specs.Calls.{CentreCall, command, datagram, tick, restart, status, status_last, save}
 
 -- `last`, and nothing after it
 unfoldable pub last_alone_at : List (List ℕ) → Option CentreCall
@@ -25,6 +25,7 @@ call_after word words =
     else if same_octets word (codes "tick") then if_last tick words
     else if same_octets word (codes "restart") then if_last restart words
     else if same_octets word (codes "status") then status_after words
+    else if same_octets word (codes "save") then if_last save words
     else None
 
 -- a call other than a command
@@ -42,6 +43,7 @@ has_octets (Some tick) = false
 has_octets (Some restart) = false
 has_octets (Some status) = false
 has_octets (Some status_last) = false
+has_octets (Some save) = false
 
 abbrev pub or_command : Option CentreCall → Option CommandModel → Option CentreCall
 or_command (Some call) spelled = Some call

@@ -1,10 +1,11 @@
 //! A line to a central system, and its answer.
 
-ghost use Rattle.std.specs.Prelude.{◌≡◌, IfOk, OnOk, OnErr, Some, None};
+ghost use Rattle.std.specs.Prelude.{◌≡◌, ◌++◌, IfOk, OnOk, OnErr, Some, None};
 ghost use Rattle.dms_centre_jobs.specs.CodeView.{command_model};
 ghost use Rattle.dms_centre.specs.Commands.{commanded, refusal_of};
 ghost use Rattle.dms_centre.specs.Inputs.{received, ticked, restarted};
 ghost use Rattle.dms_centre_text.specs.CommandReading.{command_of};
+ghost use Rattle.dms_centre_state.specs.CentreText.{text_of_state};
 ghost use Rattle.dms_text_streams.specs.Conversation.{ok_line};
 ghost use Rattle.dms_centre_lines.specs.Answers.{answer_text, after_line, call_answer, after_call, command_line};
 ghost use Rattle.dms_centre_lines.specs.Answers.{sent_line};
@@ -15,6 +16,7 @@ use crate::reading::{PlainCall, plain_call};
 use crate::status::{status, status_last};
 use crate::text::{put_sent, refused, room};
 use dms_centre::{Centre, Command};
+use dms_centre_state::saved;
 use dms_centre_text::read_command;
 use dms_text_streams::{bad_line, ok_line};
 use dms_wire::Out;
@@ -30,6 +32,7 @@ use std::alloc::{AllocError, Global};
 /// - `restart` restarts it: `ok`.
 /// - `status`: `busy` or `idle`, `last` and how the last job ended, the ledger's lines of a report, and `ok`.
 /// - `status last`: the same without the ledger's lines.
+/// - `save`: the text of its state, and `ok`.
 /// - Any other line is a `bad line`, and changes nothing.
 ///
 /// Where it runs out of memory, nothing has changed: what an answer needs is reserved before the central system is
@@ -58,6 +61,7 @@ fn answer_call(alloc: Global, centre: &mut Centre, call: PlainCall) -> Result<Ve
         PlainCall::Restart => restart(alloc, centre),
         PlainCall::Status => status(alloc, centre),
         PlainCall::StatusLast => status_last(alloc, centre),
+        PlainCall::Save => save(alloc, centre),
     }
 }
 
@@ -135,5 +139,14 @@ fn restart(alloc: Global, centre: &mut Centre) -> Result<Vec<u8>, AllocError>
 {
     let text = ok_line(alloc)?;
     centre.restart();
+    Ok(text)
+}
+
+/// The text of its state.
+fn save(alloc: Global, centre: &Centre) -> Result<Vec<u8>, AllocError>
+    ensures { IfOk result (λ text. text.items ≡ text_of_state centre.now.state ++ ok_line) }
+{
+    let mut text = saved(alloc, centre)?;
+    text.extend_from_slice(b"ok\n")?;
     Ok(text)
 }

@@ -1,7 +1,7 @@
 //! A central system that is spoken to in lines of text: each line is answered by lines.
 //!
 //! A line is an operator's command as in a script (`publish ..`, `blank ..`, `activate ..`), or `datagram OCTETS`,
-//! `tick`, `restart`, `status` or `status last`.
+//! `tick`, `restart`, `status`, `status last` or `save`.
 //!
 //! ```
 //! let settings = Settings { community: b"admin", order: Order::High };

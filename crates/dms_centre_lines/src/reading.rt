@@ -23,6 +23,8 @@ pub(crate) enum PlainCall {
     Status,
     /// How does it stand, without its ledger?
     StatusLast,
+    /// What is its state?
+    Save,
 }
 
 /// The call that a line spells, or none where it spells none; a command is none. Memory is asked for by a datagram
@@ -43,6 +45,8 @@ pub(crate) fn plain_call(alloc: Global, line: &[u8]) -> Result<Option<PlainCall>
         Ok(alone(words, PlainCall::Restart))
     } else if are_same(word, b"status") {
         Ok(status(words))
+    } else if are_same(word, b"save") {
+        Ok(alone(words, PlainCall::Save))
     } else {
         Ok(None)
     }

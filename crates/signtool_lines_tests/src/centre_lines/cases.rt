@@ -90,6 +90,20 @@ busy
 last none
 ledger 1 ffffff070001000000000000 waiting
 ok
+# all that the central system keeps
+> save
+state 1 centre
+next 2
+last none
+awaits
+sends 3
+ticks 2
+step 7
+polls 0
+activate ffffff070001000000000000
+ledger 1 ffffff070001000000000000 waiting
+end
+ok
 > tick
 ok
 # the ninth second is over: no reply came
@@ -240,6 +254,8 @@ status last last
 status Last
 status first
 last
+save 1
+saves
 state
 show
 power-lost
