@@ -1,6 +1,7 @@
--- what a reader must believe: what the refusal of an input says, what is printed of it, and what a call prints (this
--- profile)
+-- what a reader must believe: what the refusal of an input says, what is printed of it, the state that stands before a
+-- conversation, and what a call prints (this profile)
 pub mod Unseen
 pub mod Refused
 pub mod RefusalText
+pub mod RestoredBefore
 pub mod CallAnswers

@@ -23,11 +23,14 @@ ghost use Rattle.signtool_print.specs.ExitNumbers.{exit_number};
 ghost use Rattle.signtool_print.specs.Printed.{answer, EndsOrMemory, PrintsOrMemory};
 ghost use Rattle.signtool_acts.specs.CallAnswers.{reply_answer, answer_to, CarriesOut, IsWanted, IsInputFault};
 ghost use Rattle.signtool_acts.specs.CallAnswers.{IsRefused};
+ghost use Rattle.dms_text_streams.specs.Lines.{left};
+ghost use Rattle.signtool_acts.specs.RestoredBefore.{BeginsIn};
 ghost use Rattle.signtool_acts.specs.CallAnswers.{OfSign, OfDigits, OfScript};
 
 use crate::centre::live_centre;
 use crate::inputs::{described_before, described_whole, replayed};
 use crate::refusal::Refusal;
+use crate::restored::{RestoreRefusal, restored_before};
 use dms_agent::Agent;
 use dms_agent_lines::LiveAgent;
 use dms_replay::{ReplayFault, address, bench};
@@ -36,7 +39,7 @@ use dms_sign_text::Setup;
 use dms_text_streams::{ConversationFault, Counted, Failed, Input, Party, Sink, Source, converse};
 use dms_wire::Out;
 use hex::FromHexError;
-use signtool_calls::{Call, Drawing, Form, SignWanted};
+use signtool_calls::{Call, Drawing, Form, SignWanted, StateWanted};
 use signtool_print::{
     ExitStatus, activation, code, decode, list_items, print_count, print_hex_fault, print_made,
     print_memory, print_no_memory, print_pages, print_text, say_why_dropped, status,
@@ -119,16 +122,16 @@ pub fn carry_out<R: Read, W: Sink, E: Write>(
             activation(alloc, &words, address, writer, errors)
         }
         Call::Replay => print_report(alloc, reader, writer, errors),
-        Call::Sign { sign } => be_sign(alloc, sign, reader, writer, errors),
+        Call::Sign { sign, state } => be_sign(alloc, (sign, state), reader, writer, errors),
         Call::Centre { sign } => be_centre(alloc, sign, reader, writer, errors),
     }
 }
 
 /// Answers the lines to a sign, and to what they publish beside it, that the standard input has, or has after the
-/// sign's description.
+/// sign's description and its state.
 fn be_sign<R: Read, W: Sink, E: Write>(
     alloc: Global,
-    wanted: SignWanted,
+    (wanted, state): (SignWanted, StateWanted),
     reader: &mut R,
     writer: &mut W,
     errors: &mut E,
@@ -136,12 +139,32 @@ fn be_sign<R: Read, W: Sink, E: Write>(
     let Ok(mut input) = Input::new(alloc, Counted::new(&mut *reader)) else {
         return print_memory(writer, errors);
     };
-    match live_setup(alloc, wanted, &mut input) {
-        Ok(setup) => {
-            let agent = Agent::new(alloc, setup.sign);
+    let setup = match live_setup(alloc, wanted, &mut input) {
+        Ok(setup) => setup,
+        Err(refusal) => return refusal.refuse(alloc, writer, errors),
+    };
+    match sign_in(alloc, state, setup.sign, &mut input) {
+        Ok(sign) => {
+            let agent = Agent::new(alloc, sign);
             talk(alloc, LiveAgent::new(agent), &mut input, writer, errors)
         }
         Err(refusal) => refusal.refuse(alloc, writer, errors),
+    }
+}
+
+/// The sign as it is made, or in the state that the input says before the conversation.
+fn sign_in<S: Source>(
+    alloc: Global,
+    state: StateWanted,
+    sign: Sign,
+    input: &mut Input<S>,
+) -> Result<Sign, RestoreRefusal>
+    ensures sign { IfOk result
+        (λ s. BeginsIn state (left S.remaining input.old) sign s (left S.remaining input.new)) }
+{
+    match state {
+        StateWanted::New => Ok(sign),
+        StateWanted::Restored => restored_before(alloc, sign, input),
     }
 }
 

@@ -14,7 +14,9 @@
 pub mod act;
 mod centre;
 mod inputs;
+pub mod laws;
 mod refusal;
+mod restored;
 mod unseen;
 
 pub use act::act_saying;
@@ -22,5 +24,6 @@ pub use centre::live_centre;
 pub use dms_text_streams::Counted;
 pub use inputs::{described_before, described_whole, replayed};
 pub use refusal::Refusal;
+pub use restored::{RestoreRefusal, restored_before};
 pub use signtool_print::ExitStatus;
 pub use unseen::Unseen;

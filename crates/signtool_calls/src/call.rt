@@ -46,6 +46,7 @@ pub enum Call<'a> {
     /// The answers of a sign to the lines on the standard input, each before the next line is read.
     Sign {
         sign: SignWanted,
+        state: StateWanted,
     },
     /// The answers of a sign's central system to the lines on the standard input, each before the next line is read.
     Centre {
@@ -60,6 +61,15 @@ pub enum SignWanted {
     Bench,
     /// The sign that the standard input describes.
     Described,
+}
+
+/// In which state a sign begins a conversation.
+#[derive(Clone, Copy, Debug, PartialEq, Eq)]
+pub enum StateWanted {
+    /// As it is made.
+    New,
+    /// That of the text that the standard input has next.
+    Restored,
 }
 
 /// In which form an answer is printed.

@@ -10,6 +10,8 @@ mod call;
 mod message_name;
 mod table_row;
 
-pub use call::{ActivationWords, Call, CodeWords, Drawing, Form, SignWanted, TermWords};
+pub use call::{
+    ActivationWords, Call, CodeWords, Drawing, Form, SignWanted, StateWanted, TermWords,
+};
 pub use message_name::MessageName;
 pub use table_row::TableRow;

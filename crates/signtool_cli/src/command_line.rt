@@ -5,7 +5,8 @@ use crate::subcommands::command;
 use clap::ArgMatches;
 use clap::error::ErrorKind;
 use signtool_calls::{
-    ActivationWords, Call, CodeWords, Drawing, Form, MessageName, SignWanted, TableRow, TermWords,
+    ActivationWords, Call, CodeWords, Drawing, Form, MessageName, SignWanted, StateWanted,
+    TableRow, TermWords,
 };
 use std::alloc::{AllocError, Global};
 use std::convert::AsStr;
@@ -120,6 +121,7 @@ fn call_without_numbers<'a>(name: &str, words: &ArgMatches<'a>) -> Option<Call<'
         "replay" => Some(Call::Replay),
         "sign" => Some(Call::Sign {
             sign: sign_wanted(words),
+            state: state_wanted(words),
         }),
         "centre" => Some(Call::Centre {
             sign: sign_wanted(words),
@@ -172,6 +174,15 @@ fn sign_wanted(words: &ArgMatches<'_>) -> SignWanted {
         SignWanted::Described
     } else {
         SignWanted::Bench
+    }
+}
+
+/// In which state the words of a subcommand want a sign to begin.
+fn state_wanted(words: &ArgMatches<'_>) -> StateWanted {
+    if words.get_flag("restore") {
+        StateWanted::Restored
+    } else {
+        StateWanted::New
     }
 }
 

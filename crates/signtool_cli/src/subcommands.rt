@@ -99,7 +99,7 @@ const SUBCOMMANDS: [Subcommand; 10] = [
     Subcommand {
         name: "sign",
         about: "Is a sign: answers each line of the standard input, as `datagram HEX` or `tick`",
-        words: &[Word::Flag(Flag::Sign)],
+        words: &[Word::Flag(Flag::Sign), Word::Flag(Flag::Restore)],
     },
     Subcommand {
         name: "centre",

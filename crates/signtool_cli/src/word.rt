@@ -29,6 +29,8 @@ pub(crate) enum WantedWord {
 pub(crate) enum Flag {
     /// The sign is the one that the standard input describes.
     Sign,
+    /// The sign begins in the state that the standard input says.
+    Restore,
     Json,
     Svg,
     Spaced,
@@ -101,6 +103,11 @@ impl Flag {
                 "sign",
                 "the sign that the standard input describes, in place of the bench sign, which is 23 by 14 and has \
                  the characters 1 A B [ ]",
+            ),
+            Flag::Restore => (
+                "restore",
+                "the state that the standard input says first, after a description: the lines that `save` answers, \
+                 up to `end`",
             ),
             Flag::Json => ("json", "one object of JSON in place of lines"),
             Flag::Svg => (

@@ -4,7 +4,7 @@ mod cases;
 
 use signtool_acts::Counted;
 use signtool_acts::act::{act, act_saying};
-use signtool_calls::{Call, Drawing, Form, SignWanted};
+use signtool_calls::{Call, Drawing, Form, SignWanted, StateWanted};
 use signtool_cli::asked;
 use std::alloc::{AllocError, Global};
 use std::io;
@@ -217,14 +217,68 @@ fn reads_the_command_line(rt: HostRuntime) -> Result<(), Fail> {
         return Err("no check".into());
     };
     assert!(rt; text == "A" && sign == SignWanted::Described && form == Form::Lines);
-    let Some(Call::Sign { sign }) = call_of(rt.alloc(), &["signtool", "sign", "--sign"]) else {
-        return Err("no sign".into());
-    };
-    let Some(Call::Centre { sign: bench }) = call_of(rt.alloc(), &["signtool", "centre"]) else {
+    let Some(Call::Centre { sign }) = call_of(rt.alloc(), &["signtool", "centre"]) else {
         return Err("no centre".into());
     };
-    assert!(rt; sign == SignWanted::Described && bench == SignWanted::Bench);
+    assert!(rt; sign == SignWanted::Bench);
     Ok(())
+}
+
+/// A sign is described or not, and begins in a state or not.
+#[test]
+fn a_sign_begins_in_a_state(rt: HostRuntime) -> Result<(), Fail> {
+    for (line, wanted) in [
+        ("sign", (SignWanted::Bench, StateWanted::New)),
+        ("sign --sign", (SignWanted::Described, StateWanted::New)),
+        ("sign --restore", (SignWanted::Bench, StateWanted::Restored)),
+        (
+            "sign --restore --sign",
+            (SignWanted::Described, StateWanted::Restored),
+        ),
+    ] {
+        let words = words_of(rt.alloc(), line)?;
+        let found = match call_of(rt.alloc(), &words) {
+            Some(Call::Sign { sign, state }) => Some((sign, state)),
+            _ => None,
+        };
+        assert!(rt; found == Some(wanted), "for {line}");
+    }
+    Ok(())
+}
+
+/// The sign goes on where it was saved, with a description before its state too.
+#[test]
+fn a_conversation_goes_on_from_a_state(rt: HostRuntime) -> Result<(), Fail> {
+    let state = cases::WITHOUT_POWER;
+    let asked = format!(in rt.alloc(); "{state}save\npower-back 5\nstate\n")?;
+    let told = "ok\nok\nshown 7 1 0000 mode 10 priority 1 remaining 65535 text -\nok\n";
+    let printed = format!(in rt.alloc(); "{state}{told}")?;
+    let found = called(
+        rt.alloc(),
+        "sign --restore",
+        asked.as_str(),
+        printed.as_str(),
+    );
+    assert_eq!(rt; found, Some((0, true)));
+    let described = format!(in rt.alloc(); "{}{state}save\n", cases::SMALL_SIGN)?;
+    let printed = format!(in rt.alloc(); "{state}ok\n")?;
+    let found = called(
+        rt.alloc(),
+        "sign --sign --restore",
+        described.as_str(),
+        printed.as_str(),
+    );
+    assert_eq!(rt; found, Some((0, true)));
+    Ok(())
+}
+
+/// The line of a state that is refused is told, and why.
+#[test]
+fn a_refused_state_is_told(rt: HostRuntime) {
+    for (state, printed, said) in cases::NO_STATES {
+        let found = told_on_input(rt.alloc(), "sign --restore", state, printed, said);
+        assert_eq!(rt; found, Some((1, true, true)), "for {state}");
+    }
 }
 
 #[test]

@@ -1,7 +1,7 @@
 //! Calls of the program and what is wanted of them. A call stands as its words after `signtool`, parted by blanks; what
 //! stands between two `'` is one word.
 
-use signtool_calls::{Call, Drawing, Form, SignWanted};
+use signtool_calls::{Call, Drawing, Form, SignWanted, StateWanted};
 
 /// A sign of one font, with the picture of `A` alone.
 pub const SMALL_SIGN: &str = "\
@@ -33,6 +33,98 @@ show
 power-lost
 power-back 5
 end";
+
+/// The bench sign's state after its power was lost.
+pub const WITHOUT_POWER: &str = "\
+state 1 sign
+defaults 0 9 5 5 1 3 2 30 0
+short-power-recovery 0700010000
+long-power-recovery 0700010000
+power-loss 0700010000
+end-duration 0700010000
+communications-loss 0700010000
+short-power-loss-time 0
+time-comm-loss 0
+silent 0
+shown - - 0 0 1
+shown-source 0700010000
+shown-mode 13
+shown-address 0.0.0.0
+shown-defaults 0 9 5 5 1 3 2 30 0
+kept - - 0 0 1
+kept-source 0700010000
+kept-mode 10
+kept-address 0.0.0.0
+kept-defaults 0 9 5 5 1 3 2 30 0
+validate-error 2
+activate-error 2
+syntax-error 2
+syntax-error-position 0
+accepted-code 000000000000000000000000
+failed-code 000000000000000000000000
+powered 0
+end
+";
+
+/// States that the bench sign is not in: what is printed, and what is said.
+pub static NO_STATES: [(&str, &str, &str); 5] = [
+    // nothing
+    ("", "state line 1\n", "state line 1: state 1 sign wanted\n"),
+    // it ends within its first line
+    (
+        "state 1 sig",
+        "state line 1\n",
+        "state line 1: state 1 sign wanted\n",
+    ),
+    // a central system's
+    (
+        "state 1 centre\nend\n",
+        "state line 1\n",
+        "state line 1: state 1 sign wanted\n",
+    ),
+    // its second line is its last
+    (
+        "state 1 sign\nend\ntick\n",
+        "state line 2\n",
+        "state line 2: defaults and nine numbers wanted\n",
+    ),
+    // a row that the sign has not
+    (
+        "\
+state 1 sign
+changeable 3 4 41 - 0 0 1
+defaults 0 9 5 5 1 3 2 30 0
+short-power-recovery 0700010000
+long-power-recovery 0700010000
+power-loss 0700010000
+end-duration 0700010000
+communications-loss 0700010000
+short-power-loss-time 0
+time-comm-loss 0
+silent 0
+shown - - 0 0 1
+shown-source 0700010000
+shown-mode 10
+shown-address 0.0.0.0
+shown-defaults 0 9 5 5 1 3 2 30 0
+kept - - 0 0 1
+kept-source 0700010000
+kept-mode 10
+kept-address 0.0.0.0
+kept-defaults 0 9 5 5 1 3 2 30 0
+validate-error 2
+activate-error 2
+syntax-error 2
+syntax-error-position 0
+accepted-code 000000000000000000000000
+failed-code 000000000000000000000000
+powered 1
+end
+",
+        "state line 2\n",
+        "state line 2: no such row can be changed\n",
+    ),
+];
 
 /// Words that are no call, and whether what is said of them ends with how a description is given.
 pub static HINTED: [(&str, bool); 6] = [
@@ -129,6 +221,13 @@ const ANSWERED: Call<'static> = Call::Answer {
 /// A conversation with the bench sign.
 const TO_BENCH: Call<'static> = Call::Sign {
     sign: SignWanted::Bench,
+    state: StateWanted::New,
+};
+
+/// A conversation with the bench sign in the state that is handed to it.
+const TO_BENCH_AGAIN: Call<'static> = Call::Sign {
+    sign: SignWanted::Bench,
+    state: StateWanted::Restored,
 };
 
 /// A conversation with a central system that has the bench sign's settings.
@@ -140,9 +239,14 @@ const TO_CENTRE: Call<'static> = Call::Centre {
 pub const READ_FIRST: [Call<'static>; 4] = [CHECKED, DRAWN, ANSWERED, Call::Replay];
 
 /// Calls that read a description, and then a line at a time.
-pub const READ_BY_LINES: [Call<'static>; 2] = [
+pub const READ_BY_LINES: [Call<'static>; 3] = [
     Call::Sign {
         sign: SignWanted::Described,
+        state: StateWanted::New,
+    },
+    Call::Sign {
+        sign: SignWanted::Described,
+        state: StateWanted::Restored,
     },
     Call::Centre {
         sign: SignWanted::Described,
@@ -215,7 +319,7 @@ ok
 ];
 
 /// Calls in which memory may be refused: the standard input, what is printed where it is not, and the status.
-pub const ALLOCATING: [(Call<'static>, &str, &str, u8); 8] = [
+pub const ALLOCATING: [(Call<'static>, &str, &str, u8); 9] = [
     // a text is checked
     (CHECKED, SMALL_SIGN, "ok pages 1\n", 0),
     // its page is drawn
@@ -277,6 +381,8 @@ shown 7 1 0000 mode 10 priority 1 remaining 65535 text -
     (TO_BENCH, "tick", "ok\n", 0),
     // a second passes at a central system
     (TO_CENTRE, "tick", "ok\n", 0),
+    // a sign begins without power
+    (TO_BENCH_AGAIN, WITHOUT_POWER, "", 0),
 ];
 
 /// Datagrams to the bench sign in hexadecimal, what `answer` prints of each, and its status.
@@ -879,7 +985,7 @@ the standard input is empty: < FILE gives it one
 ];
 
 /// Words that are no call.
-pub static NO_CALLS: [&str; 20] = [
+pub static NO_CALLS: [&str; 21] = [
     // `replay` takes no word
     "replay A",
     // no call is named
@@ -910,6 +1016,8 @@ pub static NO_CALLS: [&str; 20] = [
     "help",
     // a conversation reads its lines from the standard input
     "sign tick",
+    // a central system has no state that is read
+    "centre --restore",
     // no checksum
     "activation 3 1",
     // no memory has the type 1
