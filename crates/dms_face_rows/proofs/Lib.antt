@@ -1,0 +1,5 @@
+mod Filled
+mod HeldLaws
+mod OctetLaws
+mod PageLaws
+mod RowLaws

@@ -1,0 +1,15 @@
+-- What the code keeps of a text's items, as the definitions have it (this profile).
+use Rattle.dms_face_rows.specs.declared.styling.Styling.{Styling}
+use Rattle.dms_face.specs.Layout.{Style}
+
+abbrev pub style_of : Styling → Style
+style_of s = record {
+  font = s.font.now;
+  foreground = s.foreground;
+  flash = s.flash;
+  side = s.side;
+  part = s.part;
+  background = s.background;
+  on = s.on;
+  off = s.off;
+}
