@@ -1,1 +1,5 @@
 pub mod ObjectValues
+pub mod Codes
+pub mod Endings
+pub mod Answers
+pub mod Ledger
