@@ -19,12 +19,13 @@
  *   - A pointer that comes with a size points to at least so many octets, and no two pointers of one call overlap.
  *   - The heap keeps what is said of rattle_alloc below.
  *
- * There is no global state, no thread, no exit and no abort. wisangub_sign_new and wisangub_centre_new take memory (by
- * rattle_alloc), and wisangub_sign_free and wisangub_centre_free give it back; wisangub_sign_publish takes memory for
- * an object, which is given back as the object is withdrawn or another stands in its place; the two calls that draw
- * pages, and the command of a central system, take memory and give it back before they answer; a central system takes
- * some for its ledger, where its command or tick answers MEMORY if there is none; no other call takes any. Sizes are
- * octets and times are seconds. The functions answer one of enum wisangub_answer. What is `const` is only read.
+ * There is no global state, no thread, no exit and no abort. wisangub_sign_new, wisangub_sign_restore and
+ * wisangub_centre_new take memory (by rattle_alloc), and wisangub_sign_free and wisangub_centre_free give it back;
+ * wisangub_sign_publish takes memory for an object, which is given back as the object is withdrawn or another stands in
+ * its place; the two calls that draw pages, the three that say why something is refused, and the command of a central
+ * system, take memory and give it back before they answer; a central system takes some for its ledger, where its
+ * command or tick answers MEMORY if there is none; no other call takes any. Sizes are octets and times are seconds. The
+ * functions answer one of enum wisangub_answer. What is `const` is only read.
  *
  * A call that fills a buffer gives the size that it needs in *size. Where the room is smaller it answers TOO_SMALL and
  * does nothing else, and may be called again; null with a room of 0 asks for the size alone.
@@ -85,7 +86,8 @@ enum wisangub_answer {
     WISANGUB_NULL = 5,      /* a pointer is null; nothing is done */
     WISANGUB_BUSY = 6,      /* a job is not done yet; the command is not taken */
     WISANGUB_USED_UP = 7,   /* no request number is left; the command is not taken */
-    WISANGUB_RANGE = 8      /* a value is out of its range, of a command too, which is not taken; nothing is done */
+    WISANGUB_RANGE = 8,     /* a value is out of its range, of a command too, which is not taken; nothing is done */
+    WISANGUB_STATE = 9      /* a text is no state of the sign; nothing is done */
 };
 
 /* A sign. Set `at` to null before the first use: `struct wisangub_sign sign = {NULL};` */
@@ -109,6 +111,91 @@ struct wisangub_shown {
 struct wisangub_text_fault {
     size_t place; /* the offset in octets, from 0 */
     uint8_t code; /* dmsMultiSyntaxError, 3 to 13 */
+};
+
+/* Which cause it is for which a description or a command is refused; docs/PROFILE.md has their lines. */
+enum wisangub_kind {
+    WISANGUB_CAUSE_MISSING = 1,           /* the line ends where a word is wanted */
+    WISANGUB_CAUSE_EMPTY = 2,             /* two spaces, or a space at an end of the line */
+    WISANGUB_CAUSE_OTHER = 3,             /* another word is wanted */
+    WISANGUB_CAUSE_MORE = 4,              /* no more words are wanted */
+    WISANGUB_CAUSE_NO_END = 5,            /* the text ends before its line `end` */
+    WISANGUB_CAUSE_KEYWORD = 6,           /* no line begins with this word here */
+    WISANGUB_CAUSE_ROW_AFTER_FONT = 7,    /* a permanent row stands before all fonts */
+    WISANGUB_CAUSE_GLYPH_BEFORE_FONT = 8, /* a character stands after its font */
+    WISANGUB_CAUSE_PICTURE = 9,           /* the bits of a character do not fit its picture */
+    WISANGUB_CAUSE_GLYPH_TWICE = 10,      /* the font has the character already */
+    WISANGUB_CAUSE_GLYPHS = 11,           /* the font has 255 characters already */
+    WISANGUB_CAUSE_AFTER_END = 12,        /* no line may stand after `end` */
+    WISANGUB_CAUSE_WIDTH = 13,            /* the columns of the matrix */
+    WISANGUB_CAUSE_HEIGHT = 14,           /* the rows of the matrix */
+    WISANGUB_CAUSE_FONTS = 15,            /* how many fonts there are */
+    WISANGUB_CAUSE_FONT_TWICE = 16,       /* two fonts have this number */
+    WISANGUB_CAUSE_BACKGROUND = 17,       /* a default that is no colour */
+    WISANGUB_CAUSE_FOREGROUND = 18,       /* a default that is no colour */
+    WISANGUB_CAUSE_LINE = 19,             /* a default that is no justification of lines */
+    WISANGUB_CAUSE_PAGE = 20,             /* a default that is no justification of pages */
+    WISANGUB_CAUSE_FONT = 21,             /* a default that is the number of no font */
+    WISANGUB_CAUSE_READER = 22,           /* the octets of the first community */
+    WISANGUB_CAUSE_WRITER = 23,           /* the octets of the second community */
+    WISANGUB_CAUSE_COMMUNITIES = 24,      /* both are the same */
+    WISANGUB_CAUSE_PERMANENT = 25,        /* how many permanent rows there are */
+    WISANGUB_CAUSE_CHANGEABLE = 26,       /* how many changeable rows there are */
+    WISANGUB_CAUSE_VOLATILE = 27,         /* how many volatile rows there are */
+    WISANGUB_CAUSE_ROW_TEXT = 28,         /* the octets of a permanent row's text */
+    WISANGUB_CAUSE_ROW_OWNER = 29,        /* the octets of its owner */
+    WISANGUB_CAUSE_ROW_BEACON = 30,       /* its beacon */
+    WISANGUB_CAUSE_ROW_PIXEL = 31,        /* its pixel service */
+    WISANGUB_CAUSE_ROW_PRIORITY = 32,     /* its priority */
+    WISANGUB_CAUSE_NO_BEACONS = 33,       /* it wants beacons, which the sign has not */
+    WISANGUB_CAUSE_NO_PIXEL_SERVICE = 34, /* it wants a pixel service, which the sign has not */
+    WISANGUB_CAUSE_TEXT = 35              /* its text cannot be shown: `code` and `place` */
+};
+
+/* What a word is to be. */
+enum wisangub_wanted {
+    WISANGUB_WANTED_WORD = 1,    /* this word */
+    WISANGUB_WANTED_EITHER = 2,  /* one of two words */
+    WISANGUB_WANTED_ANY = 3,     /* any word */
+    WISANGUB_WANTED_NUMBER = 4,  /* a number from `least` to `most` */
+    WISANGUB_WANTED_OCTETS = 5,  /* octets in hexadecimal digits, `-` for none */
+    WISANGUB_WANTED_VERSION = 6, /* four hexadecimal digits */
+    WISANGUB_WANTED_ADDRESS = 7, /* four numbers, as 192.0.2.1 */
+    WISANGUB_WANTED_CODE = 8     /* twenty-four hexadecimal digits */
+};
+
+/* Why a description or a command is refused, in numbers. One that says nothing of its kind is 0. */
+struct wisangub_cause {
+    size_t line;    /* from 1; where a line is missing, the number after the last one; of a command 1 */
+    size_t word;    /* of the line, from 1 */
+    size_t row;     /* the permanent row, from 1 */
+    size_t place;   /* of a text that cannot be shown, the offset in octets, from 0 */
+    uint32_t least; /* the least number that is wanted, or the least of what is counted */
+    uint32_t most;  /* the greatest number that is wanted, or the most of what is counted */
+    uint8_t kind;   /* enum wisangub_kind */
+    uint8_t wanted; /* enum wisangub_wanted, of a word that is missing, or is another one */
+    uint8_t number; /* of the font, or the default, that stands there */
+    uint8_t code;   /* of a text that cannot be shown (dmsMultiSyntaxError), 3 to 13 */
+};
+
+/* What a sign lacks for a text that cannot be shown. */
+enum wisangub_lack {
+    WISANGUB_LACK_NOTHING = 0,   /* nothing that a sign may have; so too where there is no memory to look */
+    WISANGUB_LACK_CHARACTER = 1, /* a picture of `character` in the font `font` */
+    WISANGUB_LACK_FONT = 2,      /* the font `font` */
+    WISANGUB_LACK_COLUMNS = 3,   /* `count` columns of the matrix */
+    WISANGUB_LACK_ROWS = 4,      /* `count` rows of the matrix */
+    WISANGUB_LACK_OCTETS = 5     /* a text has `count` octets too many */
+};
+
+/* Why a text cannot be shown, where, and what the sign lacks for it. One that says nothing of its kind is 0. */
+struct wisangub_text_cause {
+    size_t place;       /* the offset in octets, from 0 */
+    size_t count;       /* of what is lacking */
+    uint16_t character; /* that is lacking */
+    uint8_t font;       /* that is lacking, or lacks the character */
+    uint8_t code;       /* dmsMultiSyntaxError, 3 to 13 */
+    uint8_t lack;       /* enum wisangub_lack */
 };
 
 /* What a code says. A message is named by its memory, its number and its checksum alone. */
@@ -261,6 +348,24 @@ WISANGUB_AT(shown, pixel, 12);
 WISANGUB_SIZE(text_fault, 16);
 WISANGUB_AT(text_fault, place, 0);
 WISANGUB_AT(text_fault, code, 8);
+WISANGUB_SIZE(cause, 48);
+WISANGUB_AT(cause, line, 0);
+WISANGUB_AT(cause, word, 8);
+WISANGUB_AT(cause, row, 16);
+WISANGUB_AT(cause, place, 24);
+WISANGUB_AT(cause, least, 32);
+WISANGUB_AT(cause, most, 36);
+WISANGUB_AT(cause, kind, 40);
+WISANGUB_AT(cause, wanted, 41);
+WISANGUB_AT(cause, number, 42);
+WISANGUB_AT(cause, code, 43);
+WISANGUB_SIZE(text_cause, 24);
+WISANGUB_AT(text_cause, place, 0);
+WISANGUB_AT(text_cause, count, 8);
+WISANGUB_AT(text_cause, character, 16);
+WISANGUB_AT(text_cause, font, 18);
+WISANGUB_AT(text_cause, code, 19);
+WISANGUB_AT(text_cause, lack, 20);
 WISANGUB_SIZE(code, 12);
 WISANGUB_AT(code, minutes, 0);
 WISANGUB_AT(code, number, 2);
@@ -299,8 +404,14 @@ WISANGUB_AT(status, why, 19);
 /* What is proved, as the compiler of the library lays it out. Use the functions below, which refuse null. */
 uint32_t wisangub_sign_new_at(const uint8_t *text, size_t text_size, struct wisangub_sign *sign, uint32_t *first,
                               size_t *line);
+uint32_t wisangub_description_cause_at(const uint8_t *text, size_t text_size, struct wisangub_cause *cause,
+                                       uint8_t *words, size_t room, size_t *size);
 uint32_t wisangub_sign_receive_at(struct wisangub_sign *sign, const uint8_t *datagram, size_t datagram_size,
                                   uint8_t *reply, size_t reply_room, size_t *reply_size);
+uint32_t wisangub_sign_restore_at(const uint8_t *text, size_t text_size, const uint8_t *state, size_t state_size,
+                                  struct wisangub_sign *sign, uint32_t *first, size_t *line);
+uint32_t wisangub_sign_save_at(const struct wisangub_sign *sign, uint8_t *state, size_t room, size_t *size);
+void wisangub_sign_save_most_at(const struct wisangub_sign *sign, size_t *size);
 void wisangub_sign_tick_at(struct wisangub_sign *sign);
 void wisangub_sign_power_lost_at(struct wisangub_sign *sign);
 void wisangub_sign_power_back_at(struct wisangub_sign *sign, uint32_t seconds);
@@ -317,8 +428,12 @@ uint32_t wisangub_sign_reader_at(const struct wisangub_sign *sign, uint8_t *comm
 uint32_t wisangub_sign_writer_at(const struct wisangub_sign *sign, uint8_t *community, size_t room, size_t *size);
 uint32_t wisangub_sign_check_at(const struct wisangub_sign *sign, const uint8_t *text, size_t text_size, size_t *pages,
                                 struct wisangub_text_fault *fault);
+uint32_t wisangub_sign_text_cause_at(const struct wisangub_sign *sign, const uint8_t *text, size_t text_size,
+                                     struct wisangub_text_cause *cause, uint8_t *words, size_t room, size_t *size);
 uint32_t wisangub_sign_pages_at(const struct wisangub_sign *sign, uint8_t layer, uint8_t *pages, size_t room,
                                 size_t *size);
+uint32_t wisangub_sign_page_row_at(const struct wisangub_sign *sign, size_t number, uint16_t y, uint8_t layer,
+                                   uint8_t *cells, size_t room, size_t *size);
 uint32_t wisangub_sign_text_pages_at(const struct wisangub_sign *sign, const uint8_t *text, size_t text_size,
                                      uint8_t layer, uint8_t *pages, size_t room, size_t *size,
                                      struct wisangub_text_fault *fault);
@@ -340,6 +455,8 @@ uint32_t wisangub_activation_code_at(uint8_t order, const struct wisangub_code *
 
 uint32_t wisangub_centre_new_at(const uint8_t *community, size_t community_size, uint8_t order, uint32_t first,
                                 struct wisangub_centre *centre);
+uint32_t wisangub_command_cause_at(const uint8_t *line, size_t line_size, struct wisangub_cause *cause, uint8_t *words,
+                                   size_t room, size_t *size);
 uint32_t wisangub_centre_command_at(struct wisangub_centre *centre, const uint8_t *line, size_t line_size,
                                     uint8_t *request, size_t request_room, size_t *request_size);
 uint32_t wisangub_centre_receive_at(struct wisangub_centre *centre, const uint8_t *datagram, size_t datagram_size,
@@ -381,6 +498,69 @@ WISANGUB_INLINE enum wisangub_answer wisangub_sign_new(struct wisangub_sign *sig
         return WISANGUB_NULL;
     }
     return (enum wisangub_answer)wisangub_sign_new_at((const uint8_t *)text, text_size, sign, first, line);
+}
+
+/*
+ * Why wisangub_sign_new refuses a description: its line and the cause in numbers in *cause, and the cause in words, as
+ * `word 2: a number from 0 to 65535 is wanted`, in `words`, of which there are *size. Answers DONE; NOTHING, where it
+ * is a sign's, with *size 0; TOO_SMALL, and *cause is as it was; MEMORY, which it takes as wisangub_sign_new does and
+ * gives back; or NULL.
+ */
+WISANGUB_INLINE enum wisangub_answer wisangub_description_cause(const void *text, size_t text_size,
+                                                                struct wisangub_cause *cause, void *words, size_t room,
+                                                                size_t *size)
+{
+    uint8_t none = 0, *buffer = wisangub_buffer(words, room, &none);
+    if (text == NULL || cause == NULL || buffer == NULL || size == NULL || !WISANGUB_OF_THIS_VERSION) {
+        return WISANGUB_NULL;
+    }
+    return (enum wisangub_answer)wisangub_description_cause_at((const uint8_t *)text, text_size, cause, buffer, room,
+                                                               size);
+}
+
+/*
+ * The state of a sign as text, from its line `state 1 sign` to `end`: all that came to be since it was made, as the
+ * line `save` answers it (docs/PROFILE.md). Not in it are what the description says, the objects that are published
+ * beside the sign, which firmware publishes again, and the count of wisangub_sign_changes. Answers DONE, with the text
+ * in `state` and its size in *size; TOO_SMALL; or NULL. No memory is taken.
+ */
+WISANGUB_INLINE enum wisangub_answer wisangub_sign_save(const struct wisangub_sign *sign, void *state, size_t room,
+                                                        size_t *size)
+{
+    uint8_t none = 0, *buffer = wisangub_buffer(state, room, &none);
+    if (sign == NULL || sign->at == NULL || buffer == NULL || size == NULL) {
+        return WISANGUB_NULL;
+    }
+    return (enum wisangub_answer)wisangub_sign_save_at(sign, buffer, room, size);
+}
+
+/* The most octets that wisangub_sign_save gives of any state of a sign of this description. Answers DONE or NULL. */
+WISANGUB_INLINE enum wisangub_answer wisangub_sign_save_most(const struct wisangub_sign *sign, size_t *size)
+{
+    if (sign == NULL || sign->at == NULL || size == NULL) {
+        return WISANGUB_NULL;
+    }
+    wisangub_sign_save_most_at(sign, size);
+    return WISANGUB_DONE;
+}
+
+/*
+ * Makes the sign of a description, as wisangub_sign_new does, in the state of a text that wisangub_sign_save gave of a
+ * sign of this description: each call answers afterwards what it would have answered there. The time since then is
+ * the caller's to tell, by wisangub_sign_ticks, or as a loss of power, by wisangub_sign_power_lost and
+ * wisangub_sign_power_back. Answers as wisangub_sign_new does, and STATE, with the line for which the text is refused
+ * in *line, counted from 1.
+ */
+WISANGUB_INLINE enum wisangub_answer wisangub_sign_restore(struct wisangub_sign *sign, const void *text,
+                                                           size_t text_size, const void *state, size_t state_size,
+                                                           uint32_t *first, size_t *line)
+{
+    if (sign == NULL || sign->at != NULL || text == NULL || state == NULL || first == NULL || line == NULL
+        || !WISANGUB_OF_THIS_VERSION) {
+        return WISANGUB_NULL;
+    }
+    return (enum wisangub_answer)wisangub_sign_restore_at((const uint8_t *)text, text_size, (const uint8_t *)state,
+                                                          state_size, sign, first, line);
 }
 
 /*
@@ -586,6 +766,23 @@ WISANGUB_INLINE enum wisangub_answer wisangub_sign_check(const struct wisangub_s
 }
 
 /*
+ * Why wisangub_sign_check refuses a text: what is wrong, where, and what the sign lacks for it in *cause, and the same
+ * in words, as `character not defined at octet 3: character 48 is not in font 2`, in `words`, of which there are *size.
+ * Answers DONE; NOTHING, where the text can be shown, with *size 0; TOO_SMALL, and *cause is as it was; MEMORY; or NULL.
+ */
+WISANGUB_INLINE enum wisangub_answer wisangub_sign_text_cause(const struct wisangub_sign *sign, const void *text,
+                                                              size_t text_size, struct wisangub_text_cause *cause,
+                                                              void *words, size_t room, size_t *size)
+{
+    uint8_t none = 0, *buffer = wisangub_buffer(words, room, &none);
+    if (sign == NULL || sign->at == NULL || text == NULL || cause == NULL || buffer == NULL || size == NULL) {
+        return WISANGUB_NULL;
+    }
+    return (enum wisangub_answer)wisangub_sign_text_cause_at(sign, (const uint8_t *)text, text_size, cause, buffer,
+                                                             room, size);
+}
+
+/*
  * The pages of what the sign shows, one after the other: of each its head of WISANGUB_PAGE_HEAD octets, and then an
  * octet for each cell, row by row from the top, each row from the left; `layer` says what of a cell. So a page has
  * 3 + width * height octets. Answers DONE; RANGE, where the layer is none; TOO_SMALL; MEMORY; or NULL.
@@ -598,6 +795,24 @@ WISANGUB_INLINE enum wisangub_answer wisangub_sign_pages(const struct wisangub_s
         return WISANGUB_NULL;
     }
     return (enum wisangub_answer)wisangub_sign_pages_at(sign, wisangub_octet((unsigned)layer), buffer, room, size);
+}
+
+/*
+ * A row of a page of what the sign shows, both counted from 0: the octets of its cells from the left, as
+ * wisangub_sign_pages gives them, one for each column. Answers DONE; RANGE, where the layer is none; FAULT, where there
+ * is no such page or the matrix has no such row, and *size is as it was; TOO_SMALL; or NULL. No memory is taken: the
+ * page is laid out on the stack, of which this call takes some 94 KB.
+ */
+WISANGUB_INLINE enum wisangub_answer wisangub_sign_page_row(const struct wisangub_sign *sign, size_t number, uint16_t y,
+                                                            enum wisangub_layer layer, void *cells, size_t room,
+                                                            size_t *size)
+{
+    uint8_t none = 0, *buffer = wisangub_buffer(cells, room, &none);
+    if (sign == NULL || sign->at == NULL || buffer == NULL || size == NULL) {
+        return WISANGUB_NULL;
+    }
+    return (enum wisangub_answer)wisangub_sign_page_row_at(sign, number, y, wisangub_octet((unsigned)layer), buffer,
+                                                           room, size);
 }
 
 /*
@@ -799,6 +1014,22 @@ WISANGUB_INLINE enum wisangub_answer wisangub_centre_command(struct wisangub_cen
     }
     return (enum wisangub_answer)wisangub_centre_command_at(centre, (const uint8_t *)line, line_size,
                                                             (uint8_t *)request, request_room, request_size);
+}
+
+/*
+ * Why wisangub_centre_command answers FAULT to a line: in numbers in *cause, and in words, as `word 4: a text in
+ * hexadecimal is wanted`, in `words`, of which there are *size. Answers DONE; NOTHING, where the line spells a command,
+ * with *size 0; TOO_SMALL, and *cause is as it was; MEMORY; or NULL.
+ */
+WISANGUB_INLINE enum wisangub_answer wisangub_command_cause(const void *line, size_t line_size,
+                                                            struct wisangub_cause *cause, void *words, size_t room,
+                                                            size_t *size)
+{
+    uint8_t none = 0, *buffer = wisangub_buffer(words, room, &none);
+    if (line == NULL || cause == NULL || buffer == NULL || size == NULL || !WISANGUB_OF_THIS_VERSION) {
+        return WISANGUB_NULL;
+    }
+    return (enum wisangub_answer)wisangub_command_cause_at((const uint8_t *)line, line_size, cause, buffer, room, size);
 }
 
 /*

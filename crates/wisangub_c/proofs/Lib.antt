@@ -1,4 +1,6 @@
 mod Entries
+pub mod Given
 mod Heap
 mod Places
+mod RowLaws
 mod Values

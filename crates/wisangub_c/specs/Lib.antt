@@ -3,6 +3,8 @@ pub mod Answers
 pub mod Codes
 pub mod Shown
 pub mod Pages
+pub mod Rows
 pub mod Times
+pub mod States
 pub mod Objects
 pub mod Centre

@@ -10,67 +10,29 @@ ghost use Rattle.dms_centre.specs.Inputs.{received, ticked, restarted};
 ghost use Rattle.dms_centre.specs.Room.{enters_at_tick};
 ghost use Rattle.dms_centre.specs.Commands.{commanded, refusal_of};
 ghost use Rattle.dms_centre_jobs.specs.CodeView.{command_model};
-ghost use Rattle.dms_centre.specs.CodeView.{settings_model, entry_model, sent_in};
+ghost use Rattle.dms_centre.specs.CodeView.{settings_model, sent_in};
 ghost use Rattle.wisangub_c.specs.Answers.{done, no_memory, too_small, at_fault, unless_memory, answer_of, size_of};
 ghost use Rattle.wisangub_c.specs.Answers.{buffer_with, out_of_range};
-ghost use Rattle.wisangub_c.specs.Codes.{order_of};
+ghost use Rattle.wisangub_c_values.specs.Codes.{order_of};
 ghost use Rattle.dms_centre.specs.Room.{enters_by};
 ghost use Rattle.dms_centre_text.specs.CommandReading.{command_of, has_octets, IsOfOctets};
 ghost use Rattle.wisangub_c.specs.Centre.{IsPlaced, command_in, refusal_answer, given_command_answer};
 ghost use Rattle.wisangub_c.specs.Centre.{given_command_size, given_command_buffer, command_answer, command_size};
-ghost use Rattle.wisangub_c.specs.Centre.{command_buffer, after_command, enters_by_call, code_parts};
-ghost use Rattle.wisangub_c.specs.Centre.{outcome_number, outcome_status, ledger_entry, entry_answer, entry_after};
-ghost use Rattle.wisangub_c.specs.Centre.{ended_number, ended_step, ended_why, ended_value, why_number, why_value};
-ghost use Rattle.wisangub_c.specs.Centre.{busy_number, centre_status};
+ghost use Rattle.wisangub_c.specs.Centre.{command_buffer, after_command, enters_by_call};
+ghost use Rattle.wisangub_c.specs.Centre.{entry_answer, entry_after};
+ghost use Rattle.wisangub_c_values.specs.Ledger.{centre_status};
 
-use crate::answers::{
-    AT_FAULT, BUSY, DONE, NO_MEMORY, NOTHING_SENT, NUMBERS_USED_UP, OUT_OF_RANGE, TOO_SMALL,
-    put_first,
-};
 use crate::centre_handle::CentreHandle;
 use crate::centre_place::CentrePlace;
-use crate::code_calls::{CodeParts, order_of};
 use crate::loose::Loose;
-use dms_centre::{
-    Centre, CentreFault, Command, CommandFault, Ended, Entry, Outcome, Settings, Why,
-};
+use dms_centre::{Centre, CentreFault, Command, CommandFault, Settings};
 use dms_centre_text::read_command;
-use dms_codes::Activation;
 use dms_wire::{MAX_DATAGRAM, Out};
 use std::alloc::Global;
-
-/// A code that was sent, the number of its request, and what became of it.
-#[repr(C)]
-#[derive(Clone, Copy)]
-pub struct LedgerEntry {
-    /// The error-status of a refusal (RFC 1157, 4.1.1), else 0.
-    pub status: i64,
-    /// The number of the request.
-    pub number: u32,
-    /// 0 it waits, 1 the sign accepted it, 2 the sign refused it, 3 no reply came, 4 the centre was restarted while it
-    /// waited.
-    pub outcome: u8,
-    /// The code, as the request carried it.
-    pub code: CodeParts,
-}
-
-/// How a central system stands.
-#[repr(C)]
-#[derive(Clone, Copy)]
-pub struct CentreStatus {
-    /// The error-status, the status of the row, or the cause of a job that failed for one, else 0.
-    pub value: i64,
-    /// How many codes it sent.
-    pub entries: usize,
-    /// 1 while a job is on, else 0.
-    pub busy: u8,
-    /// How the last job ended: 0 none did, 1 it was accepted, 2 it failed.
-    pub last: u8,
-    /// The step at which it failed, 1 to 8, else 0.
-    pub step: u8,
-    /// Why it failed, 1 to 9, else 0.
-    pub why: u8,
-}
+use wisangub_c_values::{
+    AT_FAULT, BUSY, CentreStatus, DONE, LedgerEntry, NO_MEMORY, NOTHING_SENT, NUMBERS_USED_UP,
+    OUT_OF_RANGE, TOO_SMALL, centre_status, ledger_entry, order_of, put_first,
+};
 
 /// Why no central system was made.
 enum MakeFault {
@@ -360,90 +322,6 @@ pub extern "C" fn wisangub_centre_restart_at(centre: &mut CentreHandle)
     centre.as_mut().restart();
 }
 
-fn ended_number(ended: Ended) -> u8
-    ensures { result ≡ ended_number ended }
-{
-    match ended {
-        Ended::Never => 0,
-        Ended::Accepted => 1,
-        Ended::Failed(..) => 2,
-    }
-}
-
-fn ended_step(ended: Ended) -> u8
-    ensures { result ≡ ended_step ended }
-{
-    match ended {
-        Ended::Failed(step, _) => step,
-        Ended::Never | Ended::Accepted => 0,
-    }
-}
-
-fn ended_why(ended: Ended) -> u8
-    ensures { result ≡ ended_why ended }
-{
-    match ended {
-        Ended::Failed(_, why) => why_number(why),
-        Ended::Never | Ended::Accepted => 0,
-    }
-}
-
-fn ended_value(ended: Ended) -> i64
-    ensures { result ≡ ended_value ended }
-{
-    match ended {
-        Ended::Failed(_, why) => why_value(why),
-        Ended::Never | Ended::Accepted => 0,
-    }
-}
-
-fn why_number(why: Why) -> u8
-    ensures { result ≡ why_number why }
-{
-    match why {
-        Why::Status(_) => 1,
-        Why::WrongStatus(_) => 2,
-        Why::StillValidating => 3,
-        Why::OtherChecksum => 4,
-        Why::NoReply => 5,
-        Why::NumbersUsedUp => 6,
-        Why::OddReply => 7,
-        Why::Cause(_) => 8,
-        Why::Restarted => 9,
-    }
-}
-
-fn why_value(why: Why) -> i64
-    ensures { result ≡ why_value why }
-{
-    match why {
-        Why::Status(value) => value,
-        Why::WrongStatus(value) => value,
-        Why::Cause(value) => value,
-        _ => 0,
-    }
-}
-
-fn busy_number(busy: bool) -> u8
-    ensures { result ≡ busy_number busy }
-{
-    if busy { 1 } else { 0 }
-}
-
-fn centre_status(centre: &Centre) -> CentreStatus
-    ensures { result ≡ centre_status centre.now.state }
-{
-    let last = centre.last();
-    CentreStatus {
-        value: ended_value(last),
-        entries: centre.ledger().len(),
-        busy: busy_number(centre.busy()),
-        last: ended_number(last),
-        step: ended_step(last),
-        why: ended_why(last),
-    }
-}
-
 /// How the central system stands.
 #[unsafe(no_mangle)]
 pub extern "C" fn wisangub_centre_status_at(centre: &mut CentreHandle, status: &mut CentreStatus)
@@ -451,52 +329,6 @@ pub extern "C" fn wisangub_centre_status_at(centre: &mut CentreHandle, status: &
     ensures status { status.new ≡ centre_status centre.old.value.state }
 {
     *status = centre_status(centre.as_mut());
-}
-
-fn code_parts(code: Activation) -> CodeParts
-    ensures { result ≡ code_parts code }
-{
-    let address = code.address;
-    CodeParts {
-        minutes: code.minutes,
-        number: code.id.number,
-        checksum: code.id.crc,
-        priority: code.priority,
-        memory: code.id.memory,
-        address,
-    }
-}
-
-fn outcome_number(outcome: Outcome) -> u8
-    ensures { result ≡ outcome_number outcome }
-{
-    match outcome {
-        Outcome::Waiting => 0,
-        Outcome::Accepted => 1,
-        Outcome::Refused(_) => 2,
-        Outcome::NoReply => 3,
-        Outcome::Unknown => 4,
-    }
-}
-
-fn outcome_status(outcome: Outcome) -> i64
-    ensures { result ≡ outcome_status outcome }
-{
-    match outcome {
-        Outcome::Refused(status) => status,
-        _ => 0,
-    }
-}
-
-fn ledger_entry(number: u32, entry: &Entry) -> LedgerEntry
-    ensures { result ≡ ledger_entry (entry_model (number, entry.now)) }
-{
-    LedgerEntry {
-        status: outcome_status(entry.outcome),
-        number,
-        outcome: outcome_number(entry.outcome),
-        code: code_parts(entry.code),
-    }
 }
 
 fn put_entry(centre: &Centre, index: usize, entry: &mut LedgerEntry) -> u32

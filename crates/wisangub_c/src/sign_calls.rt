@@ -17,7 +17,6 @@ ghost use Rattle.wisangub_c.specs.Answers.{fault_answer, line_after};
 ghost use Rattle.wisangub_c.specs.Answers.{datagram_answer, datagram_size, datagram_buffer};
 ghost use Rattle.dms_agent_watched.specs.Watched.{unchanged, watched};
 
-use crate::answers::{AT_FAULT, DONE, NO_MEMORY, NOTHING_SENT, TOO_SMALL, put_first};
 use crate::loose::Loose;
 use crate::sign_handle::SignHandle;
 use crate::sign_place::SignPlace;
@@ -26,12 +25,13 @@ use dms_sign::Receipt;
 use dms_sign_text::{DescriptionFault, Setup, description};
 use dms_wire::{MAX_DATAGRAM, Out};
 use std::alloc::Global;
+use wisangub_c_values::{AT_FAULT, DONE, NO_MEMORY, NOTHING_SENT, TOO_SMALL, put_first};
 
 /// A sign on the heap, beside which nothing is published, and the number of the first request of its centre.
 #[derive(Drop)]
-struct NewSign {
-    sign: Box<Watched>,
-    first: u32,
+pub(crate) struct NewSign {
+    pub(crate) sign: Box<Watched>,
+    pub(crate) first: u32,
 }
 
 /// The sign of a description, on the heap.
@@ -79,7 +79,7 @@ pub extern "C" fn wisangub_sign_new_at(
 }
 
 /// What is answered where no sign is made: of a description at fault, with the number of its line.
-fn fault_answer(fault: DescriptionFault, line: &mut usize) -> u32
+pub(crate) fn fault_answer(fault: DescriptionFault, line: &mut usize) -> u32
     ensures answer { result ≡ fault_answer fault }
     ensures line { line.new ≡ line_after fault line.old }
 {
