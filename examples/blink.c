@@ -12,31 +12,21 @@ static struct wisangub_centre centre = {NULL};
 static char description[1 << 20];
 static uint8_t pages[6 * (WISANGUB_PAGE_HEAD + 256 * 64)];
 
-/* What is wrong with a text (dmsMultiSyntaxError). */
-static const char *const faults[14] = {[3] = "no such tag",
-                                       [4] = "a value that the tag does not take",
-                                       [5] = "no room for it on the matrix, or over 512 octets",
-                                       [6] = "no such font",
-                                       [7] = "a character that the font does not have",
-                                       [8] = "no such field device",
-                                       [9] = "a field device at fault",
-                                       [10] = "a region that cannot flash",
-                                       [11] = "a tag against one before it",
-                                       [12] = "over six pages",
-                                       [13] = "another version of the font"};
-
 /* Whether the text can be shown; else says why not, and where. */
 static int is_shown(const char *text)
 {
-    struct wisangub_text_fault fault = {0, 0};
-    size_t count = 0;
-    if (wisangub_sign_check(&sign, text, strlen(text), &count, &fault) == WISANGUB_DONE) {
-        return 1;
+    struct wisangub_text_cause cause = {.place = 0};
+    char words[256];
+    size_t size = 0;
+    enum wisangub_answer told = wisangub_sign_text_cause(&sign, text, strlen(text), &cause, words, sizeof words, &size);
+    if (told == WISANGUB_DONE) {
+        fprintf(stderr, "blink: the text is refused: %.*s\n", (int)size, words);
+        fprintf(stderr, "    %s\n    %*s^\n", text, (int)cause.place, "");
     }
-    const char *why = fault.code < 14 && faults[fault.code] != NULL ? faults[fault.code] : "another fault";
-    fprintf(stderr, "blink: the text is refused at octet %zu: %s (%u)\n", fault.place, why, fault.code);
-    fprintf(stderr, "    %s\n    %*s^\n", text, (int)fault.place, "");
-    return 0;
+    if (told == WISANGUB_MEMORY) {
+        fputs("blink: out of memory\n", stderr);
+    }
+    return told == WISANGUB_NOTHING;
 }
 
 /* Shows a page for its time: colours 0 to 9 of MULTI as a terminal has them; what flashes blinks. */
@@ -61,6 +51,18 @@ static void show_all(void)
     }
 }
 
+/* Says which line of the description is refused, and why. */
+static void say_why_refused(size_t description_size)
+{
+    struct wisangub_cause cause = {.line = 0};
+    char words[256];
+    size_t size = 0;
+    if (wisangub_description_cause(description, description_size, &cause, words, sizeof words, &size) != WISANGUB_DONE) {
+        size = 0;
+    }
+    fprintf(stderr, "blink: line %zu of the description is refused: %.*s\n", cause.line, (int)size, words);
+}
+
 /* Makes both ends: 1, or says why not. */
 static int is_made(size_t description_size)
 {
@@ -69,7 +71,7 @@ static int is_made(size_t description_size)
     uint8_t community[32];
     enum wisangub_answer made = wisangub_sign_new(&sign, description, description_size, &first, &line);
     if (made == WISANGUB_FAULT) {
-        return fprintf(stderr, "blink: line %zu of the description is refused\n", line), 0;
+        return say_why_refused(description_size), 0;
     }
     wisangub_sign_writer(&sign, community, sizeof community, &size);
     enum wisangub_order order = strstr(description, "\norder swapped") != NULL ? WISANGUB_SWAPPED : WISANGUB_HIGH;

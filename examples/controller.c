@@ -9,8 +9,8 @@ static void draw(struct controller *controller, uint64_t now)
 {
     uint64_t changes = 0;
     wisangub_sign_changes(controller->sign, &changes);
-    if ((!controller->is_drawn || changes != controller->changes)
-        && picture_draw(&controller->picture, controller->sign)) {
+    if (!controller->is_drawn || changes != controller->changes) {
+        picture_draw(&controller->picture, controller->sign);
         controller->is_drawn = 1;
         controller->changes = changes;
         controller->begun = now;

@@ -38,21 +38,52 @@ static size_t described(const char *name, char *text)
     return ended + 1;
 }
 
-void make_sign(struct wisangub_sign *sign, const char *name, char digest[65])
+struct described description_of(const char *name)
 {
     static char text[DESCRIPTION_MOST + 1];
-    uint32_t first = 0;
-    size_t line = 0, size = described(name, text);
-    enum wisangub_answer made = wisangub_sign_new(sign, text, size, &first, &line);
-    if (made == WISANGUB_FAULT) {
-        fprintf(stderr, "%s: line %zu: no description of a sign\n", name, line);
-        exit(2);
-    }
+    struct described found = {.name = name, .text = text, .size = described(name, text)};
+    sha256_digits(text, found.size, found.digest);
+    return found;
+}
+
+static void look_at_memory(enum wisangub_answer made, const struct described *described)
+{
     if (made != WISANGUB_DONE) {
-        fprintf(stderr, "%s: out of memory\n", name);
+        fprintf(stderr, "%s: out of memory\n", described->name);
         exit(1);
     }
-    sha256_digits(text, size, digest);
+}
+
+void sign_of(struct wisangub_sign *sign, const struct described *described)
+{
+    uint32_t first = 0;
+    size_t line = 0;
+    enum wisangub_answer made = wisangub_sign_new(sign, described->text, described->size, &first, &line);
+    if (made == WISANGUB_FAULT) {
+        fprintf(stderr, "%s: line %zu: no description of a sign\n", described->name, line);
+        exit(2);
+    }
+    look_at_memory(made, described);
+}
+
+size_t sign_in(struct wisangub_sign *sign, const struct described *described, const char *state, size_t size)
+{
+    uint32_t first = 0;
+    size_t line = 0;
+    enum wisangub_answer made =
+        wisangub_sign_restore(sign, described->text, described->size, state, size, &first, &line);
+    if (made == WISANGUB_STATE) {
+        return line;
+    }
+    look_at_memory(made, described);
+    return 0;
+}
+
+void make_sign(struct wisangub_sign *sign, const char *name, char digest[65])
+{
+    struct described found = description_of(name);
+    sign_of(sign, &found);
+    memcpy(digest, found.digest, sizeof found.digest);
 }
 
 struct communities communities_of(struct wisangub_sign *sign)

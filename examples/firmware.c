@@ -3,9 +3,18 @@
 
 #include <stdio.h>
 #include <stdlib.h>
+#include <string.h>
 #include <time.h>
 
 #include "names.h"
+
+static char why[OBJECTS_WHY];
+
+static _Noreturn void refuse_file(void)
+{
+    fprintf(stderr, "%s\n", why);
+    exit(2);
+}
 
 /* ---- publishing */
 
@@ -31,8 +40,7 @@ static int publish(struct firmware *firmware, const struct object *object, doubl
 }
 
 /* Whether no object has the name of one of the sign's. Nothing is published meanwhile but the objects of `before`. */
-static int is_beside(struct firmware *firmware, const struct objects *objects, const struct objects *before,
-                     char why[OBJECTS_WHY])
+static int is_beside(const struct firmware *firmware, const struct objects *objects, const struct objects *before)
 {
     static char text[NAME_TEXT];
     struct wisangub_value value;
@@ -78,23 +86,49 @@ static int shows_fonts(struct firmware *firmware)
     return firmware->objects.fonts == 0 || wisangub_sign_show_fonts(firmware->sign) == WISANGUB_DONE;
 }
 
-void firmware_begin(struct firmware *firmware, struct wisangub_sign *sign, const char *path, double up, int is_quiet)
+void firmware_read(struct firmware *firmware, const char *path, double up, int is_quiet)
 {
-    static char why[OBJECTS_WHY];
-    static const struct objects none = {.count = 0};
-    *firmware = (struct firmware){.sign = sign, .path = path, .begun = up, .told = up, .is_quiet = is_quiet};
-    if (!objects_read(path, &firmware->objects, why) || !shows_fonts(firmware)
-        || !is_beside(firmware, &firmware->objects, &none, why)) {
-        fprintf(stderr, "%s\n", why);
-        exit(2);
+    *firmware = (struct firmware){.path = path, .begun = up, .told = up, .is_quiet = is_quiet};
+    if (!objects_read(path, &firmware->objects, why)) {
+        refuse_file();
     }
-    publish_all(firmware, &firmware->objects, &none, up);
+}
+
+/* Whether an object that a manager set is so again: one of its name is published, and takes the value. */
+static int is_set_again(const struct firmware *firmware, const struct set *set)
+{
+    struct object was = {0};
+    uint8_t *store;
+    int is_again = 0;
+    if (set_object(set->words, set->size, &was, &store)) {
+        const struct object *there = objects_find(&firmware->objects, &was);
+        is_again = there != NULL && there->access.writes != WISANGUB_READ_ONLY
+                   && wisangub_sign_publish(firmware->sign, was.name, was.name_size, &was.value, was.octets,
+                                            was.octets_size, &there->access)
+                          == WISANGUB_DONE;
+    }
+    free(store);
+    return is_again;
+}
+
+void firmware_publish(struct firmware *firmware, struct wisangub_sign *sign, struct sets *sets)
+{
+    static const struct objects none = {.count = 0};
+    firmware->sign = sign;
+    firmware->sets = sets;
+    if (!shows_fonts(firmware) || !is_beside(firmware, &firmware->objects, &none)) {
+        refuse_file();
+    }
+    publish_all(firmware, &firmware->objects, &none, firmware->begun);
+    for (struct set *set = sets->items; set < sets->items + sets->count; set++) {
+        set->is_told = !is_set_again(firmware, set);
+    }
 }
 
 /* ---- a file that changes */
 
 /* Whether both files say the same of fonts, which are settled at the start. */
-static int are_settled(const struct firmware *firmware, const struct objects *now, char why[OBJECTS_WHY])
+static int are_settled(const struct firmware *firmware, const struct objects *now)
 {
     size_t before = firmware->objects.fonts;
     if ((now->fonts == 0) == (before == 0)) {
@@ -107,14 +141,13 @@ static int are_settled(const struct firmware *firmware, const struct objects *no
 
 void firmware_again(struct firmware *firmware, double up)
 {
-    static char why[OBJECTS_WHY];
     struct objects now, before = firmware->objects;
     size_t gone = 0;
     if (!objects_read(firmware->path, &now, why)) {
         fprintf(stderr, "%s: the objects stay as they were\n", why);
         return;
     }
-    if (!are_settled(firmware, &now, why) || !is_beside(firmware, &now, &before, why)) {
+    if (!are_settled(firmware, &now) || !is_beside(firmware, &now, &before)) {
         fprintf(stderr, "%s: the objects stay as they were\n", why);
         objects_free(&now);
         return;
@@ -147,23 +180,37 @@ void firmware_keep_time(struct firmware *firmware, double up)
     }
 }
 
+/* Puts what a manager set to the sets; where there is no memory for it, it is told at once. */
+static void take(struct firmware *firmware, const struct name *name, const struct wisangub_value *value,
+                 const uint8_t *octets, size_t size)
+{
+    static char words[NAME_TEXT + VALUE_TEXT];
+    name_text(name->octets, name->size, words);
+    size_t made = strlen(words);
+    words[made++] = ' ';
+    made += value_text(value, octets, size, words + made);
+    if (!sets_put(firmware->sets, words, made) && !firmware->is_quiet) {
+        printf("set %s\n", words);
+    }
+}
+
 void firmware_tell(struct firmware *firmware)
 {
     static uint8_t octets[WISANGUB_DATAGRAM];
-    static char text[NAME_TEXT];
     struct name name;
     struct wisangub_value value;
+    struct sets *sets = firmware->sets;
     size_t size = 0;
     while (wisangub_sign_taken(firmware->sign, name.octets, sizeof name.octets, &name.size, &value, octets,
                                sizeof octets, &size)
            == WISANGUB_DONE) {
-        if (firmware->is_quiet) {
-            continue;
+        take(firmware, &name, &value, octets, size);
+    }
+    for (struct set *set = sets->items; set < sets->items + sets->count; set++) {
+        if (!set->is_told && !firmware->is_quiet) {
+            printf("set %.*s\n", (int)set->size, set->words);
         }
-        name_text(name.octets, name.size, text);
-        printf("set %s ", text);
-        value_print(&value, octets, size);
-        putchar('\n');
+        set->is_told = 1;
     }
     fflush(stdout);
 }

@@ -18,10 +18,11 @@ from ctypes import POINTER, byref, c_char_p, c_int64, c_size_t, c_uint8, c_uint1
 
 VERSION = "1.0.0"
 DATAGRAM = 1472
-DONE, NOTHING, TOO_SMALL, MEMORY, FAULT, NULL, BUSY, USED_UP, RANGE = range(9)
+DONE, NOTHING, TOO_SMALL, MEMORY, FAULT, NULL, BUSY, USED_UP, RANGE, STATE = range(10)
 LOOK = 0
 PAGE_HEAD = 3
 MOST_SECONDS = 60
+MOST_WORDS = 256
 
 
 class Sign(ctypes.Structure):
@@ -34,6 +35,19 @@ class Centre(ctypes.Structure):
 
 class TextFault(ctypes.Structure):
     _fields_ = [("place", c_size_t), ("code", c_uint8)]
+
+
+class Cause(ctypes.Structure):
+    _fields_ = [
+        *((name, c_size_t) for name in ("line", "word", "row", "place")),
+        *((name, c_uint32) for name in ("least", "most")),
+        *((name, c_uint8) for name in ("kind", "wanted", "number", "code")),
+    ]
+
+
+class TextCause(ctypes.Structure):
+    _fields_ = [("place", c_size_t), ("count", c_size_t), ("character", c_uint16)]
+    _fields_ += [(name, c_uint8) for name in ("font", "code", "lack")]
 
 
 class Shown(ctypes.Structure):
@@ -73,6 +87,10 @@ class Page(ctypes.Structure):
 SIGN, CENTRE, SIZE, BUFFER = POINTER(Sign), POINTER(Centre), POINTER(c_size_t), c_void_p
 ARGUMENTS = {
     "sign_new": [SIGN, c_char_p, c_size_t, POINTER(c_uint32), SIZE],
+    "description_cause": [c_char_p, c_size_t, POINTER(Cause), BUFFER, c_size_t, SIZE],
+    "sign_save": [SIGN, BUFFER, c_size_t, SIZE],
+    "sign_save_most": [SIGN, SIZE],
+    "sign_restore": [SIGN, c_char_p, c_size_t, BUFFER, c_size_t, POINTER(c_uint32), SIZE],
     "sign_receive": [SIGN, BUFFER, c_size_t, BUFFER, c_size_t, SIZE],
     "sign_tick": [SIGN],
     "sign_ticks": [SIGN, c_uint32],
@@ -89,6 +107,7 @@ ARGUMENTS = {
     "sign_reader": [SIGN, BUFFER, c_size_t, SIZE],
     "sign_writer": [SIGN, BUFFER, c_size_t, SIZE],
     "sign_check": [SIGN, c_char_p, c_size_t, SIZE, POINTER(TextFault)],
+    "sign_text_cause": [SIGN, c_char_p, c_size_t, POINTER(TextCause), BUFFER, c_size_t, SIZE],
     "sign_pages": [SIGN, c_uint32, BUFFER, c_size_t, SIZE],
     "sign_text_pages": [SIGN, c_char_p, c_size_t, c_uint32, BUFFER, c_size_t, SIZE, POINTER(TextFault)],
     "sign_show_fonts": [SIGN],
@@ -102,6 +121,7 @@ ARGUMENTS = {
     "activation_code": [c_uint32, POINTER(Code), BUFFER, c_size_t, SIZE],
     "sign_free": [SIGN],
     "centre_new": [CENTRE, c_char_p, c_size_t, c_uint32, c_uint32],
+    "command_cause": [c_char_p, c_size_t, POINTER(Cause), BUFFER, c_size_t, SIZE],
     "centre_command": [CENTRE, c_char_p, c_size_t, BUFFER, c_size_t, SIZE],
     "centre_receive": [CENTRE, BUFFER, c_size_t, BUFFER, c_size_t, SIZE],
     "centre_tick": [CENTRE, BUFFER, c_size_t, SIZE],
@@ -136,6 +156,13 @@ def done(answer: int, what: str) -> bool:
     return answer == DONE
 
 
+def why_refused(library: ctypes.CDLL, description: bytes) -> str:
+    """Why a description is refused, in words."""
+    words, size, cause = ctypes.create_string_buffer(MOST_WORDS), c_size_t(), Cause()
+    library.wisangub_description_cause(description, len(description), byref(cause), words, MOST_WORDS, byref(size))
+    return words.raw[: size.value].decode("ascii")
+
+
 class Both:
     """A sign and its central system in one process."""
 
@@ -144,7 +171,7 @@ class Both:
         self.request, self.reply = (c_uint8 * DATAGRAM)(), (c_uint8 * DATAGRAM)()
         first, line = c_uint32(), c_size_t()
         answer = library.wisangub_sign_new(byref(self.sign), description, len(description), byref(first), byref(line))
-        done(answer, f"the description, line {line.value}")
+        done(answer, f"the description, line {line.value}: {why_refused(library, description)}")
         done(library.wisangub_sign_writer(byref(self.sign), self.request, DATAGRAM, byref(self.size)), "the community")
         community, order = bytes(self.request[: self.size.value]), b"\norder swapped" in description
         answer = library.wisangub_centre_new(byref(self.centre), community, len(community), order, first.value)

@@ -66,6 +66,7 @@ static void without_a_sign(void)
 {
     struct wisangub_shown shown;
     struct wisangub_text_fault fault = {0, 0};
+    struct wisangub_text_cause cause;
     struct wisangub_value value = {7, WISANGUB_INTEGER};
     struct wisangub_page page;
     uint64_t count;
@@ -78,6 +79,8 @@ static void without_a_sign(void)
         REFUSED(wisangub_sign_heard(none));
         REFUSED(wisangub_sign_power_lost(none));
         REFUSED(wisangub_sign_power_back(none, 1));
+        REFUSED(wisangub_sign_save(none, buffer, sizeof buffer, &size));
+        REFUSED(wisangub_sign_save_most(none, &size));
         REFUSED(wisangub_sign_shown(none, &shown));
         REFUSED(wisangub_sign_changes(none, &count));
         REFUSED(wisangub_sign_ends(none, &count));
@@ -88,7 +91,9 @@ static void without_a_sign(void)
         REFUSED(wisangub_sign_reader(none, buffer, sizeof buffer, &size));
         REFUSED(wisangub_sign_writer(none, buffer, sizeof buffer, &size));
         REFUSED(wisangub_sign_check(none, "", 0, &size, &fault));
+        REFUSED(wisangub_sign_text_cause(none, "", 0, &cause, buffer, sizeof buffer, &size));
         REFUSED(wisangub_sign_pages(none, LOOK, room, sizeof room, &size));
+        REFUSED(wisangub_sign_page_row(none, 0, 0, LOOK, room, sizeof room, &size));
         REFUSED(wisangub_sign_text_pages(none, "", 0, LOOK, room, sizeof room, &size, &fault));
         REFUSED(wisangub_sign_show_fonts(none));
         REFUSED(wisangub_sign_publish(none, descr, sizeof descr, &value, NULL, 0, &read_only));
@@ -113,6 +118,33 @@ static void new_signs(const char *description, size_t description_size)
     DONE(wisangub_sign_new(&sign, description, description_size, &first, &line));
     assert(sign.at != NULL);
     REFUSED(wisangub_sign_new(&sign, description, description_size, &first, &line));
+}
+
+/* Why a description is refused, in numbers and in words, of the size that they have. */
+static void causes(const char *description, size_t description_size)
+{
+    static const char refused[] = "size 23 14\ncommunities public admin\n# skipped\nrows 2 256\n";
+    static const char why[] = "word 3: a number from 0 to 255 is wanted";
+    struct wisangub_cause cause;
+    size_t told = 9;
+    cause.line = 99;
+    REFUSED(wisangub_description_cause(NULL, 1, &cause, room, 200, &told));
+    REFUSED(wisangub_description_cause(refused, sizeof refused - 1, NULL, room, 200, &told));
+    REFUSED(wisangub_description_cause(refused, sizeof refused - 1, &cause, NULL, 200, &told));
+    REFUSED(wisangub_description_cause(refused, sizeof refused - 1, &cause, room, 200, NULL));
+    NOTHING(wisangub_description_cause(description, description_size, &cause, NULL, 0, &told));
+    assert(told == 0 && cause.line == 99);
+    spread();
+    TOO_SMALL(wisangub_description_cause(refused, sizeof refused - 1, &cause, NULL, 0, &told));
+    TOO_SMALL(wisangub_description_cause(refused, sizeof refused - 1, &cause, room, told - 1, &told));
+    assert(told == sizeof why - 1 && cause.line == 99 && untouched(0, told));
+    DONE(wisangub_description_cause(refused, sizeof refused - 1, &cause, room, told, &told));
+    assert(told == sizeof why - 1 && memcmp(room, why, told) == 0 && untouched(told, 16));
+    assert(cause.line == 4 && cause.word == 3 && cause.row == 0 && cause.place == 0);
+    assert(cause.least == 0 && cause.most == 255 && cause.number == 0 && cause.code == 0);
+    assert(cause.kind == WISANGUB_CAUSE_OTHER && cause.wanted == WISANGUB_WANTED_NUMBER);
+    DONE(wisangub_description_cause("", 0, &cause, room, 200, &told));
+    assert(cause.line == 1 && cause.kind == WISANGUB_CAUSE_NO_END && cause.wanted == 0 && cause.most == 0);
 }
 
 static void datagrams(void)
@@ -220,6 +252,68 @@ static void texts(void)
     assert(count == 2 && fault.code == 3 && fault.place == 1);
 }
 
+/* Why a text is refused, in numbers and in words, of the size that they have. */
+static void text_causes(void)
+{
+    static const char why[] = "font not defined at octet 1: the sign has no font 200";
+    struct wisangub_text_cause cause;
+    size_t told = 9;
+    cause.place = 99;
+    REFUSED(wisangub_sign_text_cause(&sign, NULL, 0, &cause, room, 200, &told));
+    REFUSED(wisangub_sign_text_cause(&sign, "", 0, NULL, room, 200, &told));
+    REFUSED(wisangub_sign_text_cause(&sign, "", 0, &cause, NULL, 200, &told));
+    REFUSED(wisangub_sign_text_cause(&sign, "", 0, &cause, room, 200, NULL));
+    NOTHING(wisangub_sign_text_cause(&sign, "A[np]A", 6, &cause, NULL, 0, &told));
+    assert(told == 0 && cause.place == 99);
+    spread();
+    TOO_SMALL(wisangub_sign_text_cause(&sign, "A[fo200]", 8, &cause, NULL, 0, &told));
+    TOO_SMALL(wisangub_sign_text_cause(&sign, "A[fo200]", 8, &cause, room, told - 1, &told));
+    assert(told == sizeof why - 1 && cause.place == 99 && untouched(0, told));
+    DONE(wisangub_sign_text_cause(&sign, "A[fo200]", 8, &cause, room, told, &told));
+    assert(told == sizeof why - 1 && memcmp(room, why, told) == 0 && untouched(told, 16));
+    assert(cause.place == 1 && cause.code == 6 && cause.lack == WISANGUB_LACK_FONT && cause.font == 200);
+    assert(cause.count == 0 && cause.character == 0);
+    DONE(wisangub_sign_text_cause(&sign, "A\x01", 2, &cause, room, 200, &told));
+    assert(cause.place == 1 && cause.code == 7 && cause.lack == WISANGUB_LACK_CHARACTER && cause.character == 1);
+    memset(buffer, 'A', 514);
+    DONE(wisangub_sign_text_cause(&sign, buffer, 514, &cause, room, 200, &told));
+    assert(cause.code == 5 && cause.lack == WISANGUB_LACK_OCTETS && cause.count == 2 && cause.font == 0);
+    DONE(wisangub_sign_text_cause(&sign, "A[x]", 4, &cause, room, 200, &told));
+    assert(cause.place == 1 && cause.code == 3 && cause.lack == WISANGUB_LACK_NOTHING && cause.count == 0);
+}
+
+/* Each row of each page of what is shown is that of the pages, in each layer, with room and without. */
+static void page_rows(void)
+{
+    uint16_t width = 0, height = 0;
+    uint8_t *row = room + sizeof room / 2;
+    wisangub_sign_matrix(&sign, &width, &height);
+    REFUSED(wisangub_sign_page_row(&sign, 0, 0, LOOK, NULL, 1, &size));
+    REFUSED(wisangub_sign_page_row(&sign, 0, 0, LOOK, room, sizeof room, NULL));
+    for (int layer = 0; layer < 3; layer++) {
+        struct wisangub_page page = {0, 0, 0, 0};
+        size_t made = 0;
+        spread();
+        DONE(wisangub_sign_pages(&sign, (enum wisangub_layer)layer, room, sizeof room / 2, &made));
+        for (size_t number = 0, at = 0; wisangub_sign_page_times(&sign, number, &page) == WISANGUB_DONE; number++) {
+            at += WISANGUB_PAGE_HEAD;
+            for (uint16_t y = 0; y < height; y++, at += width) {
+                DONE(wisangub_sign_page_row(&sign, number, y, (enum wisangub_layer)layer, row, width, &size));
+                assert(size == width && memcmp(row, room + at, width) == 0 && row[width] == 5);
+            }
+            assert(number + 1 < page.count || at == made);
+        }
+        spread();
+        size = 9;
+        FAULT(wisangub_sign_page_row(&sign, page.count, 0, (enum wisangub_layer)layer, room, sizeof room, &size));
+        FAULT(wisangub_sign_page_row(&sign, 0, height, (enum wisangub_layer)layer, room, sizeof room, &size));
+        assert(size == 9);
+        TOO_SMALL(wisangub_sign_page_row(&sign, 0, 0, (enum wisangub_layer)layer, NULL, 0, &size));
+        TOO_SMALL(wisangub_sign_page_row(&sign, 0, 0, (enum wisangub_layer)layer, room, width - 1u, &size));
+        assert(size == width && untouched(0, width));
+    }
+}
+
 static void text_pages(void)
 {
     static const char flashes[] = "[flt3o4]A[/fl]";
@@ -308,6 +402,7 @@ static void values_out_of_range(void)
         enum wisangub_layer layer = (enum wisangub_layer)numbers[at];
         enum wisangub_order order = (enum wisangub_order)(numbers[at] - 1);
         OUT_OF_RANGE(wisangub_sign_pages(&sign, layer, room, sizeof room, &size));
+        OUT_OF_RANGE(wisangub_sign_page_row(&sign, 0, 0, layer, room, sizeof room, &size));
         OUT_OF_RANGE(wisangub_sign_text_pages(&sign, "A]", 2, layer, room, sizeof room, &size, &fault));
         OUT_OF_RANGE(wisangub_message_code(order, &parts, room, 5, &size));
         OUT_OF_RANGE(wisangub_activation_code(order, &parts, room, 12, &size));
@@ -481,6 +576,32 @@ static void without_a_centre(void)
 }
 
 /* A command whose room is too small, and a centre that knows nothing of it. */
+/* Why a line is no command, in numbers and in words, of the size that they have. */
+static void command_causes(void)
+{
+    static const char refused[] = "blank 1 5 256 192.0.2.1", blank[] = "blank 1 5 255 192.0.2.1";
+    static const char why[] = "word 4: a number from 0 to 255 is wanted";
+    struct wisangub_cause cause;
+    size_t told = 9, count = sizeof refused - 1;
+    cause.line = 99;
+    REFUSED(wisangub_command_cause(NULL, 0, &cause, room, 200, &told));
+    REFUSED(wisangub_command_cause(refused, count, NULL, room, 200, &told));
+    REFUSED(wisangub_command_cause(refused, count, &cause, NULL, 200, &told));
+    REFUSED(wisangub_command_cause(refused, count, &cause, room, 200, NULL));
+    NOTHING(wisangub_command_cause(blank, count, &cause, NULL, 0, &told));
+    assert(told == 0 && cause.line == 99);
+    spread();
+    TOO_SMALL(wisangub_command_cause(refused, count, &cause, NULL, 0, &told));
+    TOO_SMALL(wisangub_command_cause(refused, count, &cause, room, told - 1, &told));
+    assert(told == sizeof why - 1 && cause.line == 99 && untouched(0, told));
+    DONE(wisangub_command_cause(refused, count, &cause, room, told, &told));
+    assert(told == sizeof why - 1 && memcmp(room, why, told) == 0 && untouched(told, 16));
+    assert(cause.line == 1 && cause.word == 4 && cause.least == 0 && cause.most == 255);
+    assert(cause.kind == WISANGUB_CAUSE_OTHER && cause.wanted == WISANGUB_WANTED_NUMBER && cause.row == 0);
+    DONE(wisangub_command_cause("sign-tick", 9, &cause, room, 200, &told));
+    assert(cause.line == 1 && cause.word == 1 && cause.kind == WISANGUB_CAUSE_KEYWORD && cause.wanted == 0);
+}
+
 static void commands(void)
 {
     static const char blank[] = "blank 1 5 255 192.0.2.1";
@@ -580,6 +701,7 @@ static void moving(void)
     assert(wisangub_sign_page_times(&sign, 2, &page) == WISANGUB_FAULT);
     assert(due(0, 0) == 3 && due(3, 0) == 4 && due(7, 0) == 3 && due(9, 0) == 1 && due(12, 0) == 3);
     assert(due(15, 0) == 3 && due(30, 0) == 3 && due(12, ends()) == 0 && due(12, ends() - 2) == 2);
+    page_rows();
 }
 
 /* The text that is shown, with room and without. */
@@ -592,6 +714,41 @@ static void shown_text(void)
     assert(wisangub_sign_text(&sign, room, 0, &size) == WISANGUB_TOO_SMALL && size == 1 && untouched(0, 16));
     DONE(wisangub_sign_text(&sign, room, 1, &size));
     assert(size == 1 && room[0] == 'A' && untouched(1, 16));
+}
+
+/* The state as text, with room and without; a sign made of it has the same one, and of another text there is none. */
+static void states(const char *description, size_t description_size)
+{
+    static struct wisangub_sign other = {NULL};
+    uint32_t first = 7;
+    size_t line = 0, most = 0, wanted = 0;
+    uint8_t *state = room + sizeof room / 2;
+    REFUSED(wisangub_sign_save(&sign, NULL, 1, &size));
+    REFUSED(wisangub_sign_save(&sign, buffer, sizeof buffer, NULL));
+    REFUSED(wisangub_sign_save_most(&sign, NULL));
+    spread();
+    TOO_SMALL(wisangub_sign_save(&sign, NULL, 0, &wanted));
+    TOO_SMALL(wisangub_sign_save(&sign, room, wanted - 1, &size));
+    assert(size == wanted && untouched(0, wanted));
+    DONE(wisangub_sign_save(&sign, room, wanted, &size));
+    DONE(wisangub_sign_save_most(&sign, &most));
+    assert(size == wanted && wanted <= most && untouched(wanted, 16));
+    assert(memcmp(room, "state 1 sign\n", 13) == 0 && memcmp(room + wanted - 4, "end\n", 4) == 0);
+    REFUSED(wisangub_sign_restore(NULL, description, description_size, room, wanted, &first, &line));
+    REFUSED(wisangub_sign_restore(&sign, description, description_size, room, wanted, &first, &line));
+    REFUSED(wisangub_sign_restore(&other, NULL, description_size, room, wanted, &first, &line));
+    REFUSED(wisangub_sign_restore(&other, description, description_size, NULL, wanted, &first, &line));
+    REFUSED(wisangub_sign_restore(&other, description, description_size, room, wanted, NULL, &line));
+    REFUSED(wisangub_sign_restore(&other, description, description_size, room, wanted, &first, NULL));
+    FAULT(wisangub_sign_restore(&other, "size 1 x\n", 9, room, wanted, &first, &line));
+    assert(line == 1 && first == 7 && other.at == NULL);
+    assert(wisangub_sign_restore(&other, description, description_size, "state 1 sign\nx", 14, &first, &line)
+           == WISANGUB_STATE);
+    assert(line == 2 && first == 7 && other.at == NULL);
+    DONE(wisangub_sign_restore(&other, description, description_size, room, wanted, &first, &line));
+    DONE(wisangub_sign_save(&other, state, wanted, &size));
+    assert(size == wanted && memcmp(state, room, wanted) == 0);
+    wisangub_sign_free(&other);
 }
 
 /* Seconds one by one and at once are the same to a message that is shown for a minute. */
@@ -637,6 +794,7 @@ int main(int count, char **words)
     fclose(file);
     without_a_sign();
     new_signs(text, text_size);
+    causes(text, text_size);
     datagrams();
     DONE(wisangub_sign_text(&sign, NULL, 0, &size));
     shown_things();
@@ -644,6 +802,7 @@ int main(int count, char **words)
     pages();
     times();
     texts();
+    text_causes();
     text_pages();
     bits();
     codes();
@@ -653,12 +812,15 @@ int main(int count, char **words)
     objects_read();
     objects_set();
     without_a_centre();
+    command_causes();
     commands();
     waiting();
     published();
     shown_text();
+    states(text, text_size);
     seconds();
     moving();
+    states(text, text_size);
     wisangub_centre_free(&centre);
     wisangub_sign_free(&sign);
     assert(sign.at == NULL && centre.at == NULL);

@@ -73,6 +73,32 @@ int names_are_same(const struct name *one, const struct name *other)
     return one->size == other->size && memcmp(one->octets, other->octets, one->size) == 0;
 }
 
+/* The number at a place of a name, which is behind it then. */
+static uint64_t number_at(const struct name *name, size_t *at)
+{
+    uint64_t number = 0;
+    while (*at < name->size) {
+        uint8_t octet = name->octets[(*at)++];
+        number = number << 7 | (octet & 127);
+        if (octet < 128) {
+            break;
+        }
+    }
+    return number;
+}
+
+int names_order(const struct name *one, const struct name *other)
+{
+    size_t at = 0, beside = 0;
+    while (at < one->size && beside < other->size) {
+        uint64_t number = number_at(one, &at), against = number_at(other, &beside);
+        if (number != against) {
+            return number < against ? -1 : 1;
+        }
+    }
+    return (at < one->size) - (beside < other->size);
+}
+
 void name_text(const uint8_t *octets, size_t size, char text[NAME_TEXT])
 {
     uint32_t number = 0;

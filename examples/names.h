@@ -23,6 +23,9 @@ struct name name_of(const char *text);
 
 int names_are_same(const struct name *one, const struct name *other);
 
+/* The order of two names by their numbers: below 0, 0, or above it. */
+int names_order(const struct name *one, const struct name *other);
+
 /* The numbers of a name's octets, with dots between them and a null behind. */
 void name_text(const uint8_t *octets, size_t size, char text[NAME_TEXT]);
 

@@ -4,18 +4,29 @@
 
 enum { NO_PAGE = -1 };
 
-int picture_draw(struct picture *picture, const struct wisangub_sign *sign)
+/* Draws a layer of the pages one row after the other, and returns the octets that it has. */
+static size_t layer_draw(const struct picture *picture, uint8_t *octets, enum wisangub_layer layer,
+                         const struct wisangub_sign *sign)
 {
-    static struct picture drawn;
-    wisangub_sign_matrix(sign, &drawn.width, &drawn.height);
-    for (int layer = 0; layer < LAYERS; layer++) {
-        if (wisangub_sign_pages(sign, (enum wisangub_layer)layer, drawn.layers[layer], PICTURE_OCTETS, &drawn.size)
-            != WISANGUB_DONE) {
-            return 0;
+    struct wisangub_page page;
+    size_t at = 0, size = 0;
+    for (size_t number = 0; wisangub_sign_page_times(sign, number, &page) == WISANGUB_DONE; number++) {
+        octets[at++] = page.on;
+        octets[at++] = page.off;
+        octets[at++] = page.background;
+        for (uint16_t y = 0; y < picture->height; y++, at += picture->width) {
+            wisangub_sign_page_row(sign, number, y, layer, octets + at, picture->width, &size);
         }
     }
-    *picture = drawn;
-    return 1;
+    return at;
+}
+
+void picture_draw(struct picture *picture, const struct wisangub_sign *sign)
+{
+    wisangub_sign_matrix(sign, &picture->width, &picture->height);
+    for (int layer = 0; layer < LAYERS; layer++) {
+        picture->size = layer_draw(picture, picture->layers[layer], (enum wisangub_layer)layer, sign);
+    }
 }
 
 static size_t page_size(const struct picture *picture)

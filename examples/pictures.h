@@ -16,8 +16,8 @@ struct picture {
     uint8_t layers[LAYERS][PICTURE_OCTETS]; /* of enum wisangub_layer */
 };
 
-/* Draws what the sign shows, in one thread: 0 where there is no memory, and the picture stays as it was. */
-int picture_draw(struct picture *picture, const struct wisangub_sign *sign);
+/* Draws what the sign shows. No memory is taken, and so nothing can keep it from the lamps. */
+void picture_draw(struct picture *picture, const struct wisangub_sign *sign);
 
 /*
  * The lamps that are lit when the picture has been up for so many tenths of a second: the pages take turns, each for

@@ -1,0 +1,55 @@
+/*
+ * The state of a sign in flash without a file system: two slots that are written in turn, so that a loss of power at
+ * any octet of a write leaves the other one whole. The newest whole slot counts.
+ */
+#ifndef SLOTS_H
+#define SLOTS_H
+
+#include <stddef.h>
+#include <stdint.h>
+
+#include "wisangub.h"
+
+enum { SLOTS = 2, SLOT_HEAD = 80 };
+
+/*
+ * A slot begins with its head: the number of its writing, from 1 (8 octets, the low one first), the size of the state
+ * (4), the SHA-256 of the description as 64 digits, and the CRC-32 of all this and the state (4); then the state.
+ */
+
+/* A part of a chip's flash that is written octet by octet where it was erased. Each call answers 1, or 0 at a fault. */
+struct flash {
+    int (*read)(void *chip, size_t at, void *octets, size_t size);
+    int (*erase)(void *chip, size_t at, size_t size);
+    int (*write)(void *chip, size_t at, const void *octets, size_t size);
+    void *chip;
+    size_t slot; /* the octets of a slot: whole sectors, of which the first slot has the first */
+};
+
+/* What is known of the slots. */
+struct slots {
+    const struct flash *flash;
+    uint8_t *room; /* for the octets of a slot */
+    char digest[65];
+    uint64_t newest; /* the number of the newest whole slot, 0 where there is none */
+    size_t next;     /* the slot that is written next */
+};
+
+/* What a sign begins with. */
+enum slots_begin {
+    SLOTS_NEW,      /* as its description says: no slot is whole and of this description */
+    SLOTS_RESTORED, /* in the state of the newest whole slot */
+    SLOTS_REFUSED   /* as its description says: the library refuses the state of the newest whole slot */
+};
+
+/*
+ * Makes the sign of a description in the state of the newest whole slot, or as the description says. Answers as
+ * wisangub_sign_new does; *begin says how it begins.
+ */
+enum wisangub_answer slots_start(struct slots *slots, struct wisangub_sign *sign, const void *text, size_t text_size,
+                                 enum slots_begin *begin);
+
+/* Writes the sign's state into the slot that is not the newest one. Answers 1, or 0 where the newest is the one before. */
+int slots_keep(struct slots *slots, const struct wisangub_sign *sign);
+
+#endif

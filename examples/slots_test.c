@@ -1,0 +1,230 @@
+/*
+ * Slots of a simulated flash that loses its power at any octet: slots_test DESCRIPTION STEP. Of the states that a sign
+ * is in, one after the other, the writing is cut at each STEP-th octet that is erased or written: what starts then is
+ * the sign in the state before, octet for octet, and after the last octet in the new one. Each STEP-th bit is flipped,
+ * and another description and a state that the library refuses are looked at too. It prints `ok`.
+ */
+#undef NDEBUG
+#include <assert.h>
+#include <stdio.h>
+#include <stdlib.h>
+#include <string.h>
+
+#include "digests.h"
+#include "publish.h"
+#include "slots.h"
+
+enum { SECTOR = 1024, SLOT = 4 * SECTOR, CHIP = SLOTS * SLOT, TEXT_MOST = 1 << 16 };
+
+/* A chip: its bits fall as it is written, rise as it is erased, and stay as they are without power. */
+struct chip {
+    uint8_t octets[CHIP];
+    size_t left; /* the octets that it erases or writes until its power is lost */
+};
+
+/* The octets of a state. */
+struct state {
+    uint8_t octets[SLOT];
+    size_t size;
+};
+
+static struct chip chip;
+static struct wisangub_sign sign = {NULL}, started = {NULL};
+static struct wisangub_centre centre = {NULL};
+static struct slots slots;
+static uint8_t room[SLOT];
+static char text[TEXT_MOST];
+static size_t text_size;
+
+/* ---- the chip */
+
+static int chip_read(void *from, size_t at, void *octets, size_t size)
+{
+    assert(at + size <= CHIP);
+    memcpy(octets, ((struct chip *)from)->octets + at, size);
+    return 1;
+}
+
+static int chip_erase(void *of, size_t at, size_t size)
+{
+    struct chip *to = of;
+    assert(at % SECTOR == 0 && size % SECTOR == 0 && at + size <= CHIP);
+    for (size_t end = at + size; at < end && to->left > 0; at++, to->left--) {
+        to->octets[at] = 255;
+        size--;
+    }
+    return size == 0;
+}
+
+static int chip_write(void *of, size_t at, const void *octets, size_t size)
+{
+    struct chip *to = of;
+    const uint8_t *from = octets;
+    assert(at + size <= CHIP);
+    for (; size > 0 && to->left > 0; at++, to->left--, size--) {
+        assert(to->octets[at] == 255);
+        to->octets[at] &= *from++;
+    }
+    return size == 0;
+}
+
+static const struct flash flash = {chip_read, chip_erase, chip_write, &chip, SLOT};
+
+/* ---- signs */
+
+static struct state saved(const struct wisangub_sign *of)
+{
+    struct state found = {.size = 0};
+    assert(wisangub_sign_save(of, found.octets, sizeof found.octets, &found.size) == WISANGUB_DONE);
+    return found;
+}
+
+static int is_same(const struct state *one, const struct state *other)
+{
+    return one->size == other->size && memcmp(one->octets, other->octets, one->size) == 0;
+}
+
+/* Firmware starts from the chip, which has power again. */
+static struct slots start(struct wisangub_sign *made, enum slots_begin wanted)
+{
+    struct slots found = {.flash = &flash, .room = room};
+    enum slots_begin begin;
+    chip.left = SIZE_MAX;
+    wisangub_sign_free(made);
+    assert(slots_start(&found, made, text, text_size, &begin) == WISANGUB_DONE && begin == wanted);
+    return found;
+}
+
+/* Firmware starts in this state, or as it is described where there is none. */
+static void starts_in(const struct state *wanted)
+{
+    start(&started, wanted->size == 0 ? SLOTS_NEW : SLOTS_RESTORED);
+    if (wanted->size != 0) {
+        struct state found = saved(&started);
+        assert(is_same(&found, wanted));
+    }
+}
+
+/* The next state of the sign. */
+static void go_on(unsigned turn)
+{
+    static const char *const texts[] = {"FOG", "[pt10o5]A[np]B", "", "LANE[nl]CLOSED"};
+    const char *next = texts[turn % 4];
+    char line[PUBLICATION_MOST];
+    wisangub_sign_power_back(&sign, 3);
+    size_t size = publication(line, next, strlen(next), turn % 3 ? 5 + turn : 65535);
+    assert(carry_out(&sign, &centre, line, size).last == WISANGUB_DID);
+    wisangub_sign_ticks(&sign, turn);
+    if (turn % 3 == 2) {
+        wisangub_sign_power_lost(&sign);
+    }
+}
+
+/* ---- trials */
+
+/*
+ * The writing of the sign's state is cut at an octet: what starts then is in the state before, and keeps the next one.
+ * Whether the writing was whole.
+ */
+static int is_whole_at(size_t octet, const struct chip *as, const struct state *before)
+{
+    struct state now = saved(&sign);
+    struct slots trial = slots;
+    chip = *as;
+    chip.left = octet;
+    int is_whole = slots_keep(&trial, &sign);
+    starts_in(is_whole ? &now : before);
+    trial = start(&started, before->size == 0 && !is_whole ? SLOTS_NEW : SLOTS_RESTORED);
+    assert(slots_keep(&trial, &sign));
+    starts_in(&now);
+    return is_whole;
+}
+
+/* The state before is in the newest slot, and the sign's state is kept. */
+static void keep(size_t step, struct state *before)
+{
+    struct chip as = chip;
+    size_t size = saved(&sign).size, all = SLOT + SLOT_HEAD + size;
+    for (size_t octet = 0; octet < all; octet += step) {
+        assert(!is_whole_at(octet, &as, before));
+    }
+    assert(!is_whole_at(SLOT, &as, before) && !is_whole_at(all - 1, &as, before) && is_whole_at(all, &as, before));
+    chip = as;
+    assert(slots_keep(&slots, &sign));
+    *before = saved(&sign);
+    starts_in(before);
+}
+
+/* The slot that was written last. */
+static uint8_t *newest(void) { return chip.octets + (1 - slots.next) * SLOT; }
+
+/* Each bit of the newest slot is flipped: the one before counts. */
+static void flipped(size_t step, const struct state *newer, const struct state *older)
+{
+    for (size_t bit = 0; bit < 8 * (SLOT_HEAD + newer->size); bit += step) {
+        newest()[bit / 8] ^= (uint8_t)(1 << bit % 8);
+        starts_in(older);
+        newest()[bit / 8] ^= (uint8_t)(1 << bit % 8);
+    }
+    starts_in(newer);
+}
+
+/* Of another description no slot counts. */
+static void of_another_description(void)
+{
+    text[text_size++] = '\n';
+    start(&started, SLOTS_NEW);
+    text_size--;
+}
+
+/* A state that is none of the sign, in a whole slot. */
+static void refused(void)
+{
+    uint8_t *slot = newest();
+    struct chip as = chip;
+    memcpy(slot + SLOT_HEAD, "state 2", 7);
+    struct state found = {.size = (size_t)(slot[8] | slot[9] << 8)};
+    uint32_t sum = crc32_after(crc32_after(0, slot, SLOT_HEAD - 4), slot + SLOT_HEAD, found.size);
+    for (int at = 0; at < 4; at++) {
+        slot[SLOT_HEAD - 4 + at] = (uint8_t)(sum >> 8 * at);
+    }
+    start(&started, SLOTS_REFUSED);
+    chip = as;
+}
+
+static void begin(const char *name)
+{
+    uint8_t writer[32];
+    size_t size = 0;
+    FILE *file = fopen(name, "rb");
+    assert(file != NULL);
+    text_size = fread(text, 1, sizeof text - 1, file);
+    fclose(file);
+    memset(chip.octets, 255, CHIP);
+    slots = start(&sign, SLOTS_NEW);
+    assert(wisangub_sign_writer(&sign, writer, sizeof writer, &size) == WISANGUB_DONE);
+    assert(wisangub_centre_new(&centre, writer, size, WISANGUB_HIGH, 1) == WISANGUB_DONE);
+}
+
+int main(int count, char **words)
+{
+    size_t step = count == 3 ? strtoul(words[2], NULL, 10) : 0;
+    struct state before = {.size = 0}, older = before;
+    if (step == 0) {
+        return fputs("usage: slots_test DESCRIPTION STEP\n", stderr), 2;
+    }
+    begin(words[1]);
+    for (unsigned turn = 0; turn < 4; turn++) {
+        older = before;
+        go_on(turn);
+        keep(step, &before);
+    }
+    flipped(step, &before, &older);
+    of_another_description();
+    refused();
+    wisangub_centre_free(&centre);
+    wisangub_sign_free(&sign);
+    wisangub_sign_free(&started);
+    puts("ok");
+    return 0;
+}

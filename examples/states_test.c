@@ -1,0 +1,278 @@
+/*
+ * Journals that are shortened: states_test FOLDER STEP, an empty one. What stands in a journal behind a shortening, what
+ * of a file that is cut or changed at each STEP-th octet is refused, disks that refuse in the middle, and what is kept
+ * of the old files. It prints `ok`, or what does not hold.
+ */
+#define _GNU_SOURCE
+#include <inttypes.h>
+#include <stdio.h>
+#include <stdlib.h>
+#include <string.h>
+#include <sys/stat.h>
+#include <unistd.h>
+
+#include "archive.h"
+#include "lives.h"
+#include "names.h"
+#include "records.h"
+
+static const struct journal_asked accepting = {.accepts_damage = 1};
+static const char first[] = "journal 2 sign rules 1 description bench\n", set[] = "set 1.3.6.1.5 INTEGER 7\n",
+                  moment[] = "start - 1795543676 1\nclock 1795543676 1\n", more[] = "ticks 3\ndatagram 31\n";
+
+/* A journal that begins with a state. */
+static const char *shortened(void)
+{
+    static char made[4096];
+    snprintf(made, sizeof made, "%s%s%s%s%s", first, state_text, set, moment, more);
+    return made;
+}
+
+static size_t count_in(const char *what, const char *text)
+{
+    size_t count = 0;
+    for (const char *at = text; (at = strstr(at, what)) != NULL; at++) {
+        count++;
+    }
+    return count;
+}
+
+/* ---- what stands there */
+
+/* A state takes the place of the lines, and the next life goes on from it. */
+static void in_place(void)
+{
+    char begun[512], state[32];
+    clear();
+    check("a journal is shortened", lives("tkhtks") == 0 && is_in("+ + = ", handed));
+    read_lines();
+    snprintf(begun, sizeof begun, "%s%s%sstart ", first, state_text, set);
+    check("it begins with the state", strncmp(lines, begun, strlen(begun)) == 0 && !is_in("datagram", lines));
+    check("and with the time", count_in("\nclock ", lines) == 2);
+    snprintf(state, sizeof state, "s%zu,1 ", strlen(state_text));
+    check("it is gone on from", lives("ktk") == 0 && strncmp(handed, state, strlen(state)) == 0 && !is_in("d ", handed));
+    check("with the lines behind it", lives("") == 0 && is_in("d t1 d ", handed));
+    check("and shortened again", lives("sks") == 0 && is_in("= + = ", handed) && said[0] == '\0');
+    read_lines();
+    check("with one value", strncmp(lines, begun, strlen(begun)) == 0 && count_in("\nset ", lines) == 1);
+    check("no file beside", found_beside(".*", handed) == 0);
+}
+
+/* The moment of a line. */
+static int64_t wall_of(const char *line) { return strtoll(strchr(line + 1, ' '), NULL, 10); }
+
+/* The clock says up to when the sign was handed its seconds. */
+static void same_time(void)
+{
+    clear();
+    check("seconds behind a clock", lives("mttttttttths") == 0);
+    read_lines();
+    const char *clock = strstr(lines, "\nclock "), *last = strstr(clock + 1, "\nclock ");
+    check("are in the time", clock != NULL && last != NULL && wall_of(last) - wall_of(clock) <= 1);
+    int64_t late = wall_of(clock) - moment_at(running()).wall;
+    check("which is that of the sign", late >= 67 && late <= 70);
+}
+
+/* Of a sign without power the moment at which it went is kept. */
+static void without_power(void)
+{
+    char text[4096];
+    clear();
+    check("without power", lives("tomms") == 0);
+    read_lines();
+    const char *begun = strstr(lines, "\nstart "), *lost = strstr(begun, "\nclock "), *then = strstr(lost + 1, "\nclock ");
+    check("both moments", count_in("\nstart ", lines) == 2 && wall_of(then) - wall_of(lost) >= 119);
+    snprintf(text, sizeof text, "%sstate 1 sign\npowered 0\nend\n%s%s", first, moment,
+             "start - 1795543776 101\nclock 1795543776 101\n");
+    make(text);
+    check("goes on without", lived((struct journal_asked){.down = DOWN_PROCESS}, "") == 0 && is_in("off ", handed));
+    make(text);
+    check("a loss", lived((struct journal_asked){.down = DOWN_POWER}, "") == 0 && !is_in("off ", handed));
+    read_lines();
+    const char *back = strstr(lines, "power-back ");
+    int64_t since = moment_at(running()).wall - 1795543676, told = back != NULL ? strtoll(back + 11, NULL, 10) : 0;
+    check("counts from its beginning", since < 0 ? told == UINT32_MAX : llabs(told - since) < 60);
+}
+
+/* ---- what is refused */
+
+/* The octets behind the record with which the state's part ends. */
+static size_t base_of(const char *text) { return (size_t)(strstr(text, "ticks 3 #") - text); }
+
+/* The line in which an octet stands, as it is told. */
+static const char *damaged_at(const char *text, size_t at)
+{
+    static char told[64];
+    while (at > 0 && text[at - 1] != '\n') {
+        at--;
+    }
+    snprintf(told, sizeof told, "damaged at octet %zu:", at);
+    return told;
+}
+
+/* Each beginning of a journal gives the state and whole lines, or is refused, also where damage is accepted. */
+static void cut_anywhere(size_t step)
+{
+    static char text[4096], found[4096];
+    make(shortened());
+    size_t length = size, base = base_of(octets), state = strlen("state ") + (size_t)(strchr(octets, '\n') - octets) + 1;
+    memcpy(text, octets, length);
+    for (size_t kept = 0; kept <= length; kept += step) {
+        int is_refused = kept >= state && kept < base;
+        clear();
+        write_file(path, text, kept);
+        int status = lived(accepting, "");
+        if (is_refused) {
+            check("a part of a state", status == 2 && is_in(damaged_at(text, kept), said) && handed[0] == '\0');
+            check("stays", read_file(path, found) == kept && memcmp(found, text, kept) == 0);
+        } else if (kept >= base) {
+            check("a state and a part", status == 0 && is_in("s36,1 ", handed));
+            check("its lines", is_in("t3 ", handed) == (kept > base && memchr(text + base, '\n', kept - base) != NULL)
+                                   && is_in("d ", handed) == (kept == length));
+        }
+    }
+}
+
+/* A changed octet of what was written with the state is refused always, and else until damage is accepted. */
+static void changed(size_t step)
+{
+    static char text[4096], found[4096];
+    make(shortened());
+    size_t length = size, base = base_of(octets), begun = (size_t)(strchr(octets, '\n') - octets) + 1;
+    memcpy(text, octets, length);
+    for (size_t at = 0; at < length; at += step) {
+        clear();
+        text[at] ^= 1;
+        write_file(path, text, length);
+        int status = lived(at >= begun && at < base ? accepting : (struct journal_asked){0}, "");
+        check("a changed octet", status == 2 && handed[0] == '\0');
+        check("is told", at < begun || at >= base || is_in(damaged_at(octets, at), said));
+        check("stays", read_file(path, found) == length && memcmp(found, text, length) == 0);
+        text[at] ^= 1;
+    }
+}
+
+/* Records that are exchanged or left out. */
+static void in_other_order(void)
+{
+    static char text[4096];
+    make(shortened());
+    size_t length = size;
+    for (size_t at = line_end(octets, length, 0), end, after; at < length; at = end) {
+        end = line_end(octets, length, at);
+        after = line_end(octets, length, end);
+        if (end == length) {
+            break;
+        }
+        memcpy(text, octets, at);
+        memcpy(text + at, octets + end, length - end);
+        write_file(path, text, length - (end - at));
+        check("a record is left out", lives("") == 2 && is_in("damaged", said));
+        memcpy(text + at, octets + end, after - end);
+        memcpy(text + at + (after - end), octets + at, end - at);
+        memcpy(text + after, octets + after, length - after);
+        write_file(path, text, length);
+        check("two are exchanged", lives("") == 2 && is_in("damaged", said));
+    }
+}
+
+/* What is no state of this form, or stands elsewhere, is refused by name. */
+static void by_name(void)
+{
+    static const struct {
+        const char *behind, *words; /* of the first line, with the state where that is a null */
+    } rows[] = {
+        {"state 2 sign\nmore\nend\n", "it begins with 'state 2 sign', and this front end knows 'state 1 sign'"},
+        {"state 1 centre\nend\n", "it begins with 'state 1 centre'"},
+        {"state 1 sign\nend\nset 1.3.6.1.5 INTEGER x\n", "set 1.3.6.1.5 INTEGER x"},
+        {"state 1 sign\nend\nset 1.3.6.1.5\n", "set 1.3.6.1.5"},
+        {"state 1 sign\nend\nset 1.3.6.1.5 INTEGER 3 number 0 9\n", "set 1.3.6.1.5 INTEGER 3 number"},
+        {"state 1 sign\nend\nhello\n", "record 4, at octet"},
+        {"state 1 sign\nend\nstart - 1 1\nticks 5\n", "knows its line: ticks 5"},
+        {"state 1 sign\nend\nclock 1 1\n", "knows its line: clock 1 1"},
+        {"state 1 sign\nend\nstart - 1 1\nclock 1 1\nset 1.3.6.1.5 INTEGER 7\n", "knows its line: set "},
+        {"state 1 sign\nend\nstart - 1 1\nclock 1 1\nstate 1 sign\nend\n", "knows its line: state 1 sign"},
+        {"start - 1 1\nclock 1 1\nstate 1 sign\nend\n", "knows its line: state 1 sign"},
+        {"state 1 sign\nbad\nend\nstart - 1 1\nclock 1 1\n", "state line 2: no state of this sign"},
+    };
+    for (size_t at = 0; at < sizeof rows / sizeof *rows; at++) {
+        clear();
+        make(with(first, rows[at].behind));
+        check(rows[at].words, lived(accepting, "k") == 2 && is_in(rows[at].words, said) && !is_in("+ ", handed));
+        check("stays", read_file(path, lines) == size && memcmp(lines, octets, size) == 0);
+    }
+}
+
+/* ---- disks, and what is kept */
+
+/* A disk that refuses in the middle: the old journal stays in force. */
+static void refusing_disk(void)
+{
+    clear();
+    check("a full disk", lives("ktkzsrtks") == 0 && is_in("+ + ! + = ", handed));
+    read_lines();
+    check("room later", strncmp(lines, with(first, "state 1 sign\n"), strlen(first) + 13) == 0);
+    check("a full disk at last", lives("tkzs") == UNRECORDED && is_in("s36,1 ", handed) && is_in("+ ! ", handed));
+    check("stays in force", lives("") == 0 && is_in("s36,1 ", handed) && is_in("d ", handed));
+    check("no part is left", found_beside(".new", handed) == 0);
+    write_file(beside(".new"), "a part", 6);
+    check("one of an earlier kill is", lives("sk") == 0 && is_in("= + ", handed) && found_beside(".new", handed) == 0);
+}
+
+/* What is cut off is kept, once each. */
+static void archived(void)
+{
+    clear();
+    (void)mkdir(beside(".kept"), 0700);
+    for (int at = 0; at < 12; at++) {
+        check("an archive", lives("ks") == 0 && is_in("+ = ", handed));
+    }
+    check("each old file", found_beside(".kept/journal.20*-*", handed) == 12 && count_in("\ndatagram 3000 ", handed) == 12);
+    check("the last one", found_beside(".kept/journal.*-12", handed) == 1 && count_in("\nstate 1 sign ", handed) == 1);
+    check("the first one", found_beside(".kept/journal.*-1", handed) == 1 && count_in("\nstate 1 sign ", handed) == 0);
+    check("killed behind it", archive_keep(beside(".kept"), path) == 0 && lives("s") == 0);
+    check("has one name", found_beside(".kept/*", handed) == 13);
+    check("and no other", archive_keep("/nowhere/at/all", path) != 0 && !archive_is(path) && archive_is(beside(".kept")));
+}
+
+/* The order of names is that of their numbers. */
+static void ordered(void)
+{
+    static const char *const names[] = {"1.3.6.1.5 NULL", "1.3.6.1.127 NULL", "1.3.6.1.128 NULL", "1.3.6.1.16384 NULL",
+                                        "1.3.6.1.16500 NULL", "1.3.6.2 NULL", "2.100.3 NULL"};
+    enum { COUNT = sizeof names / sizeof *names };
+    struct sets sets = {.count = 0};
+    for (size_t at = 0; at < 3 * COUNT; at++) {
+        const char *name = names[at * 4 % COUNT];
+        check("there is memory", sets_put(&sets, name, strlen(name)));
+    }
+    for (size_t at = 0; at < COUNT; at++) {
+        check("names are in order", sets.count == COUNT && sets.items[at].size == strlen(names[at])
+                                        && memcmp(sets.items[at].words, names[at], sets.items[at].size) == 0);
+    }
+    sets_free(&sets);
+}
+
+int main(int count, char **words)
+{
+    size_t step = count == 3 ? (size_t)strtoul(words[2], NULL, 10) : 0;
+    if (step == 0) {
+        fputs("usage: states_test FOLDER STEP\n", stderr);
+        return 2;
+    }
+    snprintf(path, sizeof path, "%s/journal", words[1]);
+    in_place();
+    same_time();
+    without_power();
+    cut_anywhere(step);
+    changed(step);
+    in_other_order();
+    by_name();
+    refusing_disk();
+    archived();
+    ordered();
+    if (!failed) {
+        puts("ok");
+    }
+    return failed;
+}
