@@ -309,28 +309,36 @@ int object_read(const char *line, size_t size, struct object *object, uint8_t **
 
 /* ---- a value */
 
-void value_print(const struct wisangub_value *value, const uint8_t *octets, size_t size)
+/* Octets as digits, or `-` for none. */
+static size_t digits_text(const uint8_t *octets, size_t size, char *text)
 {
-    static char text[NAME_TEXT];
+    static const char words[] = "0123456789abcdef";
+    char *at = text;
+    if (size == 0) {
+        *at++ = '-';
+    }
+    for (size_t octet = 0; octet < size && octet < WISANGUB_DATAGRAM; octet++) {
+        *at++ = words[octets[octet] >> 4];
+        *at++ = words[octets[octet] & 15];
+    }
+    *at = '\0';
+    return (size_t)(at - text);
+}
+
+size_t value_text(const struct wisangub_value *value, const uint8_t *octets, size_t size, char text[VALUE_TEXT])
+{
     const struct type *type = types;
     while (type->type != value->type) {
         type++;
     }
-    fputs(type->words, stdout);
-    if (type->type == WISANGUB_NO_VALUE) {
-        return;
-    }
-    if (type->type == WISANGUB_OBJECT_IDENTIFIER) {
-        name_text(octets, size, text);
-        printf(" %s", text);
-    } else if (type->type == WISANGUB_IP_ADDRESS) {
-        printf(" %d.%d.%d.%d", octets[0], octets[1], octets[2], octets[3]);
-    } else if (type->type == WISANGUB_OCTET_STRING || type->type == WISANGUB_OPAQUE) {
-        fputs(size == 0 ? " -" : " ", stdout);
-        for (size_t at = 0; at < size; at++) {
-            printf("%02x", octets[at]);
-        }
-    } else {
-        printf(" %" PRId64, value->number);
+    size_t made = (size_t)sprintf(text, type->type == WISANGUB_NO_VALUE ? "%s" : "%s ", type->words);
+    switch (type->type) {
+    case WISANGUB_NO_VALUE: return made;
+    case WISANGUB_OBJECT_IDENTIFIER: name_text(octets, size, text + made); return strlen(text);
+    case WISANGUB_OCTET_STRING:
+    case WISANGUB_OPAQUE: return made + digits_text(octets, size, text + made);
+    case WISANGUB_IP_ADDRESS:
+        return made + (size_t)sprintf(text + made, "%d.%d.%d.%d", octets[0], octets[1], octets[2], octets[3]);
+    default: return made + (size_t)sprintf(text + made, "%" PRId64, value->number);
     }
 }

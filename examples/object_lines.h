@@ -7,8 +7,8 @@
 
 #include "wisangub.h"
 
-/* Room for why a line is none, and the most octets of a line. */
-enum { OBJECT_WHY = 512, OBJECT_LINE_MOST = 65536 };
+/* Room for why a line is none, the most octets of a line, and room for a value in words. */
+enum { OBJECT_WHY = 512, OBJECT_LINE_MOST = 65536, VALUE_TEXT = 1536 + 2 * WISANGUB_DATAGRAM };
 
 enum object_kind {
     OBJECT_FIXED,
@@ -33,7 +33,7 @@ struct object {
  */
 int object_read(const char *line, size_t size, struct object *object, uint8_t **store, char why[OBJECT_WHY]);
 
-/* Writes a value as the word of its type and what it is. */
-void value_print(const struct wisangub_value *value, const uint8_t *octets, size_t size);
+/* A value, of less octets than a datagram, as the word of its type and what it is: how many octets, with a null behind. */
+size_t value_text(const struct wisangub_value *value, const uint8_t *octets, size_t size, char text[VALUE_TEXT]);
 
 #endif

@@ -3,20 +3,24 @@
  * a description up to its line `end`, and then a line for each call. What begins with `centre ` goes to the central
  * system, whose community is the one that may write. Beside the lines of docs/PROFILE.md there are `check OCTETS` and
  * `pages OCTETS` of a text, `bits`, which is `show` with each row as bits, `code ORDER MEMORY NUMBER TEXT BEACON PIXEL
- * MINUTES PRIORITY ADDRESS`, and `anew`, which frees both and makes them again. An activation that is accepted is
- * answered `reply OCTETS`, too. What memory is wanting for is answered `memory`.
+ * MINUTES PRIORITY ADDRESS`, `why text OCTETS`, `why description OCTETS` and `why command OCTETS`, which are answered
+ * `ok` where they are not refused, and `anew`, which frees both and makes them again. After `save` the sign is one that was
+ * made of its text. An activation that is accepted is answered `reply OCTETS`, too. What memory is wanting for is
+ * answered `memory`.
  */
 #include <inttypes.h>
 #include <stdio.h>
 #include <stdlib.h>
 #include <string.h>
 
+#include "talk_causes.h"
 #include "talk_objects.h"
 #include "wisangub.h"
 
-enum { TEXT_MOST = 1 << 20, LINE_MOST = 140000, PAGES_MOST = 6 * (WISANGUB_PAGE_HEAD + 256 * 64) };
+enum { TEXT_MOST = 1 << 20, LINE_MOST = 140000, PAGES_MOST = 6 * (WISANGUB_PAGE_HEAD + 256 * 64), STATE_MOST = 1 << 17 };
 
 static char text[TEXT_MOST], line[LINE_MOST];
+static size_t described; /* the octets of the text */
 static uint8_t octets[LINE_MOST / 2], pages[PAGES_MOST], sent[WISANGUB_DATAGRAM];
 static uint16_t width, height;
 static enum wisangub_order order;
@@ -107,15 +111,34 @@ static void print_pages(size_t size, void (*print)(const uint8_t *))
     }
 }
 
+/* Whether each row of these pages is the one that is given alone. */
+static int rows_agree(enum wisangub_layer layer, size_t size)
+{
+    uint8_t row[256];
+    size_t at = 0, count = 0;
+    for (size_t number = 0; at < size; number++) {
+        at += WISANGUB_PAGE_HEAD;
+        for (uint16_t y = 0; y < height; y++, at += width) {
+            if (wisangub_sign_page_row(&sign, number, y, layer, row, sizeof row, &count) != WISANGUB_DONE
+                || count != width || memcmp(row, pages + at, width) != 0) {
+                return 0;
+            }
+        }
+    }
+    return 1;
+}
+
 static void show(void (*print)(const uint8_t *))
 {
     size_t size = 0, needed = 0;
+    int agree = 1;
     enum wisangub_answer answer = wisangub_sign_pages(&sign, WISANGUB_LOOK, NULL, 0, &needed);
-    if (answer != WISANGUB_MEMORY) {
-        answer = wisangub_sign_pages(&sign, WISANGUB_LOOK, pages, sizeof pages, &size);
+    for (int layer = WISANGUB_FLASH_DARK; layer >= WISANGUB_LOOK && answer != WISANGUB_MEMORY; layer--) {
+        answer = wisangub_sign_pages(&sign, (enum wisangub_layer)layer, pages, sizeof pages, &size);
+        agree = agree && (answer != WISANGUB_DONE || rows_agree((enum wisangub_layer)layer, size));
     }
-    if (answer != WISANGUB_DONE || size != needed) {
-        puts(answer == WISANGUB_MEMORY ? "memory" : "another size");
+    if (answer != WISANGUB_DONE || size != needed || !agree) {
+        puts(answer == WISANGUB_MEMORY ? "memory" : "another size, or another row");
         return;
     }
     print_pages(size, print);
@@ -232,6 +255,27 @@ static void print_code(const char *words)
     print_octets("code ", sent, size, "\n");
 }
 
+/* The state as text; what goes on then is a sign that is made of it. */
+static void save(void)
+{
+    static uint8_t saved[STATE_MOST];
+    struct wisangub_sign made = {NULL};
+    uint32_t first = 0;
+    size_t size = 0, fault = 0;
+    wisangub_sign_save(&sign, saved, sizeof saved, &size);
+    enum wisangub_answer answer = wisangub_sign_restore(&made, text, described, saved, size, &first, &fault);
+    if (answer == WISANGUB_MEMORY) {
+        puts("memory");
+    } else if (answer != WISANGUB_DONE) {
+        printf("answer %d line %zu\n", (int)answer, fault);
+    } else {
+        wisangub_sign_free(&sign);
+        sign = made;
+        fwrite(saved, 1, size, stdout);
+        puts("ok");
+    }
+}
+
 static void answer(void)
 {
     if (strncmp(line, "datagram ", 9) == 0) {
@@ -250,6 +294,8 @@ static void answer(void)
         power_back(line + 11);
     } else if (strcmp(line, "state") == 0) {
         state();
+    } else if (strcmp(line, "save") == 0) {
+        save();
     } else if (strcmp(line, "show") == 0) {
         show(print_row);
     } else if (strcmp(line, "bits") == 0) {
@@ -376,6 +422,18 @@ static void answer_centre(const char *words)
     }
 }
 
+/* Why octets are refused as what they are said to be. */
+static void why(char *words)
+{
+    char *digits = strchr(words, ' ');
+    if (digits == NULL || read_octets(digits + 1) < 0) {
+        puts("bad line");
+        return;
+    }
+    *digits = '\0';
+    answer_why(&sign, words, octets, (size_t)read_octets(digits + 1));
+}
+
 /* ---- the description */
 
 /* The size of the description, which ends with its line `end`; its line `order` says the order of codes. */
@@ -432,16 +490,18 @@ static void free_both(void)
 
 int main(void)
 {
-    size_t size = read_description();
-    int goes_on = is_made(size), status = !goes_on;
+    described = read_description();
+    int goes_on = is_made(described), status = !goes_on;
     while (goes_on && fgets(line, LINE_MOST, stdin) != NULL) {
         line[strcspn(line, "\n")] = '\0';
         if (strcmp(line, "anew") == 0) {
             free_both();
-            goes_on = is_made(size);
+            goes_on = is_made(described);
             puts("ok");
         } else if (strncmp(line, "centre ", 7) == 0) {
             answer_centre(line + 7);
+        } else if (strncmp(line, "why ", 4) == 0) {
+            why(line + 4);
         } else if (!answer_objects(&sign, line)) {
             answer();
         }

@@ -56,16 +56,15 @@ static int is_read(struct wisangub_sign *sign, const struct name *name, const st
 static void take(struct wisangub_sign *sign)
 {
     static uint8_t octets[WISANGUB_DATAGRAM];
-    static char text[NAME_TEXT];
+    static char text[NAME_TEXT], words[VALUE_TEXT];
     struct name name;
     struct wisangub_value value;
     size_t size = 0;
     while (wisangub_sign_taken(sign, name.octets, sizeof name.octets, &name.size, &value, octets, sizeof octets, &size)
            == WISANGUB_DONE) {
         name_text(name.octets, name.size, text);
-        printf("set %s ", text);
-        value_print(&value, octets, size);
-        puts(is_read(sign, &name, &value, octets, size) ? "" : " is not read");
+        value_text(&value, octets, size, words);
+        printf("set %s %s%s\n", text, words, is_read(sign, &name, &value, octets, size) ? "" : " is not read");
     }
     puts("ok");
 }
