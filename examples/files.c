@@ -129,19 +129,26 @@ int file_cut(int file, const char *path, off_t size)
     return 0;
 }
 
-int folder_synced(const char *path)
+int folder_of(const char *path)
 {
     char *real = realpath(path, NULL);
     if (real == NULL) {
-        return errno;
+        return -1;
     }
     *strrchr(real, '/') = '\0';
     int folder = open(*real != '\0' ? real : "/", O_RDONLY | O_DIRECTORY | O_CLOEXEC), error = errno;
     free(real);
+    errno = error;
+    return folder;
+}
+
+int folder_synced(const char *path)
+{
+    int folder = folder_of(path);
     if (folder < 0) {
-        return error;
+        return errno;
     }
-    error = fsync(folder) != 0 ? errno : 0;
+    int error = fsync(folder) != 0 ? errno : 0;
     close(folder);
     if (error != 0 && error != EROFS) {
         lose(path, strerror(error));

@@ -27,6 +27,9 @@ int file_stands(int file, const char *path, off_t size);
 /* Shortens the file, on the disk too: 0, or the disk's error. */
 int file_cut(int file, const char *path, off_t size);
 
+/* The file's folder, open to be synced: -1 where it cannot be. */
+int folder_of(const char *path);
+
 /* The names in the file's folder are on the disk: 0, or the disk's error where it was not asked to write them. */
 int folder_synced(const char *path);
 

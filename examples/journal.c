@@ -101,15 +101,23 @@ static int pay(struct journal *journal)
     while (!waits_are_over(&journal->waits)) {
         struct waits left = journal->waits;
         size_t size = waits_lines(&left, lines, sizeof lines);
+        uint64_t seconds = waits_seconds(&journal->waits) - waits_seconds(&left);
         if (!append(journal, lines, size, 0)) {
             return 0;
         }
+        journal->last.wall += (int64_t)seconds;
+        journal->last.up += (int64_t)seconds;
         journal->waits = left;
     }
     return 1;
 }
 
 /* ---- what is recorded */
+
+int journal_paid(struct journal *journal)
+{
+    return journal_begun(journal) && pay(journal) ? 0 : journal->refused;
+}
 
 int journal_keep(struct journal *journal, const char *lines, size_t size)
 {
@@ -121,7 +129,12 @@ static int keep_clock(struct journal *journal, double up, int is_synced)
     char line[64];
     struct moment now = moment_at(up);
     int size = snprintf(line, sizeof line, "clock %" PRId64 " %" PRId64 "\n", now.wall, now.up);
-    return journal_begun(journal) && pay(journal) && append(journal, line, (size_t)size, is_synced);
+    if (!journal_begun(journal) || !pay(journal) || !append(journal, line, (size_t)size, is_synced)) {
+        return 0;
+    }
+    journal->last.wall = now.wall;
+    journal->last.up = now.up;
+    return 1;
 }
 
 void journal_tick(struct journal *journal, uint64_t seconds, double up)

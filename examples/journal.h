@@ -8,6 +8,8 @@
 
 #include "lines.h"
 #include "moments.h"
+#include "sets.h"
+#include "states.h"
 #include "waits.h"
 
 /* What the time without a process was: told by the boot's id, a loss of power, or seconds. */
@@ -26,8 +28,10 @@ struct power {
     struct moment lost;
 };
 
-/* Whoever a line is handed to. */
+/* Whoever lines are handed to: at first it begins in a state, or as it was made where that has no text. Where the state
+ * is none of it, it answers the number of the line that is at fault, from 1; else 0. */
 struct handing {
+    size_t (*begin)(void *sign, const struct state *state);
     void (*hand)(void *sign, const struct line *line);
     void *sign;
 };
@@ -56,6 +60,9 @@ struct journal {
     struct waits waits;     /* what is recorded with the next record */
     uint64_t since_clock;   /* seconds */
     int is_heard;           /* the silence is over since the last second */
+    struct moment last;     /* up to which the sign was handed its seconds, of those that are recorded */
+    off_t base;             /* the octets that were written with a state */
+    struct sets sets;       /* what managers set of objects before that state, and since as others put it there */
 };
 
 /*
@@ -68,6 +75,9 @@ void journal_open(struct journal *journal, struct journal_asked asked, double up
 
 /* Records the start, where that is not done yet: whether records may follow it. */
 int journal_begun(struct journal *journal);
+
+/* Records what waits: 0, or the disk's error. */
+int journal_paid(struct journal *journal);
 
 /* Whether these lines, each with a newline at its end, are on the disk, and so may be handed over. */
 int journal_keep(struct journal *journal, const char *lines, size_t size);

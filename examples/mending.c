@@ -6,15 +6,15 @@
 #include <limits.h>
 #include <stdio.h>
 #include <string.h>
-#include <sys/file.h>
 #include <sys/mman.h>
 #include <sys/stat.h>
 #include <unistd.h>
 
+#include "anew.h"
 #include "files.h"
 #include "records.h"
 
-enum { ROOM = 1 << 16, LINE_MOST = 1 << 14, NAMES_MOST = 10000, MUCH = 1 << 20, MINUTE = 60 };
+enum { NAMES_MOST = 10000, MUCH = 1 << 20, MINUTE = 60 };
 
 /* The file, where there was none or it could only be read. */
 static int reopened(struct journal *journal)
@@ -55,28 +55,14 @@ static int cut(struct journal *journal, const char *text)
 
 /* ---- a journal of form 1 is written anew */
 
-/* Writes a record of a new file for each of the old one; the first one by this line. */
-static int written_anew(int file, const char *text, size_t kept, const char *head)
+/* Writes a record of the new file for each of the old one; the first one by this line. */
+static void write_anew(struct anew *anew, const char *text, size_t kept, const char *head)
 {
-    static char records[ROOM];
-    size_t made = 0;
-    uint64_t number = 0;
-    int error = 0;
-    for (size_t at = 0, end; at < kept && error == 0; at = end) {
+    anew_line(anew, head, strlen(head));
+    for (size_t at = line_end(text, kept, 0), end; at < kept && anew->error == 0; at = end) {
         end = line_end(text, kept, at);
-        const char *line = number == 0 ? head : text + at;
-        size_t size = number == 0 ? strlen(head) : record_line(text, at, end);
-        if (size > LINE_MOST) {
-            return EFBIG;
-        }
-        number++;
-        made += record_made(records + made, line, size, number, number);
-        if (made > ROOM - LINE_MOST - RECORD_ROOM || end == kept) {
-            error = all_written(file, records, made);
-            made = 0;
-        }
+        anew_line(anew, text + at, record_line(text, at, end));
     }
-    return error;
 }
 
 /* Gives the old file its second name, FILE.form1 or the first such name that is no other file's. */
@@ -107,62 +93,38 @@ static int kept_as_older(const char *path, char name[PATH_MAX])
     return EEXIST;
 }
 
-/* A new file of this name, locked. */
-static int made_anew(const char *name)
-{
-    (void)unlink(name);
-    int file = open(name, O_RDWR | O_CREAT | O_EXCL | O_APPEND | O_CLOEXEC, 0600);
-    if (file >= 0 && flock(file, LOCK_EX | LOCK_NB) != 0) {
-        int error = errno;
-        close(file);
-        errno = error;
-        return -1;
-    }
-    return file;
-}
-
 /* Puts the new file in the place of the old one, whose octets keep another name. */
-static int exchanged(const char *path, const char *anew, char name[PATH_MAX])
+static int exchanged(struct anew *anew, char name[PATH_MAX])
 {
-    int error = kept_as_older(path, name);
+    int error = anew_written(anew);
     if (error == 0) {
-        error = folder_synced(path);
+        error = kept_as_older(anew->path, name);
     }
-    if (error == 0 && rename(anew, path) != 0) {
-        error = errno;
+    if (error == 0) {
+        error = folder_synced(anew->path);
     }
-    return error;
+    return error == 0 ? anew_named(anew) : error;
 }
 
 /* Writes the journal beside, syncs it, and renames it over the old one: at each moment one of both is there. */
 static int rewritten(struct journal *journal, const char *text)
 {
     const char *path = journal->asked.path;
-    char anew[PATH_MAX], name[PATH_MAX], head[256];
-    struct stat made;
+    char name[PATH_MAX], head[256];
+    struct anew anew;
     snprintf(head, sizeof head, "journal 2 sign rules 1 description %s", journal->asked.digest);
-    int file = snprintf(anew, PATH_MAX, "%s.new", path) < PATH_MAX ? made_anew(anew) : -1;
-    if (file < 0) {
-        return errno;
-    }
+    anew_begin(&anew, path);
     (void)fchmod(journal->file, 0600);
-    int error = written_anew(file, text, journal->mending.kept, head);
-    if (error == 0 && (fsync(file) != 0 || fstat(file, &made) != 0)) {
-        error = errno;
-    }
-    error = error == 0 ? exchanged(path, anew, name) : error;
+    write_anew(&anew, text, journal->mending.kept, head);
+    int error = exchanged(&anew, name);
     if (error != 0) {
-        (void)unlink(anew);
-        close(file);
+        anew_drop(&anew);
         return error;
-    }
-    if (folder_synced(path) != 0) {
-        lose(path, strerror(errno));
     }
     fprintf(stderr, "%s: it was of form 1 and is written anew; the old one is kept as %s\n", path, name);
     close(journal->file);
-    journal->file = file;
-    journal->mending = (struct mending){.found = made.st_size, .kept = (size_t)made.st_size};
+    journal->file = anew.file;
+    journal->mending = (struct mending){.found = anew.size, .kept = (size_t)anew.size};
     return 0;
 }
 

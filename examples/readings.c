@@ -131,8 +131,7 @@ static void drop_unfinished(const char *text, struct reading *found)
     }
 }
 
-/* Refuses a line that no end knows, by name. */
-static void refuse_line(const char *path, const char *line, size_t size, uint64_t number, size_t at)
+_Noreturn void refuse_line(const char *path, const char *line, size_t size, uint64_t number, size_t at)
 {
     char shown[SHOWN + 1] = "", why[256];
     for (size_t octet = 0; octet < size && octet < SHOWN; octet++) {
@@ -146,11 +145,11 @@ static void refuse_line(const char *path, const char *line, size_t size, uint64_
     refuse(path, why);
 }
 
-static void look_at_lines(const char *path, const char *text, size_t kept)
+static void look_at_lines(const char *path, const char *text, size_t kept, const struct state *state)
 {
     struct line line;
-    uint64_t number = 1;
-    for (size_t at = line_end(text, kept, 0), end; at < kept; at = end) {
+    uint64_t number = state->number;
+    for (size_t at = state->behind, end; at < kept; at = end) {
         end = line_end(text, kept, at);
         size_t size = record_line(text, at, end);
         number++;
@@ -160,12 +159,25 @@ static void look_at_lines(const char *path, const char *text, size_t kept)
     }
 }
 
-struct reading journal_read(const struct journal_asked *asked, const char *text, size_t size)
+/* Whether the first record is whole, and of form 2. */
+static int has_first(const char *text, size_t size)
 {
+    struct record found;
+    size_t end = line_end(text, size, 0);
+    return end > 0 && begins(text, size, "journal 2 ") && record_spelled(text, 0, end - 1, &found) && found.number == 1;
+}
+
+struct reading journal_read(const struct journal_asked *asked, const char *text, size_t size, struct state *state)
+{
+    *state = (struct state){.number = 1, .behind = line_end(text, size, 0)};
+    if (has_first(text, size)) {
+        compare(asked, text, record_line(text, 0, line_end(text, size, 0)));
+        *state = state_read(asked->path, text, size);
+    }
     struct reading found = whole(asked, text, size);
     if (found.kept > 0) {
         compare(asked, text, record_line(text, 0, line_end(text, size, 0)));
-        look_at_lines(asked->path, text, found.kept);
+        look_at_lines(asked->path, text, found.kept, state);
         drop_unfinished(text, &found);
     }
     return found;
@@ -173,7 +185,7 @@ struct reading journal_read(const struct journal_asked *asked, const char *text,
 
 /* ---- what the sign was handed */
 
-/* Hands a line over, and moves the clock. */
+/* Hands a line over, and moves the clock. A sign that is without power in its state lost it at the clock behind that. */
 static void replay(struct past *past, const struct line *line, struct handing handing)
 {
     if (line->kind == LINE_START) {
@@ -183,6 +195,9 @@ static void replay(struct past *past, const struct line *line, struct handing ha
     if (line->kind == LINE_CLOCK) {
         past->last.wall = line->moment.wall;
         past->last.up = line->moment.up;
+        if (past->power.is_off && !past->has_last) {
+            past->power.lost = past->last;
+        }
         past->has_last = 1;
         return;
     }
@@ -197,11 +212,11 @@ static void replay(struct past *past, const struct line *line, struct handing ha
     handing.hand(handing.sign, line);
 }
 
-struct past journal_replayed(const char *text, size_t kept, struct handing handing)
+struct past journal_replayed(const char *text, size_t kept, const struct state *state, struct handing handing)
 {
-    struct past past = {.last = {.boot = "-"}};
+    struct past past = {.last = {.boot = "-"}, .power = {.is_off = state_is_dark(state)}};
     struct line line;
-    for (size_t at = line_end(text, kept, 0), end; at < kept; at = end) {
+    for (size_t at = state->behind, end; at < kept; at = end) {
         end = line_end(text, kept, at);
         line_read(text + at, record_line(text, at, end), &line);
         replay(&past, &line, handing);

@@ -21,12 +21,15 @@ struct past {
 };
 
 /*
- * How far the records go that a sign goes on from. A file of something else, damage that is not accepted, and a line
- * that no sign's journal has, are told and end the process.
+ * How far the records go that a sign goes on from, and the state with which they begin, or none. A file of something
+ * else, damage that is not accepted, and a line that no sign's journal has, are told and end the process.
  */
-struct reading journal_read(const struct journal_asked *asked, const char *text, size_t size);
+struct reading journal_read(const struct journal_asked *asked, const char *text, size_t size, struct state *state);
 
-/* Hands over all lines, and keeps account of the time. */
-struct past journal_replayed(const char *text, size_t kept, struct handing handing);
+/* Refuses a whole record with a line that no sign knows there, by name. */
+_Noreturn void refuse_line(const char *path, const char *line, size_t size, uint64_t number, size_t at);
+
+/* Hands over all lines behind a state, and keeps account of the time. */
+struct past journal_replayed(const char *text, size_t kept, const struct state *state, struct handing handing);
 
 #endif

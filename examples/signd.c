@@ -5,27 +5,28 @@
  * sign's, reads it again at a SIGHUP, and prints what managers set. With --write-from a SET of another address is
  * dropped before the sign hears it. With --log each datagram has its line. With a journal the sign goes on where it
  * was, also where wisangub-sign kept it; what the time without a process was, a loss of power or seconds, is told by the
- * kernel's boot id, or by --down.
+ * kernel's boot id, or by --down. A journal of more octets than --keep is shortened to the sign's state, and any at a
+ * SIGHUP.
  */
 #define _GNU_SOURCE
 #include <errno.h>
 #include <fcntl.h>
-#include <getopt.h>
 #include <inttypes.h>
 #include <poll.h>
 #include <signal.h>
 #include <stdio.h>
-#include <stdlib.h>
 #include <string.h>
 #include <sys/signalfd.h>
 #include <sys/timerfd.h>
 #include <unistd.h>
 
 #include "allowed.h"
+#include "asked.h"
 #include "described.h"
 #include "firmware.h"
 #include "journal.h"
 #include "log.h"
+#include "shortening.h"
 #include "sign_lines.h"
 #include "silences.h"
 #include "sockets.h"
@@ -41,6 +42,8 @@ struct front_end {
     struct allowed allowed;
     struct journal *journal;   /* null where nothing is kept */
     struct firmware *firmware; /* null where nothing is published */
+    struct sets *sets;         /* of objects, what managers set */
+    struct shortening shortening;
     struct writes writes;
     struct log log;
     struct power power;
@@ -48,14 +51,6 @@ struct front_end {
     double up;               /* the moment up to which the sign was told its seconds */
     int socket, timer;       /* the timer is -1 where no seconds pass */
     int is_quiet;            /* nothing is printed of what managers do */
-};
-
-struct asked {
-    struct journal_asked journal; /* its path is null where nothing is kept */
-    struct allowed allowed;
-    const char *host, *objects, *log, *description; /* no objects and no log are null */
-    long port, most;
-    int is_quiet, has_ticks;
 };
 
 /* No file of ours gets the number of a standard file that is closed, and a reader that goes away ends nothing. */
@@ -81,7 +76,8 @@ static int seconds_after(double up)
     return made;
 }
 
-static int signals(int has_objects)
+/* The signals that are heeded; a SIGHUP where something is done at it. */
+static int signals(int has_hangup)
 {
     sigset_t taken;
     sigemptyset(&taken);
@@ -89,7 +85,7 @@ static int signals(int has_objects)
     sigaddset(&taken, SIGTERM);
     sigaddset(&taken, SIGUSR1);
     sigaddset(&taken, SIGUSR2);
-    if (has_objects) {
+    if (has_hangup) {
         sigaddset(&taken, SIGHUP);
     }
     had(sigprocmask(SIG_BLOCK, &taken, NULL), "sigprocmask");
@@ -297,7 +293,10 @@ static int heed(struct front_end *front_end, int from)
         return 1;
     }
     if (told.ssi_signo == SIGHUP) {
-        firmware_again(front_end->firmware, running());
+        if (front_end->firmware != NULL) {
+            firmware_again(front_end->firmware, running());
+        }
+        front_end->shortening.is_asked = 1;
         return 1;
     }
     return 0;
@@ -310,6 +309,10 @@ static void serve(struct front_end *front_end, int signals)
                                     [SIGNALS] = {.fd = signals, .events = POLLIN}};
     int goes_on = 1;
     while (goes_on) {
+        if (front_end->journal != NULL) {
+            shortening_turn(&front_end->shortening, front_end->journal, &front_end->sign, &front_end->power,
+                            &front_end->log);
+        }
         int pause = writes_pause(&front_end->writes, running());
         had(poll(waited, WAITED, pause) < 0 && errno != EINTR ? -1 : 0, "poll");
         /* Seconds that passed come before the datagrams that came meanwhile. */
@@ -325,132 +328,43 @@ static void serve(struct front_end *front_end, int signals)
     pass(front_end);
 }
 
-/* ---- the command line */
+/* ---- a start and an end */
 
-static void say_version(void)
+/* The sign begins in the state of a journal, or as it was made, with the objects of a file beside it. */
+static size_t begin(void *to, const struct state *state)
 {
-    printf("signd %s\n", wisangub_version());
-    exit(0);
-}
-
-static const char usage[] =
-    "usage: signd [--port N] [--host ADDRESS] [--write-from ADDRESS ..] [--objects FILE] [--log FILE]\n"
-    "    [--journal FILE [--down power|process] [--accept-damage] [--need-journal] [--most-recorded N]]\n"
-    "    [--no-ticks] [--quiet] DESCRIPTION\n";
-
-static void help(void)
-{
-    fputs(usage, stdout);
-    puts("\n"
-         "  --port N              its UDP port, else 1161; 0 is one that is free, which is printed\n"
-         "  --host ADDRESS        an IPv4 or IPv6 address, or a name; else 127.0.0.1\n"
-         "  --write-from ADDRESS  a SET of the writing community is heard from there alone; may stand again\n"
-         "  --objects FILE        objects beside the sign's; read at a SIGHUP too\n"
-         "  --log FILE            a line a datagram, with its time and its peer; - is standard output\n"
-         "  --journal FILE        what changes the sign is kept here, over the end of the process\n"
-         "  --down power|process  what the time without a process was\n"
-         "  --accept-damage       goes on from what is whole of the journal, and puts the rest aside\n"
-         "  --need-journal        ends where the disk takes nothing at a start\n"
-         "  --most-recorded N     of the writing community, in a second; else 50\n"
-         "  --no-ticks            no second passes for the sign\n"
-         "  --quiet               neither where it is, what it accepts nor what managers set is printed\n"
-         "  --version             the version of the library");
-    exit(0);
-}
-
-static void misused(const char *why)
-{
-    fprintf(stderr, "signd: %s\n%s", why, usage);
-    exit(2);
-}
-
-/* A number, or -1. */
-static long number(const char *word)
-{
-    char *rest;
-    long found = strtol(word, &rest, 10);
-    return *word >= '0' && *word <= '9' && *rest == '\0' ? found : -1;
-}
-
-static void take(struct asked *asked, int option, const char *word)
-{
-    switch (option) {
-    case 'h': asked->host = word; break;
-    case 'p': asked->port = number(word); break;
-    case 'w':
-        if (!allowed_add(&asked->allowed, word)) {
-            misused("--write-from is an IPv4 or IPv6 address, at most 64 times");
+    struct front_end *front_end = to;
+    if (state->text != NULL) {
+        wisangub_sign_free(&front_end->sign);
+        size_t line = sign_in(&front_end->sign, front_end->shortening.described, state->text, state->size);
+        if (line != 0) {
+            return line;
         }
-        break;
-    case 'o': asked->objects = word; break;
-    case 'l': asked->log = word; break;
-    case 'j': asked->journal.path = word; break;
-    case 'd':
-        asked->journal.down = strcmp(word, "power") == 0 ? DOWN_POWER : DOWN_PROCESS;
-        if (asked->journal.down != DOWN_POWER && strcmp(word, "process") != 0) {
-            misused(word);
-        }
-        break;
-    case 'a': asked->journal.accepts_damage = 1; break;
-    case 'r': asked->journal.is_needed = 1; break;
-    case 'm': asked->most = number(word); break;
-    case 'n': asked->has_ticks = 0; break;
-    case 'q': asked->is_quiet = 1; break;
-    case 'v': say_version(); break;
-    case 'u': help(); break;
-    default: misused("an option");
     }
+    if (front_end->firmware != NULL) {
+        firmware_publish(front_end->firmware, &front_end->sign, front_end->sets);
+    }
+    return 0;
 }
 
-static struct asked asked_for(int count, char **words)
+static void hand(void *to, const struct line *line)
 {
-    static const struct option options[] = {{"host", required_argument, NULL, 'h'},
-                                            {"port", required_argument, NULL, 'p'},
-                                            {"write-from", required_argument, NULL, 'w'},
-                                            {"objects", required_argument, NULL, 'o'},
-                                            {"log", required_argument, NULL, 'l'},
-                                            {"journal", required_argument, NULL, 'j'},
-                                            {"down", required_argument, NULL, 'd'},
-                                            {"accept-damage", no_argument, NULL, 'a'},
-                                            {"need-journal", no_argument, NULL, 'r'},
-                                            {"most-recorded", required_argument, NULL, 'm'},
-                                            {"no-ticks", no_argument, NULL, 'n'},
-                                            {"quiet", no_argument, NULL, 'q'},
-                                            {"version", no_argument, NULL, 'v'},
-                                            {"help", no_argument, NULL, 'u'},
-                                            {NULL, 0, NULL, 0}};
-    struct asked asked = {.host = "127.0.0.1", .port = 1161, .most = WRITES_USUAL, .has_ticks = 1};
-    int found;
-    while ((found = getopt_long(count, words, "", options, NULL)) != -1) {
-        take(&asked, found, optarg);
-    }
-    if (optind != count - 1) {
-        misused("one description");
-    }
-    if (asked.most < 1 || asked.most > WRITES_MOST) {
-        misused("--most-recorded is 1 to 1000000");
-    }
-    asked.description = words[optind];
-    return asked;
-}
-
-/* Publishes the objects of a file. */
-static void open_objects(struct front_end *front_end, struct firmware *firmware, const struct asked *asked)
-{
-    if (asked->objects != NULL) {
-        firmware_begin(firmware, &front_end->sign, asked->objects, front_end->up, asked->is_quiet);
-        front_end->firmware = firmware;
-    }
+    struct front_end *front_end = to;
+    hand_line(&front_end->sign, line);
 }
 
 /* The sign where its journal left it. */
 static void open_journal(struct front_end *front_end, struct journal *journal, struct journal_asked asked)
 {
+    static const struct state none = {.text = NULL};
+    front_end->sets = &journal->sets;
     if (asked.path == NULL) {
         fputs("nothing is kept: no --journal\n", stderr);
+        begin(front_end, &none);
         return;
     }
-    journal_open(journal, asked, front_end->up, (struct handing){hand_line, &front_end->sign}, &front_end->power);
+    asked.digest = front_end->shortening.described->digest;
+    journal_open(journal, asked, front_end->up, (struct handing){begin, hand, front_end}, &front_end->power);
     front_end->journal = journal;
 }
 
@@ -459,43 +373,58 @@ static int close_journal(struct front_end *front_end, double up)
 {
     writes_tell(&front_end->writes, up, 1);
     writes_end(&front_end->writes);
-    return front_end->journal == NULL || journal_end(front_end->journal, up);
+    int is_kept = front_end->journal == NULL || journal_end(front_end->journal, up);
+    sets_free(front_end->sets);
+    return is_kept;
+}
+
+/* A sign, where its journal left it, with its objects. */
+static void start(struct front_end *front_end, const struct asked *asked, const struct described *described)
+{
+    static struct journal journal;
+    static struct firmware firmware;
+    sign_of(&front_end->sign, described);
+    front_end->communities = communities_of(&front_end->sign);
+    front_end->shortening.described = described;
+    writes_begin(&front_end->writes, (size_t)asked->most);
+    front_end->up = running();
+    if (asked->objects != NULL) {
+        firmware_read(&firmware, asked->objects, front_end->up, asked->is_quiet);
+        front_end->firmware = &firmware;
+    }
+    open_journal(front_end, &journal, asked->journal);
+    wisangub_sign_changes(&front_end->sign, &front_end->changes);
+    if (asked->has_ticks) {
+        front_end->timer = seconds_after(front_end->up);
+    }
 }
 
 int main(int count, char **words)
 {
-    static struct journal journal;
-    static struct firmware firmware;
     struct asked asked = asked_for(count, words);
-    char digest[65];
     keep_standard_files();
-    struct front_end front_end = {
-        .socket = bound(asked.host, asked.port), .timer = -1, .is_quiet = asked.is_quiet};
+    struct front_end front_end = {.socket = bound(asked.host, asked.port),
+                                  .timer = -1,
+                                  .allowed = asked.allowed,
+                                  .shortening = asked.shortening,
+                                  .is_quiet = asked.is_quiet};
     log_open(&front_end.log, asked.log);
-    make_sign(&front_end.sign, asked.description, digest);
-    front_end.communities = communities_of(&front_end.sign);
-    front_end.allowed = asked.allowed;
-    writes_begin(&front_end.writes, (size_t)asked.most);
-    front_end.up = running();
-    open_objects(&front_end, &firmware, &asked);
-    asked.journal.digest = digest;
-    open_journal(&front_end, &journal, asked.journal);
-    if (asked.has_ticks) {
-        front_end.timer = seconds_after(front_end.up);
-    }
-    int waited = signals(asked.objects != NULL);
+    struct described described = description_of(asked.description);
+    start(&front_end, &asked, &described);
+    int waited = signals(front_end.firmware != NULL || front_end.journal != NULL);
     if (!asked.is_quiet) {
         announce(front_end.socket, asked.host);
     }
     if (front_end.firmware != NULL) {
         firmware_tell(front_end.firmware); /* what managers set in the journal's records */
     }
-    wisangub_sign_changes(&front_end.sign, &front_end.changes);
     log_event(&front_end.log, NULL, "start", NULL, 0);
     serve(&front_end, waited);
     log_event(&front_end.log, NULL, "end", NULL, 0);
     int is_kept = close_journal(&front_end, asked.has_ticks ? front_end.up : running());
-    firmware_end(&firmware);
+    if (front_end.firmware != NULL) {
+        firmware_end(front_end.firmware);
+    }
     wisangub_sign_free(&front_end.sign);
     return is_kept ? 0 : 1;
 }

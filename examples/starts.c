@@ -27,11 +27,28 @@ static void tell_down(char *lines, size_t room, const struct past *past, const s
     }
 }
 
+/* Hands over what a text has, to a sign in the state with which it begins. */
+static struct past handed_over(struct journal *journal, const char *text, size_t kept, struct state *state,
+                               struct handing handing)
+{
+    char why[96];
+    journal->sets = state->sets;
+    journal->base = (off_t)state->base;
+    size_t line = handing.begin(handing.sign, state);
+    if (line != 0) {
+        snprintf(why, sizeof why, ": state line %zu: no state of this sign", line);
+        refuse(journal->asked.path, why);
+    }
+    struct past past = journal_replayed(text, kept, state, handing);
+    state_free(state);
+    return past;
+}
+
 /* Reads the file, and hands over what is in it. */
 static struct past go_on(struct journal *journal, struct handing handing, int *is_new)
 {
-    struct past past = {.last = {.boot = "-"}};
     struct stat found = {0};
+    struct state state;
     const char *path = journal->asked.path;
     if (journal->file >= 0 && fstat(journal->file, &found) != 0) {
         lose(path, strerror(errno));
@@ -41,10 +58,8 @@ static struct past go_on(struct journal *journal, struct handing handing, int *i
     if (text == MAP_FAILED) {
         lose(path, strerror(errno));
     }
-    struct reading reading = journal_read(&journal->asked, text != NULL ? text : "", size);
-    if (reading.kept > 0) {
-        past = journal_replayed(text, reading.kept, handing);
-    }
+    struct reading reading = journal_read(&journal->asked, text != NULL ? text : "", size, &state);
+    struct past past = handed_over(journal, text != NULL ? text : "", reading.kept, &state, handing);
     if (text != NULL) {
         munmap(text, size);
     }
@@ -74,7 +89,7 @@ void journal_open(struct journal *journal, struct journal_asked asked, double up
     char head[256] = "", told[96] = "";
     int refused = 0, is_new = 0;
     struct moment now = moment_at(up);
-    *journal = (struct journal){.asked = asked, .file = file_opened(asked.path, &refused)};
+    *journal = (struct journal){.asked = asked, .file = file_opened(asked.path, &refused), .last = now};
     journal->mending.is_readable = refused != 0;
     struct past past = go_on(journal, handing, &is_new);
     if (past.has_last) {
