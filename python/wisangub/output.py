@@ -1,25 +1,25 @@
 """What a command says: its answers on standard output, and a log on standard error."""
 
-import logging
 import os
-import sys
 
 
-class _Standard(logging.Handler):
-    """Each message as a line of what standard error is then; one that cannot be written is let go."""
+class _Log:
+    """Lines on standard error, by the logger `wisangub`."""
 
-    def emit(self, record: logging.LogRecord) -> None:
-        try:
-            if sys.stderr is not None:
-                print(self.format(record), file=sys.stderr, flush=True)
-        except (OSError, ValueError):
-            pass
+    def info(self, words: str) -> None:
+        """Something that a user ought to know."""
+        from .standard_error import LOGGER
+
+        LOGGER.info(words)
+
+    def error(self, words: str) -> None:
+        """Why a command ends."""
+        from .standard_error import LOGGER
+
+        LOGGER.error(words)
 
 
-LOG = logging.getLogger("wisangub")
-LOG.setLevel(logging.INFO)
-LOG.propagate = False
-LOG.addHandler(_Standard())
+LOG = _Log()
 
 
 def print_line(words: str) -> None:

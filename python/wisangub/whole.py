@@ -4,36 +4,38 @@ import contextlib
 import os
 import pathlib
 import shutil
-from typing import TextIO
+from typing import BinaryIO
 
 _NEW = ".new"
 
 
 class WholeFile:
-    """A text that is written anew now and then. Who is killed, or loses power, leaves all of the last one that was
+    """A text, or octets, written anew now and then. Who is killed, or loses power, leaves all of the last one that was
     written. What is no file, such as a pipe, has one after the other. Raises OSError where none can be written."""
 
     def __init__(self, path: pathlib.Path) -> None:
         self._path = path.resolve()  # where the name is a link, that stays one
         self._beside = self._path.with_name(self._path.name + _NEW)
-        self._pipe: TextIO | None = None
+        self._pipe: BinaryIO | None = None
         if path.exists() and not path.is_file():
-            self._pipe = path.open("w", encoding="utf-8")
+            self._pipe = path.open("wb")
             return
         if self._path.exists():
             self._path.open("r+b").close()
         self._beside.open("wb").close()
         self._beside.unlink()
 
-    def write(self, text: str) -> None:
-        """This text, in the place of the one before. Raises OSError where it cannot be; then that one stands."""
+    def write(self, held: str | bytes) -> None:
+        """This text, as UTF-8, or these octets, in the place of those before. Raises OSError where they cannot be; then
+        those stand."""
+        octets = held.encode("utf-8") if isinstance(held, str) else held
         if self._pipe is not None:
-            self._pipe.write(text)
+            self._pipe.write(octets)
             self._pipe.flush()
             return
         try:
-            with self._beside.open("w", encoding="utf-8") as file:
-                file.write(text)
+            with self._beside.open("wb") as file:
+                file.write(octets)
                 file.flush()
                 os.fsync(file.fileno())
             if self._path.exists():

@@ -29,7 +29,7 @@ def asked_for(**others: object) -> argparse.Namespace:
     """Nothing beside a description, and these."""
     words: dict[str, object] = {"fast": "signd", "host": "127.0.0.1", "port": 1161, "sign": SIGN}
     words |= {"signtool": str(SIGNTOOL), "most_recorded": 50, "lose": 0, "page": None}
-    words |= dict.fromkeys(("journal", "objects", "down", "log"))
+    words |= dict.fromkeys(("journal", "keep", "archive", "objects", "down", "log"))
     words |= dict.fromkeys(("fresh", "json", "accept_damage", "need_journal", "no_ticks", "quiet"), False)
     return argparse.Namespace(**words | others)
 
@@ -68,10 +68,11 @@ def test_what_signd_lacks_is_said() -> None:
 
 def test_signd_is_handed_each_option(echo: str) -> None:
     words = ["--quiet", "--no-ticks", "--need-journal", "--accept-damage", "--most-recorded", "7", "--down", "power"]
-    words += ["--journal=-j", "--objects", "none.objects", "--listen", "[::1]:99", "--sign", SIGN]
+    words += ["--journal=-j", "--keep", "2k", "--archive", "kept", "--objects", "none.objects", "--listen", "[::1]:99"]
+    words += ["--sign", SIGN]
     status, printed, said = ran("--fast", echo, *words)
-    handed = "--host ::1 --port 99 --objects none.objects --journal -j --down power --most-recorded 7"
-    assert printed == f"{handed} --accept-damage --need-journal --no-ticks --quiet -- {SIGN}\n"
+    handed = "--host ::1 --port 99 --objects none.objects --journal -j --keep 2k --archive kept --down power"
+    assert printed == f"{handed} --most-recorded 7 --accept-damage --need-journal --no-ticks --quiet -- {SIGN}\n"
     assert status == 7 and said == f"--fast: {echo} goes on\n"
     assert call(asked_for(sign=None))[-1] == str(TOP / "signs/bench.sign")
 
@@ -135,10 +136,20 @@ def test_both_front_ends_print_and_answer_the_same(tmp_path: pathlib.Path) -> No
     slow, fast = served(*words), served("--fast", *words)
     assert fast[0] == slow[0] == ["localhost", f"accepted {BLANK.hex()}"] and fast[2] == slow[2]
     assert fast[1] == [f"--fast: {SIGND} goes on", *slow[1]]
-    journal = ["--journal", str(tmp_path / "kept"), "--sign", SIGN]
+
+
+@pytest.mark.skipif(not SIGND.is_file(), reason="examples/out/signd is not built")
+@pytest.mark.skipif(not SIGNTOOL.is_file(), reason="the program is not built")
+@pytest.mark.parametrize("more", ([], ["--keep", "1"]))
+def test_both_front_ends_go_on_from_each_others_journals(tmp_path: pathlib.Path, more: list[str]) -> None:
+    path = tmp_path / "kept"
+    journal = ["--journal", str(path), "--sign", SIGN, *more]
     turns: list[list[str]] = [["--fast"], [], ["--fast"], []]
-    replies = [served(*journal, *more)[2][0] for more in turns]
-    assert replies[1] == replies[2] == replies[3] == slow[2][2] != replies[0]
+    replies = []
+    for turn in turns:
+        replies.append(served(*journal, *turn)[2][0])
+        assert (b"\nstate 1 sign #2 " in path.read_bytes()) == bool(more)
+    assert replies[1] == replies[2] == replies[3] != replies[0]
 
 
 @pytest.mark.skipif(not SIGND.is_file(), reason="examples/out/signd is not built")

@@ -5,7 +5,6 @@ import os
 import pathlib
 import random
 import tempfile
-from dataclasses import replace
 from typing import Callable
 
 from wisangub.endpoint import records
@@ -77,7 +76,7 @@ def test_a_fresh_centre_begins_above_all_that_a_file_may_have_used() -> None:
         (octets.replace(b"first 40", b"first 10"), "is no journal"),
         (octets[:30], "is no journal"),
         (bytes(512), "is no journal"),
-        (records.records([replace(HEAD, form=2).line()]), "of a sign"),
+        (records.records([HEAD._replace(form=2).line()]), "of a sign"),
         (older([HEAD.line()]), "of a sign"),
         (records.records([Head("centre", "bench", 2**31 - 1, form=2).line(), *lines[1:]]), "no number of a request"),
     ):
@@ -88,13 +87,13 @@ def test_a_first_number_that_an_old_journal_may_have_used_is_refused() -> None:
     head = Head("centre", "bench", 40)
     with without_syncs(), tempfile.TemporaryDirectory() as folder:
         path = pathlib.Path(folder, "journal")
-        octets = records.records([replace(head, form=2).line(), *[b"tick"] * 50])
+        octets = records.records([head._replace(form=2).line(), *[b"tick"] * 50])
         above = 40 + len(octets) // 15
         for first, is_well in ((above - 1, False), (above, True)):
             path.write_bytes(octets)
             asked = argparse.Namespace(journal=str(path), fresh=True, need_journal=True, first=first)
             try:
-                journal = journal_of(asked, replace(head, first=first))
+                journal = journal_of(asked, head._replace(first=first))
             except Refusal as refused:
                 assert not is_well and f"may have used each number below {above}" in str(refused)
                 assert path.read_bytes() == octets
@@ -124,7 +123,7 @@ def test_a_centre_whose_journal_is_cut_again_and_again_uses_no_number_twice() ->
 
 def test_each_prefix_of_a_centres_journal_goes_on_with_its_number() -> None:
     head, lines = Head("centre", "bench", 40), [b"blank 1 2 3 127.0.0.1", b"tick", b"datagram 30"]
-    octets = records.records([replace(head, form=2).line(), *lines])
+    octets = records.records([head._replace(form=2).line(), *lines])
     with without_syncs(), tempfile.TemporaryDirectory() as folder:
         path = pathlib.Path(folder, "journal")
         for size in range(len(octets) + 1):

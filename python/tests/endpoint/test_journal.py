@@ -5,7 +5,6 @@ import functools
 import os
 import pathlib
 import tempfile
-from dataclasses import replace
 from typing import Callable, Iterator
 from unittest import mock
 
@@ -135,7 +134,7 @@ def test_what_is_cut_off_is_on_the_disk_before_it_is_cut() -> None:
 def test_a_damaged_journal_of_a_centre_is_refused_since_its_numbers_are_not_known() -> None:
     with tempfile.TemporaryDirectory() as folder:
         head = Head("centre", "bench", 5)
-        text = records.records([replace(head, form=2).line(), b"blank 1 2 3 127.0.0.1", b"tick", b"tick"])
+        text = records.records([head._replace(form=2).line(), b"blank 1 2 3 127.0.0.1", b"tick", b"tick"])
         pathlib.Path(folder, "journal").write_bytes(text[:-20] + b"!" + text[-19:])
         for accepts in (False, True):
             words = refused(lambda: Journal.opened(f"{folder}/journal", head, accepts))
@@ -144,7 +143,7 @@ def test_a_damaged_journal_of_a_centre_is_refused_since_its_numbers_are_not_know
 
 def test_a_line_that_no_end_knows_is_refused_by_name() -> None:
     with tempfile.TemporaryDirectory() as folder:
-        path, head = pathlib.Path(folder, "journal"), replace(HEAD, form=2).line()
+        path, head = pathlib.Path(folder, "journal"), HEAD._replace(form=2).line()
         unknown = (
             b"hello world",
             b"ticks 12x",
@@ -170,7 +169,7 @@ def test_a_journal_of_form_1_is_written_anew_and_kept_as_it_was() -> None:
             assert kept(str(path)) == [*LINES, b"ticks 3"]
             name = "journal.form1" + (f"-{at + 1}" if at else "")
             assert pathlib.Path(folder, name).read_bytes() == older(lines) + more
-            assert path.read_bytes() == records.records([replace(HEAD, form=2).line(), *lines[1:]])
+            assert path.read_bytes() == records.records([HEAD._replace(form=2).line(), *lines[1:]])
             assert path.stat().st_mode & 0o777 == 0o600
             assert kept(str(path)) == [*LINES, b"ticks 3"] and len(os.listdir(folder)) == 2 + at
 
@@ -225,7 +224,7 @@ def killed_at(text: bytes, name: str, at: int) -> bool:
         for file in map(int, os.listdir("/proc/self/fd")):  # a kill closes what is open
             if os.path.exists(f"/proc/self/fd/{file}") and os.readlink(f"/proc/self/fd/{file}").startswith(folder):
                 os.close(file)
-        anew = records.records([replace(HEAD, form=2).line(), NOW.start(), NOW.clock(), *LINES])
+        anew = records.records([HEAD._replace(form=2).line(), NOW.start(), NOW.clock(), *LINES])
         assert path.read_bytes() in (text, anew)
         assert kept(str(path)) == LINES
         asides = [one for one in os.listdir(folder) if one.startswith("journal.form1")]
@@ -255,7 +254,7 @@ def test_what_differs_is_named() -> None:
     ]
     with tempfile.TemporaryDirectory() as folder:
         path = pathlib.Path(folder, "journal")
-        path.write_bytes(records.records([replace(HEAD, form=3).line()]))
+        path.write_bytes(records.records([HEAD._replace(form=3).line()]))
         assert "its form is 3, and this front end's 2" in refused(lambda: kept(str(path)))
         path.unlink()
         made(str(path))

@@ -2,7 +2,6 @@
 
 import random
 import re
-from dataclasses import replace
 
 from wisangub.endpoint import reading, records
 from wisangub.endpoint.records import Head
@@ -19,7 +18,7 @@ def written(chance: random.Random, form: int) -> tuple[bytes, list[bytes]]:
     for _ in range(chance.randrange(25)):
         more = b"datagram " + chance.randbytes(chance.randint(1, 200)).hex().encode()
         lines += chance.choice([[b"ticks 7", b"heard"], [more], [more, b"ticks 3"], [b"clock 1795543690 9"]])
-    head = replace(HEAD, form=form).line()
+    head = HEAD._replace(form=form).line()
     text = older([head, *lines]) if form == 1 else b""
     number = since = 1
     left = [] if form == 1 else [head, *lines]

@@ -5,8 +5,8 @@ from wisangub.endpoint.sockets import host_and_port, named
 from wisangub.endpoint.texts import ended, published
 from wisangub.refusal import Refusal
 from wisangub.snmp.datagrams import fields_of
+from wisangub.snmp.gets import is_get
 from wisangub.snmp.mib import Mib
-from wisangub.snmp.wire import is_get
 from wisangub.tester.requests import hostile_datagrams
 
 ADDRESSES = [

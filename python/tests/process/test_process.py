@@ -1,5 +1,6 @@
 """A co-process: small pipes, another program, what is read of a socket and of an operator."""
 
+import contextlib
 import fcntl
 import os
 import select
@@ -9,7 +10,7 @@ from typing import Any
 
 from model import wire
 from wisangub.endpoint import commands
-from wisangub.endpoint.sockets import MOST_FAULTS, received
+from wisangub.endpoint.sockets import MOST_FAULTS, readable, received
 from wisangub.process.coprocess import CoProcess
 from wisangub.process.places import TOP
 from wisangub.refusal import Refusal
@@ -81,6 +82,16 @@ def test_a_machine_that_is_off_is_no_datagram() -> None:
     with socket.socket(socket.AF_INET, socket.SOCK_DGRAM) as udp_socket:
         udp_socket.bind(("127.0.0.1", 0))
         assert received(udp_socket) is None
+
+
+def test_sockets_at_which_something_waits() -> None:
+    with contextlib.ExitStack() as stack:
+        held = [stack.enter_context(socket.socket(socket.AF_INET, socket.SOCK_DGRAM)) for _ in range(3)]
+        for one in held:
+            one.bind(("127.0.0.1", 0))
+        assert readable([]) == set() and readable(held) == set()
+        held[0].sendto(b"30", held[1].getsockname())
+        assert readable(held) == {held[1].fileno()}
 
 
 class Always:

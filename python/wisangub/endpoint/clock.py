@@ -1,12 +1,11 @@
 """Which time it is, and what the time without a process was."""
 
-import pathlib
 import time
-from dataclasses import dataclass
+from typing import NamedTuple
 
 from wisangub.refusal import Refusal
 
-BOOT = pathlib.Path("/proc/sys/kernel/random/boot_id")
+BOOT = "/proc/sys/kernel/random/boot_id"
 MOST_MADE_UP = 86_400  # seconds that are made up by ticks after a process died
 MOST_SECONDS = 2**32 - 1  # of a loss of power: longer than any that a sign takes for a short one
 SET = 1_577_836_800  # the wall clock at the begin of 2020: one that says less was never set
@@ -17,8 +16,7 @@ def running() -> float:
     return time.clock_gettime(time.CLOCK_BOOTTIME)
 
 
-@dataclass(frozen=True)
-class Moment:
+class Moment(NamedTuple):
     """A boot of the machine by its kernel's id, the wall clock in seconds since 1970, and the seconds since that
     boot."""
 
@@ -42,7 +40,8 @@ class Moment:
     def at(up: float) -> "Moment":
         """The moment of so many seconds since the boot."""
         try:
-            boot = BOOT.read_text(encoding="ascii").strip() or "-"
+            with open(BOOT, encoding="ascii") as file:
+                boot = file.read().strip() or "-"
         except (OSError, ValueError):
             boot = "-"
         return Moment(boot, max(0, int(time.time() - running() + up)), int(up))

@@ -7,18 +7,19 @@ import subprocess
 from wisangub import __version__
 from wisangub.output import LOG
 from wisangub.process import description
-from wisangub.process.places import SIGNTOOL, TOP
+from wisangub.process.stands import file_of, signtool
 
 MOST_RECORDED = 1_000_000  # of a second, that signd takes
 _PATIENCE = 10.0  # seconds that signd may take to say its version
-_NAMED = ("host", "port", "objects", "journal", "down", "most_recorded")  # options with a word, as signd has them
+# options with a word, as signd has them
+_NAMED = ("host", "port", "objects", "journal", "keep", "archive", "down", "most_recorded")
 _BARE = ("accept_damage", "need_journal", "no_ticks", "quiet")
 
 
 def lacks(asked: argparse.Namespace) -> str:
     """What is asked for that signd has not, in words; nothing where it has all."""
     others = {
-        "--signtool": asked.signtool != str(SIGNTOOL),
+        "--signtool": asked.signtool != signtool(),
         "--fresh": asked.fresh,
         "--page": asked.page is not None,
         "--lose": asked.lose,
@@ -46,7 +47,7 @@ def call(asked: argparse.Namespace) -> list[str]:
         if (value := getattr(asked, name)) is not None:
             words += [f"--{name.replace('_', '-')}", str(value)]
     words += [f"--{name.replace('_', '-')}" for name in _BARE if getattr(asked, name)]
-    return [*words, "--", asked.sign or str(TOP / "signs/bench.sign")]
+    return [*words, "--", asked.sign or file_of("signs/bench.sign")]
 
 
 def hand_over(asked: argparse.Namespace) -> None:

@@ -1,5 +1,6 @@
 """Files of a front end's own: one front end a file, mode 0600, and names that outlive a crash."""
 
+import contextlib
 import errno
 import fcntl
 import os
@@ -93,19 +94,27 @@ def cut(file: int, size: int, path: str) -> None:
         raise Refusal(f"{path}: {reason(fault)}: what is on the disk is not known", 1) from fault
 
 
-def synced_folder(path: str) -> None:
-    """The names in the file's folder are on the disk."""
+def folder_of(path: str) -> int:
+    """The folder of a file, open to be synced."""
     try:
-        folder = os.open(os.path.dirname(os.path.realpath(path)), os.O_RDONLY | os.O_DIRECTORY | os.O_CLOEXEC)
-        try:
-            os.fsync(folder)
-        finally:
-            os.close(folder)
+        return os.open(os.path.dirname(os.path.realpath(path)), os.O_RDONLY | os.O_DIRECTORY | os.O_CLOEXEC)
     except OSError as fault:
         raise refusal(fault, f"the folder of {path}", 1) from fault
 
 
-def _dated() -> str:
+def synced_folder(path: str) -> None:
+    """The names in the file's folder are on the disk."""
+    folder = folder_of(path)
+    try:
+        os.fsync(folder)
+    except OSError as fault:
+        raise refusal(fault, f"the folder of {path}", 1) from fault
+    finally:
+        os.close(folder)
+
+
+def dated() -> str:
+    """This moment, in a file's name."""
     return time.strftime("%Y-%m-%dT%H%M%S")
 
 
@@ -129,7 +138,7 @@ def kept_aside(file: int, begin: int, end: int, path: str) -> str:
     """A new file beside this one that has some of its octets, on the disk: its name."""
     name = ""
     try:
-        name = _free(f"{path}{_CUT}{_dated()}")
+        name = _free(f"{path}{_CUT}{dated()}")
         made = os.open(name, os.O_WRONLY | os.O_CREAT | os.O_EXCL | os.O_CLOEXEC, MODE)
         try:
             copied(file, begin, end, made)
@@ -154,30 +163,38 @@ def octets_aside(path: str) -> int:
 def put_aside(path: str, begin: Callable[[int], None]) -> tuple[int, str]:
     """A new file, begun, in the place of the one of this name, which is kept under another. At each moment there is a
     file of this name, so that a centre's numbers are never begun again."""
-    return replaced(path, _free(f"{path}.{_dated()}"), begin)
+    aside = _free(f"{path}.{dated()}")
+    return replaced(path, begin, lambda: _kept_as(path, aside)), aside
 
 
 def written_anew(path: str, begin: Callable[[int], None]) -> tuple[int, str]:
     """The same for a journal of form 1, which is kept as it was; where that has such a name already it has no other."""
     aside = path + _OLDER
     is_kept = os.path.lexists(aside) and os.path.samestat(os.lstat(aside), os.stat(path))
-    return replaced(path, aside if is_kept else _free(aside), begin)
+    aside = aside if is_kept else _free(aside)
+    return replaced(path, begin, lambda: _kept_as(path, aside)), aside
 
 
-def replaced(path: str, aside: str, begin: Callable[[int], None]) -> tuple[int, str]:
-    """The new file, and the name under which the old one is kept, which stays in its place where the disk refuses. The
-    folder is not synced yet."""
+def _kept_as(path: str, aside: str) -> None:
+    if not os.path.lexists(aside):
+        os.link(path, aside)
+
+
+def replaced(path: str, begin: Callable[[int], None], keep: Callable[[], object]) -> int:
+    """A new file, begun, in the place of the old one, which is kept before and stays where the disk refuses. The folder
+    is not synced yet."""
     made, file = path + NEW, -1
     try:
         if os.path.lexists(made):
             os.unlink(made)
         file = opened(made)
         begin(file)
-        if not os.path.lexists(aside):
-            os.link(path, aside)
+        keep()
         os.rename(made, path)
     except (OSError, Refusal) as fault:
         if file >= 0:
             os.close(file)
+            with contextlib.suppress(OSError):
+                os.unlink(made)
         raise NotKept(str(fault) if isinstance(fault, Refusal) else reason(fault), 2) from fault
-    return file, aside
+    return file

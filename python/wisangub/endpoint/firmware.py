@@ -6,9 +6,10 @@ from __future__ import annotations
 import signal
 import time
 from collections.abc import Callable
+from dataclasses import replace
 from typing import Any
 
-from wisangub.objects.lines import Object, dotted
+from wisangub.objects.lines import Object, dotted, name_of, object_of
 from wisangub.objects.listed import Listed, at_line, read, refused_by
 from wisangub.output import LOG, print_line
 from wisangub.process.coprocess import CoProcess
@@ -17,6 +18,7 @@ from wisangub.snmp import wire
 
 from .clock import running
 from .log import Log
+from .states import Sets
 
 _NO_LINE = "the program has no line `%s`, which --objects needs"
 _SET = b"set "
@@ -24,10 +26,13 @@ _SET = b"set "
 
 class Firmware:
     """The objects of a file, of which the front end has a sign. `trial` begins another process of the sign, which is
-    asked whether it takes the objects of a file that is read again."""
+    asked whether it takes the objects of a file that is read again. `sets` are the values that managers set last, which
+    a journal keeps where it is shortened."""
 
     def __init__(self, path: str, trial: Callable[[], CoProcess], log: Log | None, is_quiet: bool) -> None:
         self.listed, self.trial, self.log, self.is_quiet = read(path), trial, log, is_quiet
+        self.sets: Sets = {}
+        self.before: Sets = {}  # of these, what a new process has again
         self.begun = self.told = running()
         self.is_to_read = False
         again: Callable[..., None] = self.again
@@ -42,8 +47,16 @@ class Firmware:
         return running() - self.begun, time.time()
 
     def publish(self, sign: CoProcess) -> None:
-        """Hands all over to a new process; raises Refusal where it does not take it whole."""
+        """Hands all over to a new process; raises Refusal where it does not take it whole. Objects that may be set as
+        managers set them before the journal was shortened are so again."""
         _publish_all(sign, self.listed, self.listed.published(*self.moment()))
+        for name, value in self.sets.items():
+            one = object_of([name.decode(), *value.decode().split(" ")])
+            there = self.listed.objects.get(one.name)
+            if there is None or there.access is None or not there.access.takes(one.value):
+                continue
+            _publish(sign, self.listed, [replace(there, value=one.value)])
+            self.before[name] = value
 
     def keep_time(self, sign: CoProcess) -> None:
         """The times are those of now, to a second: what is handed over next may ask for them."""
@@ -90,14 +103,17 @@ class Firmware:
         self.event("objects", {"published": len(some), "withdrawn": len(gone)})
 
     def tell(self, sign: CoProcess) -> None:
-        """Tells what managers set since this was last asked."""
+        """Tells what managers set since this was last asked; at first what they set since the journal began."""
+        told, self.before = self.before, {}
         for answer in sign.ask(b"objects"):
             if answer.startswith(_SET):
-                words = answer.decode("latin-1")
-                name, _, value = words.removeprefix("set ").partition(" ")
-                if not self.is_quiet:
-                    print_line(words)
-                self.event("set", {"object": name, "value": value})
+                name, _, value = answer.removeprefix(_SET).partition(b" ")
+                told[name] = self.sets[name] = value
+        for name in sorted(told, key=lambda one: name_of(one.decode())):
+            words = {"object": name.decode(), "value": told[name].decode()}
+            if not self.is_quiet:
+                print_line(f"set {words['object']} {words['value']}")
+            self.event("set", {**words})
 
     def event(self, event: str, fields: dict[str, object]) -> None:
         """An event of the log."""

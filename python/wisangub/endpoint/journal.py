@@ -2,25 +2,26 @@
 
 import mmap
 import os
-from dataclasses import replace
-from typing import Iterator
+from typing import Callable, Iterator
 
 from wisangub.output import LOG
 from wisangub.refusal import Refusal, reason
 
-from . import older, reading
+from . import older, reading, states
 from .clock import Moment
 from .files import (
     NEW,
     WRITTEN,
     NotKept,
     cut,
+    folder_of,
     kept_aside,
     opened,
     opened_to_read,
     own,
     put_aside,
     refusal,
+    replaced,
     stands,
     synced_folder,
     written_anew,
@@ -28,6 +29,7 @@ from .files import (
 from .owed import MOST_EXACT, Owed
 from .reading import Found
 from .records import FORM, Head, records
+from .states import Sets
 
 
 class Journal:
@@ -36,9 +38,11 @@ class Journal:
     it is not ready until then."""
 
     def __init__(self, path: str, head: Head) -> None:
-        self.path, self.head = path, replace(head, form=FORM)
+        self.path, self.head = path, head._replace(form=FORM)
         self.file, self.is_written = -1, False  # whether it is open to be written
         self.size, self.number, self.since = 0, 1, 1  # octets, the next record's number, the first that is not synced
+        self.base = 0  # octets that were written with a state
+        self.sets: Sets = {}  # what managers set of objects before that state, and since
         self.found: Found | None = None
         self.last: Moment | None = None  # of the last record
         self.owed = Owed()
@@ -103,14 +107,19 @@ class Journal:
         found = reading.read(self.path, self.text(), self.head, accepts)
         self.found = found
         if found is not None:
-            self.head = replace(found.head, form=FORM)
+            self.head = found.head._replace(form=FORM)
             self.size, self.number, self.since, self.last = found.size, found.number, found.since, found.last
+            self.base, self.sets = found.base, dict(found.sets)
+
+    def state(self) -> list[bytes]:
+        """The lines of the state that the file began with as it was read; none where it began with none."""
+        return [*self.found.state] if self.found else []
 
     def lines(self) -> Iterator[list[bytes]]:
         """The lines that were handed over, many at a time."""
         if self.found is None:
             return iter(())
-        return replace(self.found, size=self.size).lines(self.text())
+        return self.found._replace(size=self.size).lines(self.text())
 
     def prepare(self) -> None:
         """What is to be done with the file before the next record."""
@@ -123,7 +132,7 @@ class Journal:
             self.write_anew(self.found)
         elif self.size < self.found.length:
             self.cut_off(self.size, self.found.length)
-            self.found.length = self.size
+            self.found = self.found._replace(length=self.size)
         synced_folder(self.path)  # whoever made the file, or renamed it, may have been killed before this
         self.is_ready = True
 
@@ -169,7 +178,7 @@ class Journal:
         self.close()
         self.file, self.is_written = file, True
         self.size, self.number, self.since = os.fstat(file).st_size, made[0], made[0]
-        self.found = replace(found, head=self.head, size=self.size, length=self.size, number=self.number)
+        self.found = found._replace(head=self.head, size=self.size, length=self.size, number=self.number)
         more = found.length - found.size
         also = f", alone with {more} octets that were not finished" if more else ""
         LOG.info(f"{self.path}: written anew in form {FORM}; as it was it is kept as {aside}{also}")
@@ -185,6 +194,38 @@ class Journal:
             number += len(lines)
         os.fsync(file)
         return number
+
+    def exchange(self, state: list[bytes], keep: Callable[[], object]) -> None:
+        """Another file is in force from here on, which begins with the state in which the records left the sign; the
+        old one is kept before. Where the disk refuses it stays as it is: NotKept."""
+        if not stands(self.file, self.path, self.size):
+            raise Refusal(f"{self.path}: another hand moved or changed it", 1)
+        _, last = reading.started(self.text(), self.size)
+        if last is None:
+            raise NotKept(f"{self.path}: no record of it tells the time", 1)
+        lines = [self.head.line(), *states.written(state, self.sets, last)]
+        octets = records(lines)
+
+        def begun(file: int) -> None:
+            """The new file is on the disk."""
+            written(file, octets)
+            os.fsync(file)
+
+        try:
+            folder = folder_of(self.path)
+        except Refusal as fault:
+            raise NotKept(str(fault), 1) from fault
+        try:
+            self.take(replaced(self.path, begun, keep), len(octets), len(lines) + 1)
+            _sync(folder, f"the folder of {self.path}", os.fsync)
+        finally:
+            os.close(folder)
+
+    def take(self, file: int, size: int, number: int) -> None:
+        """Goes on in this file, of so many octets, which are on the disk; the next record has this number."""
+        self.close()
+        self.file, self.is_written = file, True
+        self.size, self.base, self.number, self.since = size, size, number, number
 
     def keep(self, lines: list[bytes]) -> None:
         """These lines are on the disk after it, and what was owed before them; raises NotKept where they are not."""
@@ -234,7 +275,7 @@ class Journal:
             cut(self.file, self.size, self.path)
             raise NotKept(f"{self.path}: {reason(fault)}", 1) from fault
         if synced:
-            _sync(self.file, self.path)
+            _sync(self.file, self.path, os.fdatasync)
         self.size, self.number = self.size + len(octets), self.number + len(lines)
         self.since = self.number if synced else self.since
         if not stands(self.file, self.path, self.size):
@@ -262,9 +303,9 @@ def written(file: int, octets: bytes) -> None:
         done += os.write(file, octets[done:])
 
 
-def _sync(file: int, path: str) -> None:
+def _sync(file: int, path: str, sync: Callable[[int], None]) -> None:
     """What was written is on the disk; a failure ends the front end, since what is there is not known."""
     try:
-        os.fdatasync(file)
+        sync(file)
     except OSError as fault:
         raise Refusal(f"{path}: {reason(fault)}: what is on the disk is not known", 1) from fault

@@ -61,6 +61,11 @@ class Keeper:
             self.journal.owed.ticks(self.seconds)
         self.seconds = 0
 
+    def is_paid(self) -> bool:
+        """Whether the records have all that was handed over."""
+        self.count()
+        return self.journal.is_paid()
+
     def keep(self, lines: list[bytes]) -> bool:
         """Whether these lines are on the disk, and so may be handed over."""
         self.count()

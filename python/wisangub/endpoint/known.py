@@ -2,22 +2,34 @@
 front end of a later form."""
 
 import re
+from binascii import unhexlify
 from typing import Callable
 
 _MOST_NUMBER = 2**32 - 1
 _MOST_LINE = 65_536
+_DATAGRAM_WORD = b"datagram "
 _DATAGRAM = rb"datagram (?:-|(?:[0-9a-fA-F]{2})+)"
 _LARGE = rb"([0-9]{1,10})"
-SIGN = re.compile(
-    rb"%b|tick|heard|power-lost|ticks %b|power-back %b|start [!-~]+ [0-9]+ -?[0-9]+|clock [0-9]+ -?[0-9]+"
-    % (_DATAGRAM, _LARGE, _LARGE)
+_SIGN = re.compile(  # but for datagrams
+    rb"tick|heard|power-lost|ticks %b|power-back %b|start [!-~]+ [0-9]+ -?[0-9]+|clock [0-9]+ -?[0-9]+"
+    % (_LARGE, _LARGE)
 )
 _CENTRE = re.compile(rb"%b|tick|restart|(?:publish|blank|activate)(?: .*)?" % _DATAGRAM, re.DOTALL)
 
 
+def _are_octets(digits: bytes) -> bool:
+    """Whether these are a datagram's octets, or `-` for none. Of a long journal most lines are looked at here."""
+    try:
+        return digits == b"-" or len(unhexlify(digits)) > 0
+    except ValueError:
+        return False
+
+
 def of_sign(line: bytes) -> bool:
     """Whether a sign's journal may have this line behind its first."""
-    found = SIGN.fullmatch(line)
+    if line.startswith(_DATAGRAM_WORD):
+        return _are_octets(line[len(_DATAGRAM_WORD) :]) and len(line) <= _MOST_LINE
+    found = _SIGN.fullmatch(line)
     number = found[1] or found[2] if found else None
     return found is not None and len(line) <= _MOST_LINE and (number is None or int(number) <= _MOST_NUMBER)
 

@@ -1,24 +1,25 @@
 """What a journal's file has: whose it is, how far it is whole, and the moment of its last record."""
 
-from dataclasses import dataclass, replace
-from typing import Iterator
+from typing import Iterator, NamedTuple
 
 from wisangub.refusal import Refusal
 
-from . import damage, known, older, records
+from . import damage, known, older, records, states
 from .clock import Moment
 from .damage import End
 from .records import FORM, SECTOR, Extent, Head, Octets, Unknown
+from .states import Begun, NotWhole, OtherState
 
 _ANEW = "--fresh begins anew"
 _ACCEPT = "--accept-damage goes on once from there, and puts the rest aside"
 _ABOVE = "--fresh begins above all numbers that it may have used"
+_SHORT = 1 << 22  # octets of a file whose lines are kept as it is read, so that they are not looked for again
 
 
-@dataclass
-class Found:
+class Found(NamedTuple):
     """`size` octets of `length` are kept, of records up to the one before `number`; `since` is the SINCE of the last.
-    `last` is the moment of the last record, its seconds since the clock counted in."""
+    `last` is the moment of the last record, its seconds since the clock counted in. A journal that was shortened has
+    the lines of a state, the values of objects, and `base` octets that were written with it."""
 
     head: Head
     length: int
@@ -26,12 +27,19 @@ class Found:
     number: int
     since: int
     last: Moment | None
+    state: tuple[bytes, ...] = ()
+    sets: tuple[tuple[bytes, bytes], ...] = ()
+    base: int = 0
+    behind: int = 0  # the octet behind a state
+    taken: tuple[int, list[bytes]] = (-1, [])  # the lines that are handed over of a file of so many octets
 
     def lines(self, text: Octets) -> Iterator[list[bytes]]:
-        """The lines that were handed over, many at a time."""
+        """The lines that are handed over behind a state, many at a time."""
+        if self.taken[0] == self.size:
+            return iter([self.taken[1]])
         if self.head.form != FORM:
             return older.lines_of(text, self.size)
-        return records.lines_of(text, text.find(b"\n", 0, self.size) + 1, self.size)
+        return records.lines_of(text, self.behind or text.find(b"\n", 0, self.size) + 1, self.size)
 
 
 def read(path: str, text: Octets, wanted: Head, accepts: bool) -> Found | None:
@@ -41,16 +49,24 @@ def read(path: str, text: Octets, wanted: Head, accepts: bool) -> Found | None:
     if first is None and _is_begun(text, wanted):
         return None
     head = _compared(path, first, wanted)
-    extent = _extent_of(path, text, head)
+    begun = _begun(path, text, head)
+    lines = list[bytes]()
+    extent = _extent_of(path, text, head, begun, lines if len(text) <= _SHORT else None)
     end = damage.end_of(text, extent) if head.form == FORM else damage.end_of_older(text, extent.size)
     if end is End.DAMAGED and (not accepts or head.end == "centre"):
         how = _ABOVE if head.end == "centre" else _ACCEPT
         raise Refusal(
             f"{path}: damaged at octet {extent.size}: what stands there is no record as a front end wrote it ({how})"
         )
-    kept, last = _started(text, extent.size)
+    kept, last = started(text, extent.size)
     number = records.number_at(text, kept) if kept < extent.size and head.form == FORM else extent.number
-    return Found(head, len(text), kept, number, min(extent.since, number), last)
+    found = Found(head, len(text), kept, number, min(extent.since, number), last)
+    if lines:
+        found = found._replace(taken=(extent.size, [line for line in lines if not line.startswith(records.OWN)]))
+    if begun is None:
+        return found
+    sets = tuple(begun.sets.items())
+    return found._replace(state=tuple(begun.lines), sets=sets, base=begun.size, behind=begun.before.size)
 
 
 def first_of(text: Octets) -> bytes | None:
@@ -65,7 +81,7 @@ def first_of(text: Octets) -> bytes | None:
 def _is_begun(text: Octets, wanted: Head) -> bool:
     """Whether a file without a whole record is what a front end leaves that was killed at the first one."""
     octets = text[:SECTOR].rstrip(b"\0")
-    begun = [records.record(replace(wanted, form=FORM).line(), 1, 1), replace(wanted, form=1).line() + b" #"]
+    begun = [records.record(wanted._replace(form=FORM).line(), 1, 1), wanted._replace(form=1).line() + b" #"]
     is_like = begun[0].startswith(octets) or begun[1].startswith(octets) or octets.startswith(begun[1])
     return len(text) < SECTOR and b"\n" not in octets and len(octets) < len(begun[0]) and is_like
 
@@ -88,22 +104,43 @@ def _compared(path: str, first: bytes | None, wanted: Head) -> Head:
     return found
 
 
-def _extent_of(path: str, text: Octets, head: Head) -> Extent:
-    """How far the file is whole; a whole record with a line that its end does not know is refused by name."""
+def _begun(path: str, text: Octets, head: Head) -> Begun | None:
+    """The state that a sign's journal begins with. It was whole when the file got its name: where it is not so now
+    nothing tells what the sign was."""
+    if head.form != FORM or head.end != "sign":
+        return None
+    try:
+        return states.read(text)
+    except OtherState as other:
+        ours = states.FIRST.decode()
+        raise Refusal(f"{path}: it begins with {str(other)!r}, and this front end knows {ours!r} ({_ANEW})") from None
+    except NotWhole as fault:
+        raise Refusal(f"{path}: damaged at octet {fault.at}: the state there is not whole ({_ANEW})") from None
+    except Unknown as fault:
+        raise _unknown(path, head, fault) from fault
+
+
+def _unknown(path: str, head: Head, fault: Unknown) -> Refusal:
+    return Refusal(f"{path}: {fault}: no {head.end} knows this line ({_ANEW})")
+
+
+def _extent_of(path: str, text: Octets, head: Head, begun: Begun | None, lines: list[bytes] | None) -> Extent:
+    """How far the file is whole; a whole record with a line that its end does not know is refused by name. The lines of
+    one of this form go to `lines`."""
     is_known = known.of(head.end)
     try:
         if head.form == FORM:
-            return records.whole(text, is_known)
+            return records.whole(text, is_known, begun.before if begun else Extent(), lines)
         size, number, at = older.whole(text), 1, 0
-        for lines in older.every_line(text, size):
-            records.look(at, number, lines, is_known, older.SUMMED + 1)
-            at, number = at + sum(map(len, lines)) + (older.SUMMED + 1) * len(lines), number + len(lines)
+        for some in older.every_line(text, size):
+            records.look(at, number, some, is_known, older.SUMMED + 1)
+            at, number = at + sum(map(len, some)) + (older.SUMMED + 1) * len(some), number + len(some)
         return Extent(size, number, number)
     except Unknown as fault:
-        raise Refusal(f"{path}: {fault}: no {head.end} knows this line ({_ANEW})") from fault
+        raise _unknown(path, head, fault) from fault
 
 
-def _started(text: Octets, size: int) -> tuple[int, Moment | None]:
+def started(text: Octets, size: int) -> tuple[int, Moment | None]:
     """The length of the records up to a start that was not finished, and the moment of the last of them."""
     start = text.rfind(b"\nstart ", 0, size) + 1
     while (clock := text.rfind(b"\nclock ", 0, size) + 1) < start:

@@ -1,8 +1,7 @@
 """The form of a journal: records with a number and a sum of their own, and how far a file is whole."""
 
 import zlib
-from dataclasses import dataclass
-from typing import Callable, Iterator, Protocol
+from typing import Callable, Iterator, NamedTuple, Protocol
 
 FORM = 2  # that is written; form 1 is read too
 RULES = 1  # the rules' number of docs/PROFILE.md: it goes up only where an answer of the sign or the centre changes
@@ -11,7 +10,7 @@ CHUNK = 1 << 20
 SECTOR = 512
 _MOST_DIGITS = 20  # of a number of the first record
 SHORTEST = 15  # octets of the shortest record that is handed over, `tick` of form 1; in form 2 it has 19
-OWN = (b"journal ", b"start ", b"clock ")  # records of the front end's own; all others are lines that are handed over
+OWN = (b"journal ", b"start ", b"clock ")  # records of the front end's own; all others behind a state are handed over
 
 
 class Octets(Protocol):
@@ -30,8 +29,7 @@ class Octets(Protocol):
         ...
 
 
-@dataclass(frozen=True)
-class Extent:
+class Extent(NamedTuple):
     """How far a file is whole: the octets of its whole records, the number of the next one, and the SINCE of the
     last."""
 
@@ -71,40 +69,63 @@ def parts_of(octets: bytes, number: int) -> tuple[bytes, int] | None:
     return found[0], int(digits)
 
 
-def whole(text: Octets, is_known: Callable[[bytes], bool] | None = None) -> Extent:
-    """How far a file is whole. A whole record with a line that is not known, where it is asked, is Unknown."""
-    found = Extent()
+def whole(
+    text: Octets,
+    is_known: Callable[[bytes], bool] | None = None,
+    before: Extent = Extent(),
+    lines: list[bytes] | None = None,
+) -> Extent:
+    """How far a file is whole, which is so up to `before`. A whole record with a line that is not known, where it is
+    asked, is Unknown. With `lines` the lines are put there."""
+    found = before
     while found.size < len(text) and (end := text.rfind(b"\n", found.size, found.size + CHUNK) + 1):
-        found = _whole_ones(text[found.size : end - 1].split(b"\n"), found, is_known)
+        some = text[found.size : end - 1].split(b"\n")
+        found = _whole_ones(some, found, is_known, [] if lines is None else lines)
         if found.size < end:
             break
     return found
 
 
-def _whole_ones(some: list[bytes], before: Extent, is_known: Callable[[bytes], bool] | None) -> Extent:
-    """How far a file is whole that goes on with these records, without their newlines. Most records have the SINCE of
-    the one before, or their own number."""
-    at, number, since = before.size, before.number, before.since
-    last = since
-    seen: set[bytes] = set()
+def _whole_ones(
+    some: list[bytes], before: Extent, is_known: Callable[[bytes], bool] | None, lines: list[bytes]
+) -> Extent:
+    """How far a file is whole that goes on with these records, without their newlines, and their lines. Most records
+    have the SINCE of the one before: a start over a long journal is mostly this loop."""
+    number, since, begin = before.number, before.since, len(lines)
+    crc32, add = zlib.crc32, lines.append
     for octets in some:
-        total = zlib.crc32(octets[:-SUM])
+        total = crc32(octets[:-SUM])
         tail = b" #%d %d %08x" % (number, since, total)
         if not octets.endswith(tail):
-            tail, since = b" #%d %d %08x" % (number, number, total), number
-        if not octets.endswith(tail):
-            parts = parts_of(octets, number)
-            if parts is None:
-                return Extent(at, number, last)
-            since, tail = parts[1], octets[len(parts[0]) :]
-        line = octets[: -len(tail)]
-        if line not in seen:
-            if is_known and number > 1 and not is_known(line):
-                raise Unknown(at, number, line)
-            seen.add(line)
-        last = since
-        at, number = at + len(octets) + 1, number + 1
-    return Extent(at, number, last)
+            other = _tail_of(octets, number, total)
+            if other is None:
+                break
+            since, tail = other
+        add(octets[: -len(tail)])
+        number += 1
+    whole_ones = some[: number - before.number]
+    if is_known:
+        _look_at_lines(whole_ones, lines[begin:], before, is_known)
+    return Extent(before.size + sum(map(len, whole_ones)) + len(whole_ones), number, since)
+
+
+def _tail_of(octets: bytes, number: int, total: int) -> tuple[int, bytes] | None:
+    """The SINCE of a record of this number, mostly its own, and what stands behind its line; None where it is none."""
+    tail = b" #%d %d %08x" % (number, number, total)
+    if octets.endswith(tail):
+        return number, tail
+    parts = parts_of(octets, number)
+    return (parts[1], octets[len(parts[0]) :]) if parts else None
+
+
+def _look_at_lines(some: list[bytes], lines: list[bytes], before: Extent, is_known: Callable[[bytes], bool]) -> None:
+    """Raises Unknown for the first of these records whose line is not known, but for a file's first record."""
+    unknown = {line for line in {*lines} if not is_known(line)}
+    at = before.size
+    for number, (octets, line) in enumerate(zip(some, lines) if unknown else (), before.number):
+        if number > 1 and line in unknown:
+            raise Unknown(at, number, line)
+        at += len(octets) + 1
 
 
 def look(at: int, number: int, lines: list[bytes], is_known: Callable[[bytes], bool], more: int) -> None:
@@ -134,8 +155,7 @@ def lines_of(text: Octets, at: int, size: int) -> Iterator[list[bytes]]:
         at = end
 
 
-@dataclass(frozen=True)
-class Head:
+class Head(NamedTuple):
     """The first record: what the journal is of. `first` is the number that a centre began with. Of lines that are kept
     otherwise than in a file, in a database, the form is 1."""
 

@@ -1,21 +1,26 @@
 """What both front ends do on their way: options, a journal of a description, and a co-process that is where the
 journal left it."""
 
+from __future__ import annotations
+
 import argparse
-import dataclasses
 import os
 from collections.abc import Callable
+from typing import TYPE_CHECKING
 
+from wisangub import __version__
 from wisangub.output import LOG
 from wisangub.process.coprocess import CoProcess
-from wisangub.process.places import SIGNTOOL, add_version
+from wisangub.process.stands import signtool
 from wisangub.refusal import Refusal
 
 from .files import octets_aside, opened
 from .journal import Journal
-from .log import Log
 from .reading import first_of
 from .records import SECTOR, SHORTEST, Head
+
+if TYPE_CHECKING:
+    from .log import Log
 
 MOST_NUMBER = 2**31 - 1  # of a request
 
@@ -23,8 +28,9 @@ MOST_NUMBER = 2**31 - 1  # of a request
 def options(about: str | None, command: str) -> argparse.ArgumentParser:
     """The options that both front ends have."""
     parser = argparse.ArgumentParser(description=about, formatter_class=argparse.RawDescriptionHelpFormatter)
-    add_version(parser, command)
-    parser.add_argument("--signtool", default=str(SIGNTOOL), metavar="PATH", help="the program that answers lines")
+    version = f"{command} {__version__}"
+    parser.add_argument("--version", action="version", version=version, help="the command's name and version")
+    parser.add_argument("--signtool", default=signtool(), metavar="PATH", help="the program that answers lines")
     parser.add_argument("--sign", metavar="FILE", help="the description of the sign, as in signs/; else the bench sign")
     parser.add_argument(
         "--journal", metavar="FILE", help="what is handed over is kept here, over the end of the process"
@@ -38,7 +44,7 @@ def options(about: str | None, command: str) -> argparse.ArgumentParser:
 
 def checked(asked: argparse.Namespace) -> None:
     """Refuses names without a character, and options that go with none that is there."""
-    for name in ("signtool", "sign", "objects", "journal", "log", "host", "fast"):
+    for name in ("signtool", "sign", "objects", "journal", "keep", "archive", "log", "host", "fast"):
         if getattr(asked, name, None) == "":
             raise Refusal(f"--{name} has no name")
     for option in ("fresh", "accept-damage", "need-journal"):
@@ -65,7 +71,11 @@ def _is_same(one: str, other: str) -> bool:
 
 def log_of(asked: argparse.Namespace) -> Log | None:
     """The log that is asked for; raises Refusal where it cannot be written."""
-    return Log(asked.log, asked.json) if asked.log else None
+    if not asked.log:
+        return None
+    from .log import Log  # the words of the MIB take as long as all else of a start
+
+    return Log(asked.log, asked.json)
 
 
 def number_above(path: str, file: int, end: str, aside: int = 0) -> int | None:
@@ -102,15 +112,17 @@ def journal_of(asked: argparse.Namespace, head: Head) -> Journal:
         if above is not None and wanted is not None and wanted < above:
             raise Refusal(f"--first {wanted}: {asked.journal} may have used each number below {above}")
         if above is not None and head.first is not None:
-            head = dataclasses.replace(head, first=max(above, head.first))
+            head = head._replace(first=max(above, head.first))
         return Journal.fresh(asked.journal, head)
     finally:
         os.close(old)
 
 
-def new(asked: argparse.Namespace, end: str, text: bytes | None) -> CoProcess:
-    """A co-process of this description."""
-    process = CoProcess(asked.signtool, [end], text)
+def new(asked: argparse.Namespace, end: str, text: bytes | None, state: list[bytes] | None = None) -> CoProcess:
+    """A co-process of this description, which goes on from the state of the journal where that has one."""
+    process = CoProcess(asked.signtool, [end, "--restore"] if state else [end], text)
+    if state:
+        process.go_on_from(state, asked.journal)
     process.begin(b"state" if end == "sign" else b"status last", asked.sign or asked.signtool)
     return process
 
@@ -122,9 +134,9 @@ def begun(
     journal: Journal | None,
     before: Callable[[CoProcess], None] | None = None,
 ) -> CoProcess:
-    """The co-process of this description, where the lines of the journal left it; `before` hands something over ahead
-    of them."""
-    process = new(asked, end, text)
+    """The co-process of this description, where the journal left it; `before` hands something over ahead of its lines,
+    and behind its state."""
+    process = new(asked, end, text, journal.state() if journal else None)
     if before is not None:
         before(process)
     if journal is not None:

@@ -1,44 +1,53 @@
 """A sign on a UDP port: a front end between a socket and `signtool sign`.
 
     wisangub-sign [--port 1161] [--host 127.0.0.1 | --listen HOST:PORT] [--signtool PATH] [--sign FILE] [--objects FILE]
-        [--journal FILE [--fresh] [--accept-damage] [--need-journal] [--down power|process] [--most-recorded N]]
+        [--journal FILE [--keep SIZE] [--archive FOLDER] [--fresh] [--accept-damage] [--need-journal]
+            [--down power|process] [--most-recorded N]]
         [--log FILE|- [--json]] [--no-ticks] [--lose N] [--quiet] [--page [PORT]] [--fast [SIGND]]
 
 Each datagram goes to the sign as a line and its reply back to where it came from; each second is a tick. With a journal
 the sign goes on where it was (docs/JOURNAL.md); what the time without a process was, a loss of power or seconds, is
-told by the kernel's boot id, or by --down. A journal that is damaged is refused; with --accept-damage the sign goes on
-from what is whole of it. Where the disk cannot be written it goes on from what is there, answers no SET, and says each
-minute and by its exit status 1 what the next start will not know; with --need-journal it does not start. Of the writing
-community --most-recorded N datagrams a second are recorded, 50 where nothing is said. With --lose N every N-th datagram
-to the sign is lost. What the sign accepts is printed. With --objects there are objects beside the sign's, such as
-sysDescr.0 or a photocell, as the file has them, which is read again at a SIGHUP; what managers set there is printed as
-lines `set NAME VALUE`. With --page a browser of this machine shows the lamps and the last datagrams at
-http://127.0.0.1:8161/, and has buttons that take the power, let seconds pass and lose a datagram. With --fast the same
-front end in C goes on, examples/signd.c, where it is built and has all that is asked for; else it says what it lacks.
-It ends at an interrupt or a SIGTERM, and at a second one or before it is announced at once.
+told by the kernel's boot id, or by --down. A journal of more than --keep SIZE octets, 1M where nothing is said, is
+shortened to the state of the sign, and so it is at a SIGHUP; --archive FOLDER keeps what is cut off. One that is
+damaged is refused; with --accept-damage the sign goes on from what is whole of it. Where the disk cannot be written it
+goes on from what is there, answers no SET, and says each minute and by its exit status 1 what the next start will not
+know; with --need-journal it does not start. Of the writing community --most-recorded N datagrams a second are recorded,
+50 where nothing is said. With --lose N every N-th datagram to the sign is lost. What the sign accepts is printed. With
+--objects there are objects beside the sign's, such as sysDescr.0 or a photocell, as the file has them, which is read
+again at a SIGHUP; what managers set there is printed as lines `set NAME VALUE`. With --page a browser of this machine
+shows the lamps and the last datagrams at http://127.0.0.1:8161/, and has buttons that take the power, let seconds pass
+and lose a datagram. With --fast the same front end in C goes on, examples/signd.c, where it is built and has all that
+is asked for; else it says what it lacks. It ends at an interrupt or a SIGTERM, and at a second one or before it is
+announced at once.
 """
+
+from __future__ import annotations
 
 import wisangub.endpoint.interrupts  # noqa: F401, before all else
 
 import argparse
 import sys
+from typing import TYPE_CHECKING
 
 from wisangub.output import print_line
 from wisangub.process import description
 from wisangub.process.coprocess import CoProcess
-from wisangub.process.places import SIGND
+from wisangub.process.stands import signd
 from wisangub.refusal import Refusal, status_of
 
 from .clock import Moment, running
-from .fast import hand_over
-from .firmware import Firmware
 from .keeper import Keeper
 from .limit import MOST_RECORDED, Limit
 from .page.start import copy_of, watched
 from .records import Head
 from .setting import MOST_NUMBER, begun, checked, journal_of, log_of, new, options
+from .shortening import MOST, Shortening, Trial, octets_of
 from .sign_front_end import Heard, SignFrontEnd
 from .sockets import Waiting, bound, host_and_port, named
+
+if TYPE_CHECKING:
+    from .firmware import Firmware
+    from .log import Log
 
 PAGE = 8161  # the port of a page
 
@@ -52,6 +61,8 @@ def _asked_for() -> argparse.Namespace:
     words.add_argument(
         "--objects", metavar="FILE", help="objects beside the sign's, as in signs/; read at a SIGHUP too"
     )
+    words.add_argument("--keep", metavar="SIZE", help="octets of a journal, as 500k; a longer one is shortened; 1M")
+    words.add_argument("--archive", metavar="FOLDER", help="what is cut off a journal that is shortened is kept there")
     words.add_argument("--accept-damage", action="store_true", help="goes on, and puts the rest aside")
     words.add_argument("--down", choices=("power", "process"), help="what the time without a process was")
     words.add_argument(
@@ -63,13 +74,14 @@ def _asked_for() -> argparse.Namespace:
     words.add_argument(
         "--page", type=int, nargs="?", const=PAGE, metavar="PORT", help=f"lamps in a browser, at 127.0.0.1:{PAGE}"
     )
-    words.add_argument("--fast", nargs="?", const=str(SIGND), metavar="SIGND", help="examples/signd.c goes on instead")
+    words.add_argument("--fast", nargs="?", const=signd(), metavar="SIGND", help="examples/signd.c goes on instead")
     asked = words.parse_args()
     checked(asked)
     if asked.listen is not None:
         asked.host, asked.port = host_and_port(asked.listen)
-    if asked.down and not asked.journal:
-        raise Refusal("--down is of a --journal FILE")
+    for name in ("down", "keep", "archive"):
+        if getattr(asked, name) is not None and not asked.journal:
+            raise Refusal(f"--{name} is of a --journal FILE")
     if not 1 <= asked.most_recorded <= MOST_NUMBER:
         raise Refusal(f"--most-recorded {asked.most_recorded} is no number of datagrams: 1 to {MOST_NUMBER}")
     if asked.lose < 0:
@@ -82,14 +94,40 @@ def has_power(sign: CoProcess) -> bool:
     return b" mode 13 " not in sign.ask(b"state")[0]
 
 
+def shortening_of(asked: argparse.Namespace, text: bytes | None, log: Log | None) -> Shortening | None:
+    """How the journal is shortened, where there is one."""
+    if not asked.journal:
+        return None
+    most, archive = MOST if asked.keep is None else octets_of(asked.keep), None
+    if asked.archive is not None:
+        from .archive import Archive
+
+        archive = Archive(asked.archive)
+    return Shortening(most, Trial(asked.signtool, text), archive, log)
+
+
+def firmware_of(asked: argparse.Namespace, text: bytes | None, log: Log | None) -> Firmware | None:
+    """The objects of a file, where one is asked for."""
+    if not asked.objects:
+        return None
+    from .firmware import Firmware
+
+    return Firmware(asked.objects, lambda: new(asked, "sign", text), log, asked.quiet)
+
+
 def main() -> int:
     asked = _asked_for()
     if asked.fast is not None:
+        from .fast import hand_over
+
         hand_over(asked)
     log, text = log_of(asked), description.read(asked.sign)
-    firmware = Firmware(asked.objects, lambda: new(asked, "sign", text), log, asked.quiet) if asked.objects else None
+    firmware = firmware_of(asked, text, log)
+    shortening = shortening_of(asked, text, log)
     with bound(asked.host, asked.port) as udp_socket:
         journal = journal_of(asked, Head("sign", description.digest(text))) if asked.journal else None
+        if firmware and journal:
+            firmware.sets = journal.sets
         sign = begun(asked, "sign", text, journal, firmware.publish if firmware else None)
         copy, keeper = copy_of(asked, text, journal), Keeper(journal) if journal else None
         up, lines = running(), list[bytes]()
@@ -109,7 +147,7 @@ def main() -> int:
             if firmware:
                 firmware.tell(sign)
             served = SignFrontEnd(
-                sign, udp_socket, keeper, log, up, asked.lose, asked.quiet, who, limit, watcher, firmware
+                sign, udp_socket, keeper, log, up, asked.lose, asked.quiet, who, limit, watcher, firmware, shortening
             )
             is_kept = served.serve(waiting, not asked.no_ticks)
     sign.end()

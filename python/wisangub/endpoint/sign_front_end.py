@@ -1,22 +1,28 @@
 """A sign behind a UDP port: what waits is recorded, handed over and answered, many datagrams at a time."""
 
+from __future__ import annotations
+
 import socket
 from binascii import hexlify, unhexlify
+from typing import TYPE_CHECKING
 
 from wisangub.output import LOG, print_line
 from wisangub.process.coprocess import CoProcess
 from wisangub.refusal import Refusal, reason
-from wisangub.snmp.wire import MOST_DATAGRAM
+from wisangub.snmp.gets import MOST_DATAGRAM
 
 from .clock import running
-from .firmware import Firmware
 from .keeper import Keeper
 from .limit import Limit
-from .log import Log
 from .near import Near
+from .shortening import Shortening
 from .sockets import Address, Waiting, received, wait_at_most
 from .sorts import CHANGING, HEARD, UNANSWERED, Sort, sort_of
 from .watching import Watcher
+
+if TYPE_CHECKING:
+    from .firmware import Firmware
+    from .log import Log
 
 AT_ONCE = 16  # datagrams that are recorded with one sync, and handed over together
 AT_ONCE_TICKS = 1000  # seconds that are handed over together
@@ -35,7 +41,7 @@ def line_of(octets: bytes) -> bytes:
 class SignFrontEnd:
     """`lose`: every so many datagrams one is lost, 0 for none. Without a keeper nothing is kept. `up` is the moment up
     to which the sign was told the time. With a keeper the communities are known, and a limit. A watcher is told what
-    passes. With firmware there are objects beside the sign's."""
+    passes. With firmware there are objects beside the sign's. A journal is shortened where there is a keeper of it."""
 
     def __init__(
         self,
@@ -50,11 +56,12 @@ class SignFrontEnd:
         limit: Limit[Heard] | None = None,
         watcher: Watcher | None = None,
         firmware: Firmware | None = None,
+        shortening: Shortening | None = None,
     ) -> None:
         self.sign, self.udp_socket, self.keeper, self.log = sign, udp_socket, keeper, log
         self.communities, self.limit = communities, limit or Limit()
         self.up, self.lose, self.is_quiet, self.count = up, lose, is_quiet, 0
-        self.watcher, self.firmware = watcher or Watcher(), firmware
+        self.watcher, self.firmware, self.shortening = watcher or Watcher(), firmware, shortening
         self.alone = _ALONE  # datagrams in a row behind which none waited
 
     def serve(self, waiting: Waiting, has_ticks: bool) -> bool:
@@ -65,6 +72,8 @@ class SignFrontEnd:
         while not waiting.is_stopped:
             if self.firmware:
                 self.firmware.turn(self.sign)
+            if self.shortening and self.keeper:
+                self.shortening.turn(self.sign, self.keeper)
             if near.allowed and len(files) == 1 and not self.limit.waiting:
                 heard = self.waiting_datagrams(0)  # one comes soon, and is waited for by the call that receives it
             elif waiting.until(files, self.pause(running(), has_ticks)):

@@ -6,10 +6,10 @@ import select
 import signal
 import socket
 import struct
-from typing import Any, Callable
+from typing import Any, Callable, Iterable
 
 from wisangub.refusal import Refusal
-from wisangub.snmp.wire import MOST_DATAGRAM, RESPONSE, spelled
+from wisangub.snmp.gets import MOST_DATAGRAM
 
 MOST_FAULTS = 100  # of earlier datagrams, that are passed over at once
 _MOST_STRAYS = 16  # datagrams from elsewhere that are read at once, and senders that are told
@@ -92,6 +92,8 @@ class Strays:
 
     def senders(self) -> list[Address]:
         """Where replies came from since the last call, at most a few at once, each sender once."""
+        from wisangub.snmp.wire import RESPONSE, spelled
+
         found: list[Address] = []
         for _ in range(_MOST_STRAYS):
             one = received(self.socket)
@@ -122,6 +124,14 @@ def received(udp_socket: socket.socket, how: int = socket.MSG_DONTWAIT) -> tuple
         except OSError:
             continue
     return None
+
+
+def readable(udp_sockets: Iterable[socket.socket]) -> set[int]:
+    """The files of those sockets at which something waits now."""
+    ready = select.poll()
+    for udp_socket in udp_sockets:
+        ready.register(udp_socket, select.POLLIN)
+    return {file for file, _ in ready.poll(0)}
 
 
 def sent(udp_socket: socket.socket, octets: bytes) -> OSError | None:

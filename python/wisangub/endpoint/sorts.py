@@ -3,7 +3,7 @@ read as docs/PROFILE.md has it, since one that is taken for none that a sign ans
 
 import enum
 
-from wisangub.snmp import wire
+from wisangub.snmp.gets import is_get
 
 
 class Sort(enum.Enum):
@@ -21,8 +21,10 @@ UNANSWERED, HEARD, CHANGING = Sort.UNANSWERED, Sort.HEARD, Sort.CHANGING
 
 def sort_of(octets: bytes, reader: bytes, writer: bytes) -> Sort:
     """What it can do to a sign with these communities."""
-    if wire.is_get(octets):
+    if is_get(octets):
         return HEARD
+    from wisangub.snmp import wire
+
     found = wire.spelled(octets)
     if found is None or found.kind == wire.RESPONSE or found.community not in (reader, writer):
         return UNANSWERED

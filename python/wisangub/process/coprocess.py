@@ -1,9 +1,10 @@
 """A co-process that answers each line by lines: `signtool sign` or `signtool centre`."""
 
+import contextlib
 import os
 import select
 import subprocess
-from typing import Iterable, NoReturn, Sequence
+from typing import Iterable, Iterator, NoReturn, Sequence
 
 from wisangub.refusal import Refusal, reason
 
@@ -11,6 +12,7 @@ from .description import unseen
 
 _WAIT = 10  # milliseconds, after which answers are read though the process takes nothing
 PATIENCE = 60_000  # milliseconds that a program may take to its first answer
+ENDING = 10.0  # seconds that it may take to its end
 _ENDS = (b"ok", b"dropped")
 _BAD_LINE = [b"bad", b"line"]  # and behind it perhaps why
 _ENDING_WORDS = (b"reply", b"accepted", b"send", b"refused")
@@ -23,6 +25,10 @@ def _is_last(answer: bytes) -> bool:
     """Whether a line is the last one of an answer."""
     words = answer.split(b" ", 2)
     return answer in _ENDS or words[0] in _ENDING_WORDS or words[:2] == _BAD_LINE
+
+
+class Died(Refusal):
+    """The process ended."""
 
 
 class CoProcess:
@@ -45,6 +51,11 @@ class CoProcess:
         self.answers.register(self.output, select.POLLIN)
         self.program, self.left = program, b""
         self.description = description or b""
+        self.state, self.kept = b"", ""  # what stands behind the description with --restore, and the file that keeps it
+
+    def go_on_from(self, state: list[bytes], kept: str) -> None:
+        """The process has the option --restore, and begins in the state that a file keeps."""
+        self.state, self.kept = b"".join(line + b"\n" for line in state), kept
 
     def write(self, octets: bytes) -> None:
         """Hands octets over whole. Where the process takes no more, it is room for more that is waited for, and its
@@ -83,7 +94,7 @@ class CoProcess:
         except subprocess.TimeoutExpired:
             status = None
         how = f"by signal {-status}" if status is not None and status < 0 else f"with status {status}"
-        raise Refusal(f"the co-process ended {how}{': ' + words if words else ''}", 1)
+        raise Died(f"the co-process ended {how}{': ' + words if words else ''}", 1)
 
     def lines(self, count: int) -> list[bytes]:
         """The next lines that it answers."""
@@ -122,23 +133,42 @@ class CoProcess:
     def begin(self, line: bytes, name: str) -> None:
         """Hands the description over, and asks for something that changes nothing: refuses what is not taken, and a
         program that is another one."""
-        try:
-            self.write(self.description + line + b"\n")
+        self.ask_first(line, name)
+        self.answered_first(name)
+
+    def ask_first(self, line: bytes, name: str) -> None:
+        """The same without waiting for the answer, so that many can begin at the same time."""
+        with self._refused_as(name), contextlib.suppress(Died):  # what it said before is read below
+            self.write(self.description + self.state + line + b"\n")
+
+    def answered_first(self, name: str) -> None:
+        """Waits for the answer to what was asked first."""
+        with self._refused_as(name):
             if not self.answers.poll(PATIENCE):
                 raise Refusal("it does not answer")
             answer = self.lines(1)[0]
-        except Refusal as refused:
-            self.process.kill()
-            raise Refusal(f"{name}: {refused}") from refused
         if answer.startswith(b"line ") or answer in REFUSED:
             self.end()  # what it says of the line comes first
             more = unseen(self.description, answer)
             raise Refusal(f"{name}: {answer.decode()}: no description of a sign{more}")
+        if self.state and answer.startswith(b"state line "):
+            self.end()
+            raise Refusal(f"{self.kept}: {answer.decode()}: no state of this sign (--fresh begins anew)")
         if answer.split(b" ")[0] not in _FIRST_WORDS:
             self.process.kill()
             raise Refusal(f"{self.program} does not answer as signtool does")
         while not _is_last(answer):
             answer = self.lines(1)[0]
+
+    @contextlib.contextmanager
+    def _refused_as(self, name: str) -> Iterator[None]:
+        """Kills a process that is refused, and says whose it was."""
+        try:
+            yield
+        except Refusal as refused:
+            self.process.kill()
+            needs = f" ({self.kept} has a state, which needs its option --restore)" if self.state else ""
+            raise Refusal(f"{name}: {refused}{needs}") from refused
 
     def replay(self, chunks: Iterable[list[bytes]]) -> int:
         """Hands recorded lines over, each of which is answered by one line, and throws the answers away: how many."""
@@ -160,10 +190,14 @@ class CoProcess:
 
     def end(self) -> None:
         """Ends its input, and waits for its end."""
-        assert self.process.stdin is not None
-        self.process.stdin.close()
+        self.leave()
         try:
-            self.process.wait(10)
+            self.process.wait(ENDING)
         except subprocess.TimeoutExpired:
             self.process.kill()
             self.process.wait()
+
+    def leave(self) -> None:
+        """Ends its input, at which it ends by itself."""
+        assert self.process.stdin is not None
+        self.process.stdin.close()

@@ -1,14 +1,14 @@
 """The description of a sign, as a front end hands it to a co-process."""
 
-import hashlib
 import re
 
 from wisangub.refusal import Refusal, reason
 
-from .places import TOP
+from .stands import file_of
 
 # the sign that the program has where it is handed no description (docs/PROFILE.md, "The bench sign")
-BENCH = (TOP / "signs/bench.sign").read_bytes()
+with open(file_of("signs/bench.sign"), "rb") as _file:
+    BENCH = _file.read()
 FIRST = re.compile(rb"^first ([0-9]{1,10})(?=\r?$)", re.MULTILINE)
 _COMMUNITIES = re.compile(rb"^communities ([^ \n]+) ([^ \n]+?)\r?$", re.MULTILINE)
 
@@ -45,7 +45,11 @@ def unseen(text: bytes, answer: bytes) -> str:
 
 def digest(text: bytes | None) -> str:
     """The SHA-256 of a description; the bench sign has the word `bench`."""
-    return "bench" if text is None else hashlib.sha256(text).hexdigest()
+    if text is None:
+        return "bench"
+    import hashlib  # takes as long as all else of a start over a short journal
+
+    return hashlib.sha256(text).hexdigest()
 
 
 def communities_of(text: bytes | None) -> tuple[bytes, bytes]:

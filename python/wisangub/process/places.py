@@ -9,12 +9,12 @@ import sys
 
 from wisangub import __version__
 
-_PACKAGE = pathlib.Path(__file__).resolve().parents[1]
-_DATA = _PACKAGE / "data"  # what a wheel has of the repository: setup.py says it
-TOP = _DATA if _DATA.is_dir() else _PACKAGE.parents[1]
+from .stands import FOLDER, IS_CHECKOUT, PACKAGE
+
+_PACKAGE = pathlib.Path(PACKAGE)
+TOP = pathlib.Path(FOLDER)
 BUILT = TOP / "crates/signtool/out/signtool"
 _RELEASED = TOP.parents[1] / "bin/wisangub-signtool"  # of share/wisangub
-IS_CHECKOUT = (TOP / "crates").is_dir()
 PROFILE = TOP / "docs/PROFILE.md"
 HOMES = [str(_PACKAGE.parent), str(_PACKAGE.parents[1])]  # where this package is found, and the model of a checkout
 

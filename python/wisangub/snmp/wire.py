@@ -9,7 +9,8 @@ from collections.abc import Collection, Iterable, Iterator
 from dataclasses import dataclass, field
 from typing import Any
 
-MOST_DATAGRAM = 1472  # octets
+from .gets import MOST_DATAGRAM as MOST_DATAGRAM
+
 _MOST_DIGITS = 4  # octets of a length after the first
 _SHORT = 128  # lengths and numbers of a name below it take one octet
 INTEGER, OCTETS, NULL, NAME, SEQUENCE = 0x02, 0x04, 0x05, 0x06, 0x30
@@ -245,32 +246,3 @@ def _asked(names: tuple[Name, ...]) -> bytes:
 def get(community: bytes, number: int, names: Iterable[Name]) -> bytes:
     """The octets of a Get of these names under a request's number."""
     return _written(Message(GET, community, number), _asked(tuple(names)))
-
-
-# --- what is known before a message is read ---------------------------------------------------------------------------
-
-
-def _shortest(octets: bytes, at: int, tag: int) -> _Place | None:
-    """The content of the element at `at`, where it has this tag and its length is in the shortest form."""
-    size = octets[at + 1] if at + 1 < len(octets) and octets[at] == tag else _SHORT
-    if size < _SHORT:  # as mostly
-        return (at + 2, at + 2 + size) if at + 2 + size <= len(octets) else None
-    try:
-        begin, end = content(octets, at, len(octets), (tag,))
-    except Fault:
-        return None
-    return (begin, end) if begin - at == len(element(tag, bytes(end - begin))) - (end - begin) else None
-
-
-def is_get(octets: bytes) -> bool:
-    """Whether it is a Get or a GetNext by its outer elements: their lengths and the version in the shortest form, and
-    the PDU's tag. Whatever a datagram spells, one for which this is true changes nothing but the silence of a sign."""
-    message = _shortest(octets, 0, SEQUENCE)
-    if message is None or message[1] != len(octets) or octets[message[0] : message[0] + 3] != b"\x02\x01\x00":
-        return False
-    community = _shortest(octets, message[0] + 3, OCTETS)
-    if community is None:
-        return False
-    tag = octets[community[1]] if community[1] < len(octets) else -1
-    pdu = _shortest(octets, community[1], tag) if tag in (GET, GET_NEXT) else None
-    return pdu is not None and pdu[1] == len(octets)

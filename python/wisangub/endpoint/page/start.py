@@ -1,8 +1,12 @@
-"""The page of a sign's front end, for as long as the front end is there."""
+"""The page of a sign's front end, for as long as the front end is there. What serves it is imported only where it is
+asked for, since that takes a third of a start."""
+
+from __future__ import annotations
 
 import argparse
 import contextlib
 from collections.abc import Iterator
+from typing import TYPE_CHECKING
 
 from wisangub.endpoint.journal import Journal
 from wisangub.endpoint.setting import begun
@@ -10,10 +14,8 @@ from wisangub.endpoint.watching import Watcher
 from wisangub.process import description
 from wisangub.process.coprocess import CoProcess
 
-from .board import Board
-from .lamps import Lamps
-from .readings import Asker, Reading
-from .server import HOST, Server
+if TYPE_CHECKING:
+    from .readings import Reading
 
 
 def copy_of(asked: argparse.Namespace, text: bytes | None, journal: Journal | None) -> CoProcess | None:
@@ -31,6 +33,10 @@ def watched(
     if asked.page is None:
         yield Watcher(), ""
         return
+    from .board import Board
+    from .lamps import Lamps
+    from .server import HOST, Server
+
     who = description.communities_of(text)
     reading = read_of(copy, who[0], lines) if copy else None
     is_heard = copy is None or any(line.startswith(b"power-back") for line in lines)
@@ -41,6 +47,8 @@ def watched(
 
 def read_of(copy: CoProcess, reader: bytes, lines: list[bytes]) -> Reading | None:
     """What the other process says, which then ends."""
+    from .readings import Asker
+
     if lines:
         copy.hand(lines)
     found = Asker(copy, reader).read()

@@ -1,0 +1,117 @@
+"""A state at the beginning of a sign's journal, in place of the lines that led to it: how it is written and read."""
+
+from typing import NamedTuple
+
+from .clock import Moment
+from .known import of_sign
+from .records import Extent, Octets, Unknown, parts_of
+
+FIRST, _LAST = b"state 1 sign", b"end"
+_STATE, _SET, _START, _CLOCK = b"state ", b"set ", b"start ", b"clock "
+_MOST = 1 << 20  # octets in which a state ends: it has 110,000 at most
+Sets = dict[bytes, bytes]  # of objects, by their names: the values that managers set last
+
+
+class OtherState(Exception):
+    """A state of another form, or of another end: its first line."""
+
+
+class NotWhole(Exception):
+    """A state that lacks some of what was written with it: the octet where that should stand."""
+
+    def __init__(self, at: int) -> None:
+        super().__init__(at)
+        self.at = at
+
+
+class Begun(NamedTuple):
+    """What a shortened journal begins with. `before`: up to the lines that are handed over; `size`: the octets that
+    were written with the state."""
+
+    lines: list[bytes]
+    sets: Sets
+    before: Extent
+    size: int
+
+
+class _Records:
+    """The whole records of a file from the second on, one after the other."""
+
+    def __init__(self, text: Octets, at: int) -> None:
+        self.text, self.at, self.number = text, at, 2
+
+    def next(self) -> bytes | None:
+        """The line of the next record; None where no whole one stands there."""
+        end = self.text.find(b"\n", self.at)
+        parts = parts_of(self.text[self.at : end], self.number) if end != -1 else None
+        return parts[0] if parts else None
+
+    def take(self) -> None:
+        """The next record was looked at."""
+        self.at, self.number = self.text.find(b"\n", self.at) + 1, self.number + 1
+
+    def wanted(self) -> bytes:
+        """The line of the next record, which has to stand there."""
+        line = self.next()
+        if line is None:
+            raise NotWhole(self.at)
+        return line
+
+
+def written(state: list[bytes], sets: Sets, last: Moment) -> list[bytes]:
+    """The lines of the records that stand behind the first one: `last` is the moment up to which the sign was handed
+    its seconds."""
+    return [*state, *(b"set %b %b" % one for one in sets.items()), last.start(), last.clock()]
+
+
+def read(text: Octets) -> Begun | None:
+    """What stands behind the first record of a whole journal; None where that is no state."""
+    records = _Records(text, text.find(b"\n") + 1)
+    line = records.next()
+    if line is None and _had_one(text, records.at):
+        raise NotWhole(records.at)
+    if line is None or not line.startswith(_STATE):
+        return None
+    if line != FIRST:
+        raise OtherState(line.decode("latin-1"))
+    state = [line]
+    while state[-1] != _LAST:
+        records.take()
+        state.append(records.wanted())
+    records.take()
+    sets = _sets_of(records)
+    before = Extent(records.at, records.number, records.number - 1)
+    for word in (_START, _CLOCK):
+        line = records.wanted()
+        if not line.startswith(word) or not of_sign(line):
+            raise Unknown(records.at, records.number, line)
+        records.take()
+    return Begun(state, sets, before, records.at)
+
+
+def _had_one(text: Octets, at: int) -> bool:
+    """Whether a state stood there, whose first record is not whole: it begins so still, or has its last line."""
+    return text[at : at + len(_STATE)] == _STATE or text.find(b"\n%b #" % _LAST, at, at + _MOST) != -1
+
+
+def _sets_of(records: _Records) -> Sets:
+    """The values of objects."""
+    sets: Sets = {}
+    while (line := records.wanted()).startswith(_SET):
+        name, _, value = line[len(_SET) :].partition(b" ")
+        if not _is_object(line[len(_SET) :]):
+            raise Unknown(records.at, records.number, line)
+        sets[name] = value
+        records.take()
+    return sets
+
+
+def _is_object(words: bytes) -> bool:
+    """Whether these are an object's name and its value."""
+    from wisangub.objects.lines import Bad, object_of  # few journals have one
+
+    try:
+        object_of(words.decode("ascii").split(" "))
+    except (Bad, UnicodeDecodeError):
+        return False
+    return True
