@@ -184,11 +184,11 @@ class _More(Objects):
 
 
 class WithTable(Sign):
-    """A sign that has a font table too, of its own fonts and of more."""
+    """A sign that has a font table too, of its own fonts and of more; `said` are other values of its objects."""
 
-    def __init__(self, spelled: bytes, more: bytes = b"") -> None:
+    def __init__(self, spelled: bytes, more: bytes = b"", said: dict[wire.Name, wire.Tagged] | None = None) -> None:
         super().__init__(text.described(spelled))
-        self.objects = _More(self.state, table_of(spelled + more))
+        self.objects = _More(self.state, table_of(spelled + more) | (said or {}))
 
 
 class _Fewer(Objects):

@@ -101,6 +101,12 @@ def test_a_stranger_that_goes_on_sending_gives_a_silent_sign_no_more_time() -> N
 
 
 def test_refuses_what_is_no_address() -> None:
-    words = [*CALL, "--to", "nobody"]
-    ended = subprocess.run(words, capture_output=True, text=True, timeout=60, check=False)
-    assert ended.returncode == 2 and "--to wants HOST:PORT" in ended.stderr
+    table = [
+        (["--to", "nobody"], "--to wants HOST:PORT"),
+        (["--to", "127.0.0.1:65536"], "--to wants HOST:PORT"),
+        (["--to", "no.such.host.invalid:161"], "no.such.host.invalid: "),
+        (["--wait", "0"], "--wait: a number above 0"),
+    ]
+    for words, said in table:
+        ended = subprocess.run([*CALL, *words], capture_output=True, text=True, timeout=60, check=False)
+        assert ended.returncode == 2 and said in ended.stderr and "Traceback" not in ended.stderr, ended

@@ -180,6 +180,12 @@ def test_an_unlike_sign_is_not_described() -> None:
     assert ended(held) == (None, 3) and is_as_before(held)
 
 
+def test_a_sign_of_more_rows_than_there_can_be_is_not_described() -> None:
+    for count in (-1, 65536, 2**31 - 1):
+        held = made(SMALL, WithTable(SMALL, said={scalar("dmsMaxChangeableMsg"): (wire.INTEGER, count)}))
+        assert ended(held) == (None, 2) and not held.describing.client.written
+
+
 def test_a_row_in_use_is_put_back_where_all_are() -> None:
     held = made(SMALL)
     communities = held.describing.client.communities

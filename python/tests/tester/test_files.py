@@ -1,6 +1,8 @@
 """A capture of what was sent, the report as a PDF, and files that are whole at every moment."""
 
+import argparse
 import io
+import json
 import os
 import pathlib
 import shutil
@@ -11,8 +13,10 @@ import tempfile
 import time
 
 from wisangub.process.places import TOP, environment
-from wisangub.refusal import Refusal
-from wisangub.tester.report import pdf
+from wisangub.refusal import Refusal, reason
+from wisangub.tester.findings.results import Results
+from wisangub.tester.report import pdf, words
+from wisangub.tester.report.outputs import Outputs
 from wisangub.tester.sign.capture import Capture, packet_of
 from wisangub.whole import WholeFile
 
@@ -51,6 +55,19 @@ def test_a_capture_has_each_datagram_with_its_headers() -> None:
     assert held[86:116] == packet_of(b"\x30\x00", THERE, HERE) and len(held) == 116
 
 
+def test_a_full_disk_ends_a_capture_and_no_test() -> None:
+    link = Capture(Echo(), pathlib.Path("/dev/full").open("wb"), HERE, THERE)
+    for octets in (b"one", b"two"):
+        link.send(octets)
+        assert link.receive(1.0) == octets
+    try:
+        link.close()
+    except OSError as fault:
+        assert reason(fault) == "/dev/full: the capture ends early: No space left on device"
+    else:
+        raise AssertionError
+
+
 def test_a_packet_of_ipv6_has_its_addresses() -> None:
     packet = packet_of(b"A", ("::1", 1), ("fe80::2%eth0", 2))
     assert packet[0] == 0x60 and packet[4:8] == b"\x00\x09\x11\x40" and len(packet) == 49 and packet[-1:] == b"A"
@@ -59,20 +76,39 @@ def test_a_packet_of_ipv6_has_its_addresses() -> None:
 def test_a_report_is_printed_where_chromium_is_there() -> None:
     if shutil.which("chromium") is None:
         skip("there is no chromium")
-    with tempfile.TemporaryDirectory() as folder:
-        path = pathlib.Path(folder) / "report.pdf"
-        pdf.print_page(pdf.printer(), "<!doctype html><title>t</title><p>conforms", path)
-        assert path.read_bytes().startswith(b"%PDF-")
+    assert pdf.printed(pdf.printer(), "<!doctype html><title>t</title><p>conforms").startswith(b"%PDF-")
 
 
 def test_no_report_is_printed_by_a_program_that_makes_none() -> None:
-    with tempfile.TemporaryDirectory() as folder:
+    try:
+        pdf.printed("/bin/true", "<p>")
+    except Refusal as refused:
+        assert "Chromium printed no report" in str(refused)
+    else:
+        raise AssertionError
+
+
+def test_a_disk_that_is_full_ends_no_test() -> None:
+    with tempfile.TemporaryDirectory() as name:
+        folder = pathlib.Path(name)
+        asked = argparse.Namespace(html=folder / "it.html", junit=folder / "it.xml", json=folder / "it.json", pdf=None)
+        about = words.About("127.0.0.1:1", "bench.sign", "model", None, 1, 0, False, "today")
+        outputs, results = Outputs(asked, about, lambda _: []), Results(is_going_on=True)
+        outputs.write(results)
+        (folder / "it.json.new").mkdir()  # as little can be written beside the report as where there is no room
+        results.is_going_on = False
+        outputs.go_on(results)
+        assert json.loads(asked.json.read_bytes())["verdict"] == "not judged"
         try:
-            pdf.print_page("/bin/true", "<p>", pathlib.Path(folder) / "report.pdf")
+            outputs.end(results)
         except Refusal as refused:
-            assert "Chromium printed no report" in str(refused)
+            assert "the report cannot be written" in str(refused)
         else:
             raise AssertionError
+        (folder / "it.json.new").rmdir()
+        outputs.end(results)
+        assert json.loads(asked.json.read_bytes())["verdict"] == "conforms"
+        outputs.close()
 
 
 def test_a_file_is_written_anew_under_its_name() -> None:

@@ -65,6 +65,19 @@ def test_a_chapter_says_which_differences_break_rules_of_others() -> None:
     assert words.chapter_words(results.chapters[0]) == "1 differ"
 
 
+def test_a_difference_is_under_the_chapter_that_its_rule_has() -> None:
+    table = [
+        ("an_equal_priority_is_too_low", "rows", "priority"),
+        ("a_copy_that_follows", "rows", "copied"),
+        ("a_minute_of_silence_is_two_seconds", "durations", "silence"),
+        ("memory_6_is_one", "durations", "deciding"),
+        ("the_source_has_the_rows_checksum", "durations", "shown"),
+        ("blank_messages_have_a_checksum_to_compare", "durations", "shown"),
+    ]
+    for name, chapter, key in table:
+        assert first(name, chapter).rule.key == key, name
+
+
 def test_a_text_that_the_two_judge_otherwise_is_drawn() -> None:
     results, _ = found("tags_in_small_letters_alone", "validation")
     whole = page.as_html(results, ABOUT, [])

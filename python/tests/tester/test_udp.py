@@ -1,5 +1,6 @@
 """The command line over UDP: a right sign, a wrong one and its report's command, and nobody at all."""
 
+import errno
 import json
 import pathlib
 import shlex
@@ -11,12 +12,15 @@ import tempfile
 import threading
 import time
 import xml.etree.ElementTree as ET
+from typing import Any
 
 from model import text
 from trials.lossy_ways import Way
 from wisangub.process.places import TOP
 from wisangub.snmp.names import scalar
 from wisangub.tester.requests.steps import get
+from wisangub.tester.sign.clock import RealClock
+from wisangub.tester.sign.link import UdpLink
 
 from .endpoints import LONG, free_port, front_end, in_real_time
 
@@ -77,9 +81,11 @@ def test_a_wrong_command_is_a_word() -> None:
             (["--to", "127.0.0.1:65536"], b"--to wants HOST:PORT"),
             *[
                 ([f"--{kind}", f"{folder}/none/it"], b"the report cannot be written")
-                for kind in ("html", "junit", "json")
+                for kind in ("html", "junit", "json", "pdf")
             ],
             (["--json", folder], b"the report cannot be written"),
+            (["--pcap", f"{folder}/none/it"], b"none/it: No such file or directory"),
+            (["--pcap", "/dev/full"], b"/dev/full: the capture ends early"),
             (["--sign", f"{folder}/none.sign"], b"none.sign"),
             (["--signtool", "/bin/true"], b"/bin/true"),
         ]
@@ -150,6 +156,40 @@ def test_a_port_that_closes_ends_the_test() -> None:
             said = tester.communicate(timeout=LONG)[0]
         assert tester.returncode == 3 and b"the test was stopped: 6 requests in a row had no reply" in said, said
         assert b"Random requests: not come to" in said and b"could not be brought back" in said, said
+
+
+class Unheard(socket.socket):
+    """A socket whose next datagrams, out and in, meet this fault."""
+
+    fault: OSError | None = None
+
+    def send(self, *what: Any) -> int:
+        if self.fault is not None:
+            raise self.fault
+        return super().send(*what)
+
+    def recv(self, *most: Any) -> bytes:
+        if (fault := self.fault) is not None:
+            self.fault = None
+            raise fault
+        return super().recv(*most)
+
+
+def test_a_network_that_is_gone_for_a_while_is_no_answer() -> None:
+    for number in (errno.ENETUNREACH, errno.EHOSTUNREACH, errno.ECONNREFUSED, errno.EPERM, errno.EIO):
+        link = UdpLink("127.0.0.1", free_port(), RealClock())
+        with link.socket, Unheard(socket.AF_INET, socket.SOCK_DGRAM) as broken:
+            broken.bind(("127.0.0.1", 0))
+            broken.connect(broken.getsockname())
+            link.socket = broken
+            link.send(b"one")
+            broken.fault = OSError(number, "")
+            try:
+                link.send(b"another")
+                assert link.receive(link.clock.now() + LONG) == b"one" and number != errno.EIO
+                assert link.receive(link.clock.now()) is None
+            except OSError as fault:
+                assert fault.errno == number == errno.EIO
 
 
 class OtherPort(threading.Thread):

@@ -7,10 +7,11 @@ from model import text
 from model.sign import Sign
 from trials.wrong_signs import bench, misbehaving
 from trials.wrong_signs.misbehaving import Misbehaving
+from wisangub.refusal import Refusal
 from wisangub.snmp.names import scalar
 from wisangub.tester.chapters import ALL
 from wisangub.tester.findings.results import ChapterResult, Quiet, Results, Verdict
-from wisangub.tester.report import files, page, words
+from wisangub.tester.report import files, page, terminal, words
 from wisangub.tester.requests.steps import get
 from wisangub.tester.runs.repeat import repeat
 from wisangub.tester.session import chapters_of
@@ -22,6 +23,7 @@ WIDER = text.BENCH.replace(b"size 23 14", b"size 24 14")
 
 
 Way = dict[str, Any]  # how a sign misbehaves
+ABOUT = words.About("127.0.0.1:1", "bench.sign", "model", None, 1, 0, False, "today")
 
 
 def tried(only: Sequence[str] = SHORT, lossy: float = 2.0, wait: float = 1.0, **how: Any) -> Results:
@@ -67,6 +69,19 @@ def test_wrong_values_now_and_then_differ() -> None:
     assert results.verdict() is Verdict.DIFFERS and "now and then" in words.verdict(results), words.verdict(results)
 
 
+def test_replies_with_other_names_are_told_in_each_report() -> None:
+    for seed, share in ((5, 1.0), (5, 0.3), (6, 0.3), (7, 0.3)):
+        session = misbehaving.session(lambda clock: Misbehaving(clock, spoils=misbehaving.other_name, share=share))
+        assert isinstance(session.pair.port.link, Misbehaving)
+        session.pair.port.link.chance.seed(seed)
+        session.most_differences = None
+        results = session.run(chapters_of(("communities",), False))
+        assert results.verdict() is Verdict.DIFFERS and results.differences(), words.verdict(results)
+        for report in (files.as_junit, lambda results, about: page.as_html(results, about, [])):
+            assert "other names or another number of bindings" in report(results, ABOUT), (seed, share)
+        assert terminal.ending(results, ABOUT, [])[-1] == words.verdict(results)
+
+
 def test_a_reboot_that_nobody_asked_for_differs() -> None:
     ways: list[Way] = [{"reboots": 700, "most_reboots": 1}, {"reboots": 400}]
     for how in ways:
@@ -77,10 +92,9 @@ def test_a_reboot_that_nobody_asked_for_differs() -> None:
 
 def test_each_report_says_what_was_lost_on_the_way() -> None:
     results = tried(("communities",), spoils=misbehaving.garbage, share=0.02)
-    about = words.About("127.0.0.1:1", "bench.sign", "model", None, 1, 0, False, "today")
-    for report in (files.as_junit(results, about), files.as_json(results, about, []), page.as_html(results, about, [])):
+    for report in (files.as_junit(results, ABOUT), files.as_json(results, ABOUT, []), page.as_html(results, ABOUT, [])):
         assert Oddity.GARBAGE.value in report and words.NOT_SLOW in report
-    assert "the longest silence was" in files.as_junit(tried(("communities",), slow=1.2, wait=1.0), about)
+    assert "the longest silence was" in files.as_junit(tried(("communities",), slow=1.2, wait=1.0), ABOUT)
 
 
 def test_another_size_differs() -> None:
@@ -170,6 +184,26 @@ class Interrupting(Quiet):
     def went_on(self, result: ChapterResult, at: int) -> None:
         if at == 3:
             raise KeyboardInterrupt
+
+
+class Failing(Quiet):
+    """A fault after the fourth case, as where the program that is the oracle ends."""
+
+    def went_on(self, result: ChapterResult, at: int) -> None:
+        if at == 3:
+            raise Refusal("the program has ended")
+
+
+def test_a_fault_puts_the_sign_back() -> None:
+    sign = Sign(text.bench())
+    sign.state.defaults[7] = 99
+    session = bench.session(text.BENCH, sign, requests=0, watcher=Failing())
+    try:
+        session.run(chapters_of(SHORT, False))
+    except Refusal:
+        assert session.results.is_set_back and sign.state.defaults[7] == 99
+    else:
+        raise AssertionError
 
 
 def test_an_interrupt_puts_the_sign_back() -> None:

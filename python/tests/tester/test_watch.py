@@ -1,5 +1,6 @@
 """The sign that watches a central system."""
 
+import contextlib
 import json
 import pathlib
 import signal
@@ -8,6 +9,7 @@ import subprocess
 import sys
 import tempfile
 from dataclasses import replace
+from typing import Iterator
 
 from model import text
 from model.centre import Centre
@@ -23,6 +25,8 @@ from wisangub.tester.requests.messages import spelled
 from wisangub.tester.requests.objects import Column, Row, instance, integer
 from wisangub.tester.requests.steps import Ask, get, get_next, put
 from wisangub.tester.sign.described import described
+
+from .endpoints import LONG, in_real_time
 
 ROW = Row(Memory.CHANGEABLE, 1)
 CONTEXT = Context(described(text.BENCH), (b"public", b"admin"), ModelJudge(text.BENCH))
@@ -202,39 +206,52 @@ def run_job(sign: ModelOracle, watch: Watch, centre: Centre, job: tuple[str, tup
             watch.ticked()
 
 
+@contextlib.contextmanager
+def watching(described: pathlib.Path) -> Iterator[tuple["subprocess.Popen[bytes]", int]]:
+    """The program on a port, which is gone afterwards."""
+    call = [sys.executable, "-m", "wisangub.tester.centre.program", "--port", "0", "--sign", str(described)]
+    with subprocess.Popen([*call, "--signtool", "model"], cwd=TOP, stdout=subprocess.PIPE) as sign:
+        try:
+            assert sign.stdout is not None
+            yield sign, int(sign.stdout.readline().split(b":")[-1])
+        finally:
+            sign.kill()
+
+
+def ended(sign: "subprocess.Popen[bytes]") -> tuple[int, str]:
+    """The status of the program after a signal, and what it tells."""
+    sign.send_signal(signal.SIGTERM)
+    assert sign.stdout is not None
+    said = sign.stdout.read().decode()
+    return sign.wait(10), said
+
+
+def test_our_own_centre_conforms_on_its_port() -> None:
+    """A publication, and one whose text does not fit: there the front end asks by itself what the sign found."""
+    described = TOP / "signs/roadside.sign"
+    jobs = [f'publish-text 3 1 "{words}" - 0 0 100 65535 255 127.0.0.1\n' for words in ("A", "[zz]")]
+    with in_real_time(), watching(described) as (sign, port):
+        call = [sys.executable, "bin/wisangub-centre", "--signtool", str(TOP / "model/signtool")]
+        call += ["--to", f"127.0.0.1:{port}", "--sign", str(described)]
+        told = subprocess.run(
+            call, input="".join(jobs).encode(), cwd=TOP, capture_output=True, timeout=LONG, check=False
+        )
+        assert told.returncode == 1 and b"last accepted" in told.stdout and b"fault 3 at octet 0" in told.stderr, told
+        status, said = ended(sign)
+        assert status == 0 and said.endswith("conforms\n"), said
+
+
 def test_it_answers_on_a_port_and_tells_at_its_end() -> None:
-    with tempfile.TemporaryDirectory() as folder:
+    with tempfile.TemporaryDirectory() as folder, socket.socket(socket.AF_INET, socket.SOCK_DGRAM) as udp_socket:
         described = pathlib.Path(folder) / "bench.sign"
         described.write_bytes(text.BENCH)
-        call = [
-            sys.executable,
-            "-m",
-            "wisangub.tester.centre.program",
-            "--port",
-            "0",
-            "--sign",
-            str(described),
-            "--signtool",
-            "model",
-        ]
-        with subprocess.Popen(call, cwd=TOP, stdout=subprocess.PIPE) as sign, socket.socket(
-            socket.AF_INET, socket.SOCK_DGRAM
-        ) as udp_socket:
-            try:
-                assert sign.stdout is not None
-                port = int(sign.stdout.readline().split(b":")[-1])
-                udp_socket.settimeout(5)
-                udp_socket.sendto(
-                    put((scalar("defaultPageOnTime"), integer(3))).octets(9, CONTEXT.communities), ("127.0.0.1", port)
-                )
+        with watching(described) as (sign, port):
+            udp_socket.settimeout(5)
+            for ask in (put((scalar("defaultPageOnTime"), integer(3))), get(scalar("defaultPageOnTime"))):
+                udp_socket.sendto(ask.octets(9, CONTEXT.communities), ("127.0.0.1", port))
                 assert udp_socket.recv(2000)
-                udp_socket.sendto(get(scalar("defaultPageOnTime")).octets(9, CONTEXT.communities), ("127.0.0.1", port))
-                assert udp_socket.recv(2000)
-                sign.send_signal(signal.SIGTERM)
-                said = sign.stdout.read().decode()
-                assert sign.wait(10) == 1 and "used again for another request: 1" in said, said
-            finally:
-                sign.kill()
+            status, said = ended(sign)
+            assert status == 1 and "used again for another request: 1" in said, said
 
 
 def test_a_wrong_command_is_a_word() -> None:
@@ -269,6 +286,14 @@ def test_a_report_is_written_anew_each_minute() -> None:
         assert not path.exists()
         report.ticked()
         assert json.loads(path.read_text(encoding="utf-8"))["dropped"] == 1
+        (path.parent / "report.json.new").mkdir()  # as where there is no room
+        watch.heard(0.0, b"", None)
+        for _ in range(60):
+            report.ticked()
+        assert json.loads(path.read_text(encoding="utf-8"))["dropped"] == 1
+        (path.parent / "report.json.new").rmdir()
+        report.write()
+        assert json.loads(path.read_text(encoding="utf-8"))["dropped"] == 2
         Report(None, watch).write()
 
 

@@ -1,6 +1,6 @@
 """Time and loss: what is asked again, which reply is whose, what an unanswered SET did, and when a request waits."""
 
-from dataclasses import dataclass, field
+from dataclasses import dataclass, field, replace
 from typing import Sequence
 
 from model import text
@@ -10,7 +10,7 @@ from trials.wrong_signs.load import sign_of
 from trials.wrong_signs.table import MUTANTS
 from wisangub.snmp import wire
 from wisangub.snmp.names import Memory, RowStatus, scalar
-from wisangub.tester.chapters import ALL, Block
+from wisangub.tester.chapters import ALL, Block, Chapter
 from wisangub.tester.findings.results import ChapterResult, Verdict
 from wisangub.tester.requests.objects import Column, Row, integer, octets
 from wisangub.tester.requests.steps import Ask, Step, get, get_next, put
@@ -436,6 +436,61 @@ def test_what_cannot_be_told_behind_what_was_done_before_is_begun_alone() -> Non
     assert session.again(result, block, [get(TIME), get(HEIGHT)]) is None
     assert [held.steps for held in result.left] == [block.steps] and result.told == 0
     assert session.block(result, result.left.pop(), None) and not result.left and result.told == 1
+
+
+class Unlucky(Runner):
+    """Can tell none of the first six sequences."""
+
+    def anew(self, steps: Sequence[Step], after_a_tick: bool = True, is_alike: bool = False) -> Run | None:
+        self.runs += 1
+        if self.runs <= 6:
+            raise Inconclusive("a request came late")
+        return super().anew(steps, after_a_tick, is_alike)
+
+
+def test_what_could_not_be_judged_is_begun_again_more_often_on_a_way_that_loses_some() -> None:
+    chapter = Chapter("get", "Get", lambda _: iter([Block("a height", "get", [get(HEIGHT)])]))
+    for is_lossy in (False, True):
+        session, _ = begun()
+        session.runner = Unlucky(session.pair, session.reset)
+        session.pair.port.passed_over = int(is_lossy)
+        session.chapter(chapter)
+        assert session.results.chapters[0].missing == int(not is_lossy)
+
+
+@dataclass
+class Echoing(Losing):
+    """A link on which the first reply of two equal requests comes once more in the place of the second, one time."""
+
+    echo: bytes = b""
+    replies: dict[bytes, bytes] = field(default_factory=dict)
+
+    def send(self, sent: bytes) -> None:
+        super().send(sent)
+        if sent == self.echo and sent in self.replies:
+            self.link.waiting.clear()
+            self.link.put(self.link.clock.now(), self.replies[sent])
+            self.echo = b""
+
+    def receive(self, until: float) -> bytes | None:
+        reply = super().receive(until)
+        if reply is not None:
+            self.replies.setdefault(self.sent[-1], reply)
+        return reply
+
+
+def test_a_late_reply_to_an_equal_request_is_no_wrong_reply() -> None:
+    for group in (None, 1):
+        session, losing = begun()
+        session.pair.begin()
+        steps: list[Step] = [replace(ask, group=group) for ask in (get(TIME), put((TIME, integer(9))), get(TIME))]
+        echo = get(TIME).octets(session.pair.port.number + 1, WRITER)
+        session.pair.port.link = echoing = Echoing(losing.link, echo=echo)
+        session.pair.port.passed_over = 1
+        result, block = ChapterResult(ALL[0]), Block("one number", "repeated", steps)
+        session.block(result, block, [])
+        assert not result.once and not result.differences and len(result.left) == (group is not None)
+        assert bool(echoing.echo) is (group is None)
 
 
 def test_asks_of_a_sequence_keep_their_numbers() -> None:

@@ -14,14 +14,12 @@ from wisangub.refusal import Refusal, reason
 from .chapters import ALL, ASKED, NAMES
 from .context import Context
 from .findings.results import LOSSY, Quiet, Watcher
-from .options import above_nothing, count, share, texts, whole
+from .options import above_nothing, address, count, share, texts, whole
 from .person.answers import Reader
 from .report import terminal, words
 from .report.baseline import Baseline
 from .report.earlier import Earlier
 from .report.outputs import Outputs
-from .report.page import as_html
-from .report.pdf import print_page, printer
 from .report.picture import pictures
 from .runs.repeat import repeat
 from .session import Session, chapters_of
@@ -147,13 +145,6 @@ def _described_with(path: pathlib.Path, communities: list[str] | None) -> bytes:
     return b"\n".join(lines)
 
 
-def _address(to: str) -> tuple[str, int]:
-    host, _, port = to.rpartition(":")
-    if not host or not port.isdecimal() or not 0 < int(port) < 65536:
-        raise ValueError(f"--to wants HOST:PORT, not {to}")
-    return host.strip("[]"), int(port)
-
-
 def _about_of(asked: argparse.Namespace, description: bytes) -> words.About:
     oracle = "model" if asked.signtool == "model" else asked.signtool
     program = "" if asked.signtool == str(SIGNTOOL) else asked.signtool
@@ -178,7 +169,7 @@ def _about_of(asked: argparse.Namespace, description: bytes) -> words.About:
 
 def _link(asked: argparse.Namespace, clock: RealClock) -> Link:
     """The socket to the sign, whose datagrams are captured where that is asked for. Raises OSError and Refusal."""
-    link = UdpLink(*_address(asked.to), clock)
+    link = UdpLink(*address(asked.to), clock)
     if asked.pcap is None:
         return link
     return Capture(link, asked.pcap.open("wb"), *link.addresses())
@@ -219,12 +210,11 @@ def _tested(asked: argparse.Namespace, session: Session, watcher: terminal.Plain
     baseline = Baseline.read(asked.baseline) if asked.baseline else None
     taken_up = _taken_up(asked, about, session)
     outputs = Outputs(asked, about, lambda results: words.not_tested(context, results, ALL))
-    program = printer() if asked.pdf else ""
     try:
         chapters = session.prepare(chapters_of(asked.only, asked.slow))
         outputs.write(session.results)
         print("\n".join(line for line in (words.head(about), taken_up) if line), flush=True)
-        watcher.after = lambda: outputs.write(session.results)
+        watcher.after = lambda: outputs.go_on(session.results)
         try:
             results = session.run(chapters)
         finally:
@@ -234,9 +224,8 @@ def _tested(asked: argparse.Namespace, session: Session, watcher: terminal.Plain
         print("\n".join(terminal.ending(results, about, words.not_tested(context, results, ALL))), flush=True)
         if baseline is not None:
             print("\n".join(baseline.lines(results)), flush=True)
-        outputs.write(results)
-        if asked.pdf:
-            print_page(program, as_html(results, about, words.not_tested(context, results, ALL)), asked.pdf)
+        outputs.end(results)
+        session.pair.port.link.close()
     finally:
         outputs.close()
     return results.verdict().status
@@ -247,6 +236,7 @@ def _repeated(session: Session, sequence: str) -> int:
     status = repeat(session, sequence)
     for line in words.set_back_words(session.results):
         print(line)
+    session.pair.port.link.close()
     return status
 
 

@@ -1,9 +1,11 @@
-"""Types of options of the commands: each refuses what is none in words."""
+"""Types of options of the commands: each refuses what is none in words. And the address that `--to` says."""
 
 import argparse
 import math
 import sys
 from typing import Callable
+
+from wisangub.refusal import Refusal
 
 
 def number_of(word: str, wanted: str, is_wanted: Callable[[float], bool]) -> float:
@@ -47,3 +49,11 @@ def texts(word: str) -> int:
     if word == "all":
         return sys.maxsize
     return int(number_of(word, "a whole number, or all,", lambda number: number >= 0 and word.isdecimal()))
+
+
+def address(to: str) -> tuple[str, int]:
+    """The host and the UDP port that `--to` says. Raises Refusal where it says none."""
+    host, _, number = to.rpartition(":")
+    if not host or not number.isdecimal() or not 0 < int(number) < 65536:
+        raise Refusal(f"--to wants HOST:PORT, not {to}")
+    return host.strip("[]"), int(number)

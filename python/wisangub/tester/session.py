@@ -31,7 +31,9 @@ from .state.reset import Reset
 
 MOST_SHRUNK, MOST_TOLD = 4, 12  # differences of a chapter that are made small, and that are told
 MOST_HISTORY = 120  # steps since the known state, on a way that loses some
-PASSES = 4  # times that what could not be judged is begun again at the end of its chapter
+# times that what could not be judged is begun again at the end of its chapter: a long sequence often meets a late
+# request where one datagram in five is lost, late or doubled
+PASSES, LOSSY_PASSES = 4, 8
 
 
 @dataclass
@@ -68,8 +70,8 @@ class Session:
         return self.most_differences is not None and len(self.results.differences()) >= self.most_differences
 
     def run(self, chapters: Sequence[Chapter]) -> Results:
-        """These chapters. A sign that falls silent, time that is over and an interrupt end them; then the sign is put
-        back as far as it can be."""
+        """These chapters. A sign that falls silent, time that is over and an interrupt end them; then, and at any fault
+        too, the sign is put back as far as it can be."""
         chapters = self.prepare(chapters)
         try:
             self._run(chapters)
@@ -77,6 +79,9 @@ class Session:
             self.results.stopped = str(why)
         except KeyboardInterrupt:
             self.results.stopped = "it was interrupted"
+        except Exception:
+            self.put_back()
+            raise
         self.put_back()
         self.results.is_going_on = False
         return self.results
@@ -205,7 +210,7 @@ class Session:
 
     def _judge_left(self, result: ChapterResult) -> None:
         """What could not be judged is begun again, unless that hangs on ticks that are not known."""
-        for _ in range(PASSES):
+        for _ in range(LOSSY_PASSES if self.pair.port.is_lossy() else PASSES):
             if result.left:
                 self.reset.look_for_ticks()
             if not result.left or self.is_enough() or self.reset.is_unlearnt():
@@ -266,8 +271,13 @@ class Session:
         key = run.steps[-1].rule or block.rule
         named = RULES[key] if key else None
         found = classify.better(named, exchange.octets, exchange.ours, exchange.theirs, exchange.mismatch)
-        is_values = is_small and exchange.mismatch.kind is Kind.VALUE
-        return named if named and is_values and classify.is_of_the_sets(named, found, run.steps) else found
+        if not is_small or exchange.mismatch.kind is not Kind.VALUE:
+            return classify.of_the_cause(found, exchange.cause)
+        if named and classify.is_of_the_sets(named, found, run.steps):
+            return named
+        if classify.is_of_the_silence(found, run.steps):
+            return RULES["silence"]
+        return RULES["copied"] if classify.is_of_the_copy(found, exchange.mismatch, run.steps) else found
 
     def made_small(self, run: Run, steps: list[Step], is_shrunk: bool) -> tuple[Run, bool]:
         """The difference in few datagrams, and whether it was seen again, with ticks that were learnt anew."""

@@ -9,6 +9,7 @@ it did, 3 where it heard nothing, and 2 where it could not begin.
 """
 
 import argparse
+import contextlib
 import json
 import pathlib
 import select
@@ -19,7 +20,7 @@ from types import FrameType
 from typing import Callable, Protocol
 
 from wisangub.process.places import SIGNTOOL, add_version, called
-from wisangub.refusal import Refusal
+from wisangub.refusal import Refusal, reason
 from wisangub.snmp import wire
 from wisangub.tester.options import above_nothing, port
 from wisangub.tester.requests.messages import spelled
@@ -27,6 +28,7 @@ from wisangub.tester.requests.objects import Column, Row
 from wisangub.tester.requests.steps import get
 from wisangub.tester.sign.clock import Clock, RealClock
 from wisangub.tester.sign.described import Bad, cause, described
+from wisangub.tester.sign.link import unheard
 from wisangub.tester.sign.oracle import made
 from wisangub.whole import WholeFile
 
@@ -70,16 +72,14 @@ def serve(
             ticked()
             due += 1
         elif select.select([udp_socket], [], [], left)[0]:
-            try:
-                octets, sender = udp_socket.recvfrom(_MOST_RECEIVED)
-            except ConnectionRefusedError:  # of a reply that nobody waits for
-                continue
+            octets, sender = udp_socket.recvfrom(_MOST_RECEIVED)
             for row in watch.rows_asked(octets):
                 watch.owned(row, _owner(sign, watch.reader, row))
             reply = sign.datagram(octets)
             watch.heard(clock.now() - begun, octets, reply)
             if reply is not None:
-                udp_socket.sendto(reply, sender)
+                with unheard():
+                    udp_socket.sendto(reply, sender)
 
 
 def _owner(sign: Answering, reader: bytes, row: Row) -> bytes:
@@ -114,8 +114,8 @@ def _as_json(watch: Watch) -> str:
 
 
 class Report:
-    """The file of --json, if any: whole from the beginning on, and written anew each minute. Raises OSError where it
-    cannot be written."""
+    """The file of --json, if any: whole from the beginning on, and written anew each minute, which no full disk ends.
+    Raises OSError where it cannot be written at the beginning, or at the end."""
 
     def __init__(self, path: pathlib.Path | None, watch: Watch) -> None:
         self._file, self._watch, self._ticks = WholeFile(path) if path else None, watch, 0
@@ -127,7 +127,8 @@ class Report:
     def ticked(self) -> None:
         self._ticks += 1
         if self._ticks % _MINUTE == 0:
-            self.write()
+            with contextlib.suppress(OSError):
+                self.write()
 
 
 def _arguments() -> argparse.ArgumentParser:
@@ -174,15 +175,24 @@ def main() -> int:
             serve(udp_socket, sign, RealClock(), watch, asked.seconds, report.ticked)
     except Stopped:
         pass
-    except OSError as fault:
+    except (OSError, Refusal) as fault:
         print(fault, file=sys.stderr)
         return 2
     finally:
         for number in (signal.SIGINT, signal.SIGTERM):
             signal.signal(number, signal.SIG_IGN)
         sign.end()
+    return _told(watch, report)
+
+
+def _told(watch: Watch, report: Report) -> int:
+    """What was seen, and the status."""
     print("\n".join(watch.lines()), flush=True)
-    report.write()
+    try:
+        report.write()
+    except OSError as fault:
+        print(f"the report cannot be written: {reason(fault)}", file=sys.stderr)
+        return 2
     return watch.verdict().status
 
 

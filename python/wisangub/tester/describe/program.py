@@ -16,7 +16,7 @@ from types import FrameType
 
 from wisangub.process.places import add_version, called
 from wisangub.refusal import Refusal, reason
-from wisangub.tester.options import number_of
+from wisangub.tester.options import address, number_of
 from wisangub.tester.sign.clock import RealClock
 from wisangub.tester.sign.link import UdpLink
 from wisangub.tester.sign.port import Port
@@ -41,14 +41,6 @@ def numbers(word: str) -> tuple[int, ...]:
             raise argparse.ArgumentTypeError(f"numbers of characters are wanted, as 32-126,176, and not {word!r}")
         found += range(least, most + 1)
     return tuple(dict.fromkeys(found))
-
-
-def address(word: str) -> tuple[str, int]:
-    """What `--to` says. Raises Refusal."""
-    host, _, port = word.rpartition(":")
-    if not host or not port.isdigit() or not 0 < int(port) < 65536:
-        raise Refusal(f"--to wants HOST:PORT, not {word}")
-    return host.strip("[]"), int(port)
 
 
 def seconds(word: str) -> float:

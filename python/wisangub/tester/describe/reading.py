@@ -12,6 +12,7 @@ _SIZE = ("vmsSignWidthPixels", "vmsSignHeightPixels")
 _ROWS = ("dmsNumPermanentMsg", "dmsMaxChangeableMsg", "dmsMaxVolatileMsg")
 MOST_COLUMNS, MOST_LINES = 256, 64  # of a description
 MOST_PERMANENT, MOST_CHANGEABLE, MOST_VOLATILE = 16, 64, 16
+_MOST = 65535  # columns, rows of lamps, messages of a memory, and any of the defaults
 
 
 @dataclass(frozen=True)
@@ -57,8 +58,8 @@ def read(client: Client) -> Read:
     names = [scalar(word) for word in (*_SIZE, *_ROWS)] + list(DEFAULTS)
     found = client.numbers(names)
     for word, name in zip((*_SIZE, *_ROWS, *["a default"] * len(DEFAULTS)), names):
-        if name not in found:
-            raise Unreached(f"the sign has no {word} that is a number, and a description needs it")
+        if not 0 <= found.get(name, -1) <= _MOST:
+            raise Unreached(f"the sign has no {word} that is a number up to {_MOST}, and a description needs it")
     width, height, permanent, changeable, volatile, *defaults = (found[name] for name in names)
     held = Read(width, height, defaults, changeable, volatile)
     for number in range(1, min(permanent, MOST_PERMANENT) + 1):

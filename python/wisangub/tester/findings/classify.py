@@ -58,6 +58,8 @@ _BY_MODE: dict[int, str] = {
     SourceMode.END_DURATION: "ends",
 }
 BY_CAUSE: dict[int, str] = {Cause.NONE: "accepted", Cause.PRIORITY: "priority", Cause.SYNTAX: "fits now"}
+_SOURCE, _CAUSE = scalar("dmsMsgTableSource"), scalar("dmsActivateMsgError")
+_SILENCE = "dmsTimeCommLoss"
 _PLACES = ("dmsMultiSyntaxError", "dmsMultiSyntaxErrorPosition")
 _NO_FAULT = (0, 2)  # of the code and of its place
 _MARKUP = (3, 4)  # the codes of a tag, and of a value, that is none
@@ -92,6 +94,8 @@ def better(named: Rule | None, octets: bytes, ours: bytes | None, theirs: bytes 
         return named if named.chapter == "getnext" else found
     if named.chapter in ("durations", "silence", "defaults") and found.key in ("priority", "fits now"):
         return named
+    if named.key == "remaining" and _is_another_checksum(differs, ours, theirs):
+        return RULES["shown"]
     if found.key == "minutes" and (named.chapter in _UNTIMED or named.key == "ends" and len(differs.names) == 1):
         return found
     if differs.kind is Kind.STATUS and status_of(ours) == status_of(theirs) and named.chapter == "communities":
@@ -100,6 +104,8 @@ def better(named: Rule | None, octets: bytes, ours: bytes | None, theirs: bytes 
         return found
     if named.key == "layout" and differs.kind is Kind.VALUE and _is_of_markup(ours, theirs):
         return RULES["markup code"]
+    if differs.names[:1] == (_CAUSE,) and found.key == "deciding" and _is_another_cause(ours, theirs):
+        return found
     if differs.kind is Kind.VALUE and named.chapter != found.chapter:
         return found if found.key in _CERTAIN or named.chapter in _GENERAL else named
     is_alone = request.kind == wire.SET and len(request.bindings) == 1 and differs.kind is Kind.STATUS
@@ -108,9 +114,51 @@ def better(named: Rule | None, octets: bytes, ours: bytes | None, theirs: bytes 
 
 def _is_of_markup(ours: bytes, theirs: bytes) -> bool:
     """Whether the sign finds a fault of the markup where ours finds one of the layout."""
-    name = scalar("dmsMultiSyntaxError")
-    want, have = (dict(held.bindings).get(name) for held in map(spelled, (ours, theirs)) if held is not None)
-    return want is not None and have is not None and want[1] not in _MARKUP and have[1] in _MARKUP
+    want, have = (_read(reply, scalar("dmsMultiSyntaxError")) for reply in (ours, theirs))
+    return want is not None and want not in _MARKUP and have in _MARKUP
+
+
+def _is_another_checksum(differs: Mismatch, ours: bytes, theirs: bytes) -> bool:
+    """Whether the source of what is shown is the same row, and differs in the checksum alone."""
+    want, have = _read(ours, _SOURCE), _read(theirs, _SOURCE)
+    return differs.names == (_SOURCE,) and isinstance(want, bytes) and isinstance(have, bytes) and want[:3] == have[:3]
+
+
+def _is_another_cause(ours: bytes, theirs: bytes) -> bool:
+    """Whether both refuse an activation, and report another cause."""
+    causes = [_read(reply, _CAUSE) for reply in (ours, theirs)]
+    return causes[0] != causes[1] and all(isinstance(held, int) and held != Cause.NONE for held in causes)
+
+
+def _read(reply: bytes, name: Name) -> int | bytes | Name | None:
+    """What a reply says of a name, if anything."""
+    message = spelled(reply)
+    bound = None if message is None else dict(message.bindings).get(name)
+    return None if bound is None else bound[1]
+
+
+def of_the_cause(found: Rule, cause: int | None) -> Rule:
+    """The rule that an activation breaks which one of the two alone refuses, by the cause that it reports."""
+    return RULES[BY_CAUSE[cause]] if found.key == "deciding" and cause in (Cause.PRIORITY, Cause.SYNTAX) else found
+
+
+def is_of_the_copy(found: Rule, differs: Mismatch, steps: Sequence[Step]) -> bool:
+    """Whether a field of what is shown differs, and something was written since the last command: it is a copy."""
+    are_commands = [not words.isdisjoint(COMMANDS) for words in _written(steps)]
+    is_field = any(row is not None and row[0] == Memory.CURRENT for row in map(row_of, differs.names[:1]))
+    return found.key == "shown" and is_field and any(are_commands) and not are_commands[-1]
+
+
+def is_of_the_silence(found: Rule, steps: Sequence[Step]) -> bool:
+    """Whether no command came before what looks like an end, but a time after which the sign is to be lost."""
+    words = set[str]().union(*_written(steps))
+    return found.key == "ends" and _SILENCE in words and words.isdisjoint(COMMANDS)
+
+
+def _written(steps: Sequence[Step]) -> list[set[str]]:
+    """The objects that each SET names, but for the last of the steps."""
+    sets = [step for step in steps[:-1] if isinstance(step, Ask) and step.kind == wire.SET]
+    return [{word_of(name) for name, _ in step.bindings} for step in sets]
 
 
 def is_of_the_sets(named: Rule, found: Rule, steps: Sequence[Step]) -> bool:

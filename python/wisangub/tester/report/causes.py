@@ -25,9 +25,10 @@ def cause(difference: Difference) -> str:
         return _by_status(request, ours, theirs)
     if kind is Kind.VALUE and difference.mismatch.names:
         name = difference.mismatch.names[0]
-        expected, read = dict(ours.bindings)[name], dict(theirs.bindings)[name]
-        verb = "repeats" if request.kind == wire.SET else "reads"
-        return f"{verb} {_bound(name, read)}; expected: {value_words(expected, name)}"
+        expected, read = dict(ours.bindings).get(name), dict(theirs.bindings).get(name)
+        if expected is not None and read is not None:  # else the requests are to bring the object to a value
+            verb = "repeats" if request.kind == wire.SET else "reads"
+            return f"{verb} {_bound(name, read)}; expected: {value_words(expected, name)}"
     return difference.title
 
 

@@ -2,14 +2,14 @@
 
 import argparse
 import pathlib
-from contextlib import ExitStack
+from contextlib import ExitStack, suppress
 from typing import Callable
 
 from wisangub.refusal import Refusal, reason
 from wisangub.tester.findings.results import Results
 from wisangub.whole import WholeFile
 
-from . import files, page
+from . import files, page, pdf
 from .words import About
 
 NotTested = Callable[[Results], list[str]]
@@ -22,7 +22,9 @@ class Outputs:
     def __init__(self, asked: argparse.Namespace, about: About, not_tested: NotTested) -> None:
         self._about, self._not_tested = about, not_tested
         self._closing = ExitStack()
-        self._html, self._junit, self._json = map(self._opened, (asked.html, asked.junit, asked.json))
+        paths = (asked.html, asked.junit, asked.json, asked.pdf)
+        self._html, self._junit, self._json, self._pdf = map(self._opened, paths)
+        self._printer = pdf.printer() if asked.pdf else ""
 
     def _opened(self, path: pathlib.Path | None) -> WholeFile | None:
         if path is None:
@@ -38,15 +40,32 @@ class Outputs:
     def write(self, results: Results) -> None:
         """What is known so far, in the place of what was written before."""
         left_out = self._not_tested(results)
-        try:
-            if self._html is not None:
-                self._html.write(page.as_html(results, self._about, left_out))
-            if self._junit is not None:
-                self._junit.write(files.as_junit(results, self._about))
-            if self._json is not None:
-                self._json.write(files.as_json(results, self._about, left_out))
-        except OSError as fault:
-            raise Refusal(f"the report cannot be written: {reason(fault)}") from None
+        if self._html is not None:
+            _put(self._html, page.as_html(results, self._about, left_out))
+        if self._junit is not None:
+            _put(self._junit, files.as_junit(results, self._about))
+        if self._json is not None:
+            _put(self._json, files.as_json(results, self._about, left_out))
+
+    def go_on(self, results: Results) -> None:
+        """The same while the test goes on, which no full disk ends: what stood there stands until there is room."""
+        with suppress(Refusal):
+            self.write(results)
+
+    def end(self, results: Results) -> None:
+        """The same at the end, and printed where that is asked for."""
+        self.write(results)
+        if self._pdf is not None:
+            shown = page.as_html(results, self._about, self._not_tested(results))
+            _put(self._pdf, pdf.printed(self._printer, shown))
 
     def close(self) -> None:
         self._closing.close()
+
+
+def _put(file: WholeFile, held: str | bytes) -> None:
+    """This in a file. Raises Refusal where it cannot be written."""
+    try:
+        file.write(held)
+    except OSError as fault:
+        raise Refusal(f"the report cannot be written: {reason(fault)}") from None

@@ -19,8 +19,8 @@ def printer() -> str:
     return found
 
 
-def print_page(program: str, page: str, path: pathlib.Path) -> None:
-    """The page as a PDF in this file. Raises Refusal where the program makes none."""
+def printed(program: str, page: str) -> bytes:
+    """The page as a PDF. Raises Refusal where the program makes none."""
     with tempfile.TemporaryDirectory() as folder:
         html, made = pathlib.Path(folder) / "report.html", pathlib.Path(folder) / "report.pdf"
         html.write_text(page, encoding="utf-8")
@@ -28,6 +28,6 @@ def print_page(program: str, page: str, path: pathlib.Path) -> None:
         call += [f"--user-data-dir={folder}/profile", f"--print-to-pdf={made}", html.as_uri()]
         try:
             subprocess.run(call, check=True, capture_output=True, timeout=_SECONDS)
-            path.write_bytes(made.read_bytes())
+            return made.read_bytes()
         except (subprocess.SubprocessError, OSError) as fault:
-            raise Refusal(f"{path}: Chromium printed no report: {fault}") from None
+            raise Refusal(f"Chromium printed no report: {fault}") from None

@@ -5,13 +5,16 @@ from dataclasses import dataclass, field
 from typing import Sequence
 
 from wisangub.snmp import wire
+from wisangub.snmp.names import scalar
 from wisangub.tester.findings.differences import Signature, signature
-from wisangub.tester.requests.messages import spelled
+from wisangub.tester.requests.messages import spelled, status_of
 from wisangub.tester.requests.objects import is_validation
-from wisangub.tester.requests.steps import Ask, Step, Wait
+from wisangub.tester.requests.steps import Ask, Raw, Step, Wait
 from wisangub.tester.sign.pair import Exchange, Inconclusive, Likeness, Pair, likeness
 from wisangub.tester.state.reset import Reset
+from wisangub.tester.state.unanswered import is_command, ours_reads
 
+_CAUSE = scalar("dmsActivateMsgError")
 _TRIES = 3
 _MOST_LOST = 4  # SETs of a kind without a reply, until that is looked at as a difference
 
@@ -56,6 +59,7 @@ class Runner:
             is_lost = self.is_lost(exchange)
             if exchange.mismatch is not None and not is_lost:
                 exchange.is_slip = self._is_slip(exchange)
+                exchange.cause = self._cause(exchange)
                 return Run(exchange, list(steps[: at + 1]), sent)
         return None
 
@@ -63,10 +67,20 @@ class Runner:
         """Whether a read is right when it is asked again at once: no late request made it wrong, but the sign did."""
         if exchange.is_set or not self.pair.port.is_lossy():
             return not exchange.is_set
-        if exchange.theirs is None:
+        if exchange.theirs is None or _shares_number(exchange.step):
             return False
         again = self.pair.do(exchange.step)
         return again is not None and again.mismatch is None and not self.pair.port.strays
+
+    def _cause(self, exchange: Exchange) -> int | None:
+        """What the one of the two reports that alone refuses an activation."""
+        message, names = spelled(exchange.octets), [_CAUSE]
+        are_refused = [status_of(reply) != wire.NO_ERROR for reply in (exchange.ours, exchange.theirs)]
+        if message is None or not is_command(message) or exchange.theirs is None or sum(are_refused) != 1:
+            return None
+        read = ours_reads(self.pair, names) if are_refused[0] else self.reset.read(names)
+        value = None if read is None else read.get(_CAUSE)
+        return value[1] if value is not None and isinstance(value[1], int) else None
 
     def is_lost(self, exchange: Exchange) -> bool:
         """Whether a SET without a reply is one of many whose replies came, or of few of its kind so far, on a way that
@@ -103,6 +117,11 @@ class Runner:
                 if left == 1:
                     raise
         return None
+
+
+def _shares_number(step: Step) -> bool:
+    """Whether an equal request may have its number: a late reply to that one would be taken for its own."""
+    return isinstance(step, (Ask, Raw)) and step.group is not None
 
 
 def _likeness(exchange: Exchange) -> set[Likeness]:

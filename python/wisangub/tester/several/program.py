@@ -54,7 +54,7 @@ class Several:
     def stop(self) -> None:
         """The tests that run put their signs back and end; no other begins."""
         self.is_stopped = True
-        for process in self.running:
+        for process in list(self.running):
             process.send_signal(signal.SIGTERM)
 
     def _work(self) -> None:

@@ -1,5 +1,6 @@
 """What was sent and what came, as a capture that Wireshark and tcpdump read: `--pcap FILE`."""
 
+import contextlib
 import ipaddress
 import struct
 import time
@@ -14,10 +15,11 @@ Address = tuple[str, int]
 
 class Capture:
     """A link whose datagrams are also written to a file, each with IP and UDP headers and the time of day. Checksums
-    of UDP are left out, and those of IP are 0."""
+    of UDP are left out, and those of IP are 0. A disk that is full ends the capture, and not the test."""
 
     def __init__(self, link: Link, file: BinaryIO, here: Address, there: Address) -> None:
         self._link, self._file, self._here, self._there = link, file, here, there
+        self._fault: OSError | None = None
         file.write(struct.pack("<IHHiIII", _MAGIC, *_VERSION, 0, 0, _MOST, _RAW))
 
     def send(self, octets: bytes) -> None:
@@ -31,14 +33,24 @@ class Capture:
         return octets
 
     def close(self) -> None:
+        """Raises OSError where the file has not all."""
         self._link.close()
-        self._file.close()
+        with contextlib.suppress(OSError):
+            self._file.close()
+        if self._fault is not None:
+            raise self._fault
 
     def _write(self, octets: bytes, sender: Address, receiver: Address) -> None:
+        if self._fault is not None:
+            return
         packet = packet_of(octets, sender, receiver)[:_MOST]
         moment = time.time()
-        self._file.write(struct.pack("<IIII", int(moment), int(moment % 1 * 1e6), len(packet), len(packet)) + packet)
-        self._file.flush()
+        head = struct.pack("<IIII", int(moment), int(moment % 1 * 1e6), len(packet), len(packet))
+        try:
+            self._file.write(head + packet)
+            self._file.flush()
+        except OSError as fault:
+            self._fault = OSError(fault.errno, f"the capture ends early: {fault.strerror}", self._file.name)
 
 
 def packet_of(octets: bytes, sender: Address, receiver: Address) -> bytes:

@@ -89,7 +89,7 @@ _FORMS = {
 def cause(path: pathlib.Path, fault: Bad) -> str:
     """What stands in the line at fault, and what a line of its keyword is; nothing where no line is named."""
     word, _, number = str(fault).partition(" ")
-    if word != "line" or not number.isdigit():
+    if word != "line" or not number.isdecimal():
         return ""
     lines = path.read_bytes().split(b"\n")
     line = lines[int(number) - 1] if int(number) <= len(lines) else b""

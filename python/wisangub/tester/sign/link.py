@@ -1,15 +1,29 @@
 """The way to the sign under test: datagrams out, datagrams in."""
 
+import contextlib
 import errno
 import select
 import socket
-from typing import Protocol
+from typing import Iterator, Protocol
 
 from wisangub.refusal import Refusal
 
 from .clock import Clock
 
 _MOST_RECEIVED = 65_535
+# of a datagram that nobody hears, or of one before it: no port, no way there, no network, a firewall, no room, too long
+_UNHEARD = frozenset(
+    (
+        errno.ECONNREFUSED,
+        errno.EHOSTUNREACH,
+        errno.EHOSTDOWN,
+        errno.ENETUNREACH,
+        errno.ENETDOWN,
+        errno.EPERM,
+        errno.ENOBUFS,
+        errno.EMSGSIZE,
+    )
+)
 
 
 class Link(Protocol):
@@ -23,6 +37,16 @@ class Link(Protocol):
 
     def close(self) -> None:
         ...
+
+
+@contextlib.contextmanager
+def unheard() -> Iterator[None]:
+    """Passes over the faults of a datagram that nobody hears. Raises OSError for others."""
+    try:
+        yield
+    except OSError as fault:
+        if fault.errno not in _UNHEARD:
+            raise
 
 
 class UdpLink:
@@ -43,23 +67,17 @@ class UdpLink:
         return (str(here), int(port)), (str(there), int(other))
 
     def send(self, octets: bytes) -> None:
-        try:
+        """What nobody hears has no answer, and is no fault of the test."""
+        with unheard():
             self.socket.send(octets)
-        except ConnectionRefusedError:  # of an earlier datagram; nobody hears this one either, which is no answer
-            pass
-        except OSError as fault:
-            if fault.errno != errno.EMSGSIZE:  # longer than UDP takes: nobody hears it
-                raise
 
     def receive(self, until: float) -> bytes | None:
         while True:
             left = max(0.0, until - self.clock.now())
             if not select.select([self.socket], [], [], left)[0]:
                 return None
-            try:
+            with unheard():
                 return self.socket.recv(_MOST_RECEIVED)
-            except ConnectionRefusedError:
-                continue
 
     def close(self) -> None:
         self.socket.close()

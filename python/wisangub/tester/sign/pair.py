@@ -42,6 +42,7 @@ class Exchange:
     is_lost: bool = False  # a SET whose reply did not come, though it is known by reading what it did
     is_set: bool = False
     is_slip: bool = False  # a read that was wrong, and right when it was asked again at once
+    cause: int | None = None  # for which one of the two alone refused an activation
 
 
 @dataclass

@@ -71,7 +71,7 @@ class Reset:
         found: _Read = {}
         for look in looks(names):
             message = spelled(self.ask(look) or b"")
-            if message is not None and message.status == wire.NO_ERROR:
+            if message is not None and message.status == wire.NO_ERROR and _is_about(message, look):
                 found |= dict(message.bindings)
             elif len(names) == 1:
                 found[names[0]] = None
@@ -256,3 +256,8 @@ class Reset:
         unreached = self.reach(is_timed and self.pair.ticks.is_old(), is_alike)
         if unreached:
             raise Unreachable(unreached)
+
+
+def _is_about(reply: wire.Message, look: Ask) -> bool:
+    """Whether a reply has the names that were asked for."""
+    return [name for name, _ in reply.bindings] == [name for name, _ in look.bindings]

@@ -17,6 +17,8 @@ from typing import Any
 
 from wisangub import junit
 from wisangub.process.places import TOP, add_version, called
+from wisangub.refusal import Refusal
+from wisangub.tester.options import above_nothing, address
 
 _MOST_SILENT = 3
 
@@ -64,6 +66,14 @@ def _compare(
     return tried, False
 
 
+def _resolved(host: str, port: int) -> tuple[str, int]:
+    """The address of a host. Raises Refusal where there is none."""
+    try:
+        return socket.gethostbyname(host), port
+    except OSError as fault:
+        raise Refusal(f"{host}: {fault.strerror}") from None
+
+
 def main() -> int:
     """Asks for the vectors and prints what is otherwise; 2 where the sign is silent."""
     parser = argparse.ArgumentParser(
@@ -73,17 +83,15 @@ def main() -> int:
     )
     add_version(parser, "wisangub-conform vectors")
     parser.add_argument("--to", default="127.0.0.1:1161", metavar="HOST:PORT", help="where the sign is")
-    parser.add_argument("--wait", type=float, default=0.5, metavar="SECONDS", help="how long a reply may take")
+    parser.add_argument("--wait", type=above_nothing, default=0.5, metavar="SECONDS", help="how long a reply may take")
     parser.add_argument("--junit", type=pathlib.Path, metavar="FILE", help="a report as JUnit has it is written here")
     options = parser.parse_args()
-    host, _, port = options.to.rpartition(":")
-    if not host or not port.isdigit():
-        parser.error(f"--to wants HOST:PORT, not {options.to}")
+    to = _resolved(*address(options.to))
     every = _cases(TOP / "vectors/requests.jsonl")
     wanted = [case for case in every if not case["changes"]]
     with socket.socket(socket.AF_INET, socket.SOCK_DGRAM) as udp_socket:
         udp_socket.settimeout(options.wait)
-        tried, is_silent = _compare(udp_socket, (socket.gethostbyname(host), int(port)), wanted)
+        tried, is_silent = _compare(udp_socket, to, wanted)
     if options.junit:
         junit.write(options.junit, "vectors", tried)
     if is_silent:
