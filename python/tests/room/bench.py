@@ -52,7 +52,9 @@ class Bench:
     def session(self, name: str) -> Session:
         """A session of a worker with a connection of its own."""
         store = Store(database.opened(self.where))
-        return Session(store, self.sign_id, self.signs(store)[self.sign_id], name, PROGRAM, Mib.read())
+        made = Session(store, self.sign_id, self.signs(store)[self.sign_id], name, PROGRAM, Mib.read())
+        store.lines.keep([made.stand()])
+        return made
 
     def ask(self, line: str) -> int:
         return self.store.commands.ask(self.sign_id, "me", line)

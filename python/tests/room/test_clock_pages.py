@@ -34,7 +34,11 @@ def test_a_log_in_that_begins_at_a_time_to_come_is_over(tmp_path: pathlib.Path, 
     run(tmp_path, where, act)
 
 
-def test_log_ins_that_failed_at_a_time_to_come_shut_nobody_out(tmp_path: pathlib.Path, where: str) -> None:
+def test_log_ins_that_failed_at_a_time_to_come_shut_nobody_out(
+    tmp_path: pathlib.Path, where: str, monkeypatch: pytest.MonkeyPatch
+) -> None:
+    monkeypatch.setattr(logins, "_FIRST_WAIT", 60.0)  # longer than a busy machine takes for these
+
     async def act(bench: Bench, visitor: Visitors) -> None:
         held = bench.store.database
         jump(held, AHEAD)

@@ -7,6 +7,7 @@ import stat
 import sys
 import threading
 import time
+from typing import Sequence
 
 import pytest
 
@@ -16,6 +17,7 @@ from wisangub.room.__main__ import PARTS
 from wisangub.room.fleet import Sign
 from wisangub.room.store import database
 from wisangub.room.store.commands import Command
+from wisangub.room.store.connection import Row
 from wisangub.room.store.database import Database, Failed, Taken
 from wisangub.room.store.lines import Line, News
 from wisangub.room.store.messages import RowSaid
@@ -154,6 +156,28 @@ def test_values_are_what_they_were(where: str) -> None:
     assert made.run("SELECT CAST(? AS TEXT)", None) == [(None,)]
     now = made.run("SELECT {clock}")[0][0]
     assert isinstance(now, float) and abs(now - time.time()) < 60
+
+
+@pytest.mark.parametrize(("is_often", "wanted"), ((False, [1, 7, 1000, 100]), (True, [1, 4, 2, 1, 512, 512, 64, 8, 4])))
+def test_many_rows_are_put_by_a_few_statements(
+    where: str, is_often: bool, wanted: list[int], monkeypatch: pytest.MonkeyPatch
+) -> None:
+    made, sizes = database.opened(where), list[int]()
+    put = made.put
+
+    def counted(sql: str, values: Sequence[Row]) -> None:
+        sizes.append(sql.count("?"))
+        put(sql, values)
+
+    monkeypatch.setattr(made, "put", counted)
+    made.run("CREATE TABLE held (a BIGINT)")
+    rows: list[Row] = [(number,) for number in range(1100)]
+    for count in (0, 1, 7, 1100):
+        with made.transaction():
+            made.run("DELETE FROM held")
+            made.run_rows("INSERT INTO held (a) VALUES {rows}", "(?)", rows[:count], is_often)
+        assert made.run("SELECT a FROM held ORDER BY a") == rows[:count]
+    assert sizes == wanted
 
 
 def test_a_number_is_given_once(where: str) -> None:

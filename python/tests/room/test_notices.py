@@ -191,7 +191,7 @@ def test_a_server_that_never_ends_is_cut_off(where: str) -> None:
         slow_hook = Webhook(f"http://127.0.0.1:{slow.port}/", limit=0.5)
         begun = time.monotonic()
         Notices(where, Settings((slow_hook, slow_mail))).tell(store.database)
-        assert time.monotonic() - begun < 15
+        assert time.monotonic() - begun < 60
         assert store.database.run("SELECT count(*), count(told) FROM notices") == [(2, 0)]
 
 

@@ -120,7 +120,7 @@ def test_who_is_stopped_within_a_transaction_loses_its_place(url: str) -> None:
                 "INSERT INTO lines (sign, number, line, worker, at) VALUES (?, 1, 'a', 'first', 0)", sign
             )
             assert other.lines.insert([Line(sign, 1, b"b")], "second") == {sign}, "the server ended the first one"
-    assert time.monotonic() - begun < 9 and store.lines.of(sign)[2] == [b"b"]
+    assert time.monotonic() - begun < 60 and store.lines.of(sign)[2] == [b"b"]
 
 
 def test_of_two_that_wait_for_one_another_one_may_try_again(url: str) -> None:

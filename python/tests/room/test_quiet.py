@@ -101,7 +101,7 @@ def test_rows_are_known_where_the_server_lost_when_they_were_heard(where: str) -
     second.messages.keep([RowSaid(sign, 3, 1, -2, 4, '{"a": 1}')])
     first.database.run("DELETE FROM row_hearings")  # as a crash of PostgreSQL does
     ((*row, heard),) = first.messages.of(sign)
-    assert row == [3, 1, 4, '{"a": 1}'] and abs(heard - written) < 10.0, "since when it stands so"
+    assert row == [3, 1, 4, '{"a": 1}'] and abs(heard - written) < 60.0, "since when it stands so"
     second.messages.keep([RowSaid(sign, 3, 1, -3, 4, '{"a": 1}')])
     ((*_, heard),) = first.messages.of(sign)
     assert 99.0 < heard - written < 200.0

@@ -81,6 +81,12 @@ def test_a_form_without_its_token_logs_nobody_in(tmp_path: pathlib.Path) -> None
     run(tmp_path, str(tmp_path / "database"), act)
 
 
+@pytest.fixture(name="slowly")
+def _slowly(monkeypatch: pytest.MonkeyPatch) -> None:
+    """Who failed waits a minute at least, so that no wait is over while a busy machine answers some requests."""
+    monkeypatch.setattr(logins, "_FIRST_WAIT", 60.0)
+
+
 def later(bench: Bench, seconds: float) -> None:
     """Log-ins that failed are so much longer ago."""
     bench.store.database.run("UPDATE failed_logins SET at = at - ?", seconds)
@@ -91,6 +97,7 @@ def audit(bench: Bench, who: str) -> list[str]:
     return [re.sub(r" [0-9]+ failed", " N failed", str(row[0])) for row in rows]
 
 
+@pytest.mark.usefixtures("slowly")
 def test_who_fails_to_log_in_waits_longer_and_longer(tmp_path: pathlib.Path, where: str) -> None:
     async def act(bench: Bench, visitor: Visitors) -> None:
         one = visitor()
@@ -197,6 +204,7 @@ def test_a_success_forgets_what_failed(tmp_path: pathlib.Path) -> None:
     run(tmp_path, str(tmp_path / "database"), act)
 
 
+@pytest.mark.usefixtures("slowly")
 def test_guesses_at_the_present_password_wait_too(tmp_path: pathlib.Path, where: str) -> None:
     async def act(bench: Bench, visitor: Visitors) -> None:
         one = await bench.logged_in(visitor, "operator")

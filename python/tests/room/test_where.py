@@ -103,7 +103,7 @@ def test_a_name_that_is_found_no_more_stands_for_what_it_was(names: Names) -> No
 def test_many_names_are_not_waited_for_for_ever(monkeypatch: pytest.MonkeyPatch) -> None:
     def slow(*_: Any, **words: Any) -> Any:
         if not words["flags"]:
-            time.sleep(20)
+            time.sleep(60)
         raise socket.gaierror(socket.EAI_AGAIN, "Temporary failure in name resolution")
 
     monkeypatch.setattr(addresses, "getaddrinfo", slow)
@@ -111,7 +111,7 @@ def test_many_names_are_not_waited_for_for_ever(monkeypatch: pytest.MonkeyPatch)
     begun = time.monotonic()
     found = Addresses([(f"{at}.example", 7) for at in range(1000)]).wait(0.5)
     found.close()
-    assert time.monotonic() - begun < 10 and "being looked up" in found.of(("3.example", 7)).fault
+    assert time.monotonic() - begun < 50 and "being looked up" in found.of(("3.example", 7)).fault
 
 
 @pytest.mark.parametrize("host", ("localhost", "127.1", "::ffff:127.0.0.1"))

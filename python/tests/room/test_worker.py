@@ -98,7 +98,7 @@ def test_a_co_process_stands_while_its_sign_has_work(tmp_path: pathlib.Path, whe
             worker.round()
         assert len(standing() - before) == 1
         assert at.ended(worker, command) == "accepted"
-        while worker.sessions:
+        while worker.sessions or worker.leaving.processes:
             worker.round()
         assert standing() == before
 

@@ -15,7 +15,7 @@ from wisangub.process.places import environment
 from wisangub.room.output import LOG
 
 _STANDS = b"+"
-_PATIENCE = 30.0  # seconds in which the other process ends
+_PATIENCE = 60.0  # seconds in which the other process ends
 
 
 @dataclass

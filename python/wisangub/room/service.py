@@ -17,7 +17,7 @@ from wisangub.room.web.settings import Settings
 
 from .fleet import Sign
 
-_PATIENCE = 20.0  # seconds until the pages stand, or have ended
+_PATIENCE = 60.0  # seconds until the pages stand, or have ended
 _LAST = 2.0  # seconds for what is under way as they end
 _ACCESS = logging.Logger("access")  # which aiohttp asks for, and nothing is handed to
 _QUIET = logging.Logger("requests", logging.CRITICAL + 1)  # what a request says that is none is nobody's to read

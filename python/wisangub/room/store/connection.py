@@ -80,13 +80,17 @@ class Database:
             with self.turn, self.watched():
                 self.put(self.own(sql), values)
 
-    def run_rows(self, sql: str, place: str, rows: Sequence[Row]) -> None:
+    def run_rows(self, sql: str, place: str, rows: Sequence[Row], is_often: bool = False) -> None:
         """Runs a statement once for many rows: {rows} in it stands for `place`, such as `(?, {clock})`, as often as
-        there are rows."""
-        for at in range(0, len(rows), _MOST_ROWS):
-            part = rows[at : at + _MOST_ROWS]
-            held = tuple(value for row in part for value in row)
-            self.run_all(sql.replace("{rows}", ", ".join([place] * len(part))), [held])
+        there are rows. One that is run many times a second is run for a power of two of them at a time: such statements
+        are few, so that a server has prepared them."""
+        at = 0
+        while at < len(rows):
+            left = min(_MOST_ROWS, len(rows) - at)
+            size = 1 << left.bit_length() - 1 if is_often else left
+            held = tuple(value for row in rows[at : at + size] for value in row)
+            self.run_all(sql.replace("{rows}", ", ".join([place] * size)), [held])
+            at += size
 
     def count_all(self, sql: str, values: Sequence[Row]) -> int:
         """The same: how many rows it changed in all."""

@@ -8,14 +8,26 @@ from typing import NamedTuple, Sequence
 
 from wisangub.endpoint.records import Head
 
-from .connection import Database, Taken, Value
+from .connection import Database, Row, Taken, Value
 from .values import CLOCK, places, whole
 
 # The number of a line that is in an archive is taken, though the line stands here no more: the same once more is
 # refused by the key. It comes after the line's own statement, and so sees what was taken out as that one waited.
 _NOT_ARCHIVED = (
-    "INSERT INTO lines (sign, number, line, worker, at)"
-    " SELECT id, CAST(? AS BIGINT), '', '', 0 FROM signs WHERE id = ? AND archived >= ?"
+    "WITH put (number, sign) AS (VALUES {rows}) INSERT INTO lines (sign, number, line, worker, at)"
+    " SELECT id, put.number, '', '', 0 FROM put JOIN signs ON signs.id = put.sign WHERE signs.archived >= put.number"
+)
+
+# of signs in their order, in which all take these rows, so that none waits for one that waits for it
+_WANTED = (
+    "WITH come (sign) AS (VALUES {rows}), held AS MATERIALIZED"
+    " (SELECT id FROM signs WHERE id IN (SELECT sign FROM come) ORDER BY id {lock})"
+    " UPDATE signs SET table_wanted = 1 WHERE id IN (SELECT id FROM held)"
+)
+_READ_SOON = (
+    "WITH come (sign) AS (VALUES {rows}), held AS MATERIALIZED"
+    " (SELECT sign FROM hearings WHERE sign IN (SELECT sign FROM come) ORDER BY sign {lock})"
+    " UPDATE hearings SET read_at = 0 WHERE sign IN (SELECT sign FROM held)"
 )
 
 
@@ -112,23 +124,33 @@ class Lines:
         """All of them or none; raises Taken where a number is there, or where a command no longer waits."""
         lines = sorted(lines, key=lambda line: line.sign)
         begun: list[tuple[Value, ...]] = [(line.number, line.command) for line in lines if line.command is not None]
-        run_all = self.database.run_all
+        put_rows = self._put_rows
         with self.database.transaction():
-            run_all("UPDATE commands SET step = ? WHERE id = ? AND outcome IS NULL", list(steps))
+            put_rows(
+                "WITH come (step, id) AS (VALUES {rows}) UPDATE commands SET step = come.step FROM come"
+                " WHERE commands.id = come.id AND commands.outcome IS NULL",
+                "(?, ?)",
+                list(steps),
+            )
             changed = self.database.count_all(
                 "UPDATE commands SET line_number = ? WHERE id = ? AND line_number IS NULL AND outcome IS NULL", begun
             )
             if changed != len(begun):
                 raise Taken("a command waits no longer")
-            run_all(
-                f"INSERT INTO lines (sign, number, line, worker, at) VALUES (?, ?, ?, ?, {CLOCK})",
+            put_rows(
+                "INSERT INTO lines (sign, number, line, worker, at) VALUES {rows}",
+                f"(?, ?, ?, ?, {CLOCK})",
                 [(line.sign, line.number, line.text.decode(), worker) for line in lines],
             )
-            run_all(_NOT_ARCHIVED, [(line.number, line.sign, line.number) for line in lines])
-            run_all(
+            put_rows(_NOT_ARCHIVED, "(?, ?)", [(line.number, line.sign) for line in lines])
+            self.database.run_all(
                 "UPDATE signs SET centre = ? WHERE id = ?",
                 [(line.number, line.sign) for line in lines if line.is_first],
             )
+
+    def _put_rows(self, sql: str, place: str, rows: Sequence[Row]) -> None:
+        """Many rows by a statement, as every worker does it many times a second."""
+        self.database.run_rows(sql, place, rows, is_often=True)
 
     def replace(self, line: Line, worker: str, how: str) -> bool:
         """A centre begins in the place of one that is no more: what was under way with that one is over, so, and what
@@ -142,7 +164,7 @@ class Lines:
                     line.text.decode(),
                     worker,
                 )
-                self._run(_NOT_ARCHIVED, line.number, line.sign, line.number)
+                self._put_rows(_NOT_ARCHIVED, "(?, ?)", [(line.number, line.sign)])
                 self._run("UPDATE signs SET centre = ? WHERE id = ?", line.number, line.sign)
                 self._run(
                     f"UPDATE commands SET outcome = ?, ended = {CLOCK}"
@@ -163,20 +185,27 @@ class Lines:
         soon."""
         news = sorted(news, key=lambda one: one.sign)
         ended = [one for one in news if one.how is not None]
-        run_all, signs = self.database.run_all, [(one.sign,) for one in ended]
+        entries = {
+            (one.sign, entry[0]): (one.sign, *entry, one.of) for one in news for entry in map(_entry, one.ledger)
+        }
+        put_rows, signs = self._put_rows, [(one.sign,) for one in ended]
         with self.database.transaction():
-            run_all(
-                f"INSERT INTO ledger (sign, number, code, outcome, command, at) VALUES (?, ?, ?, ?, ?, {CLOCK})"
-                " ON CONFLICT (sign, number) DO UPDATE SET outcome = excluded.outcome, at = excluded.at"
+            put_rows(
+                "INSERT INTO ledger (sign, number, code, outcome, command, at) VALUES {rows} ON CONFLICT (sign, number)"
+                " DO UPDATE SET outcome = excluded.outcome, at = excluded.at"
                 " WHERE ledger.outcome = 'waiting' AND excluded.outcome <> 'waiting'",
-                [(one.sign, *_entry(line), one.of) for one in news for line in one.ledger],
+                f"(?, ?, ?, ?, ?, {CLOCK})",
+                list(entries.values()),
             )
-            run_all(
-                f"UPDATE commands SET outcome = ?, ended = {CLOCK} WHERE id = ? AND outcome IS NULL",
+            put_rows(
+                "WITH come (how, id) AS (VALUES {rows})"
+                f" UPDATE commands SET outcome = come.how, ended = {CLOCK} FROM come"
+                " WHERE commands.id = come.id AND commands.outcome IS NULL",
+                "(?, ?)",
                 [(one.how, one.command) for one in ended],
             )
-            run_all("UPDATE signs SET table_wanted = 1 WHERE id = ?", signs)
-            run_all("UPDATE hearings SET read_at = 0 WHERE sign = ?", signs)
+            put_rows(_WANTED, "(?)", signs)
+            put_rows(_READ_SOON, "(?)", signs)
 
     def ledger(self, sign: int) -> list[str]:
         """The rows, as lines of a status."""

@@ -5,7 +5,7 @@ from typing import Callable, Iterator, Sequence, TypeVar
 
 _Row = TypeVar("_Row")
 Slice = tuple[Sequence[_Row], int | None]  # rows, and the number below which it goes on, none where it does not
-FEW = 200  # rows that are looked at before an index is asked
+FEW = 50  # rows beside a page that are looked at before an index is asked
 SLICE = 2000  # rows that are read at once
 MOST_SEEN = 20_000  # rows that are looked at for one page
 

@@ -1,37 +1,44 @@
 """What a worker does, round after round: leases and lines; reader.py has its readings. program.py is the program."""
 
+import contextlib
 import os
 import secrets
 import socket
 import time
 from dataclasses import dataclass
+from typing import Iterator
 
-from wisangub.endpoint.sockets import Waiting
+from wisangub.endpoint.sockets import Waiting, readable
+from wisangub.process.leaving import Leaving
 from wisangub.refusal import Refusal
 from wisangub.room.addresses import AGAIN
 from wisangub.room.fleet import Sign
 from wisangub.room.output import LOG
 from wisangub.room.store.database import Failed, Taken
+from wisangub.room.store.lines import News
 from wisangub.room.store.store import Store
 from wisangub.snmp.mib import Mib
 
 from .carry import Offer, carry
+from .files import most_driven
 from .reader import Reader
 from .session import MOST_LINES, Left, Lost, Session
 from .where import Where
 
-_BEGUN_AT_ONCE = 16  # sessions that are begun in one round, so that those that stand are not kept waiting
+_BEGUN_AT_ONCE = 32  # sessions that are begun in one round, so that those that stand are not kept waiting
 
 
 @dataclass(frozen=True)
 class Pace:
-    """Seconds from tick to tick, of a lease, from one look for work to the next; signs driven at once, and readings;
-    seconds from one lookup of a name to the next; lines of a centre after which an idle sign gets a new one."""
+    """Seconds from tick to tick, of a lease, from one look for work to the next; signs driven at once, since each waits
+    for two ticks or more, and Gets; seconds from one lookup of a name to the next; lines of a centre after which an
+    idle sign gets a new one."""
 
     tick: float = 1.0
     lease: float = 10.0
     look: float = 0.2
-    most: int = 200
+    most: int = 1000
+    gets: int = 200
     again: float = AGAIN
     lines: int = MOST_LINES
 
@@ -53,13 +60,15 @@ class Worker:
         self.where = Where(store, signs, pace.again)
         self.where.look()
         self.signs = self.where.signs  # that do not stand still
+        self.most = most_driven(pace.most)
         self.name = f"{socket.gethostname()}:{os.getpid()}:{secrets.token_hex(4)}"
         self.mib = Mib.read()
-        self.reader = Reader(beside or store, self.signs, program, self.mib, pace.look, pace.most)
+        self.reader = Reader(beside or store, self.signs, program, self.mib, pace.look, pace.gets)
         self.is_reading_beside = beside is not None
         self.sessions: dict[int, Session] = {}
         self.ticks: dict[int, float] = {}
         self.to_release: set[int] = set()
+        self.leaving = Leaving()
         self.fault = ""  # what the database said last, which is said once
         self.next_look = self.next_renewal = 0.0
         store.readings.anew(list(self.signs))
@@ -76,6 +85,7 @@ class Worker:
             self.release()
         except (Failed, Taken) as fault:
             LOG.warning(f"the database: {fault}")
+        self.leaving.wait()
         self.reader.stop()
         self.where.close()
 
@@ -94,6 +104,7 @@ class Worker:
 
     def round(self) -> None:
         """What is due, what is heard, and the next commands."""
+        self.leaving.look()
         now = time.monotonic()
         if now >= self.next_renewal:
             self.next_renewal = now + self.pace.lease / 3
@@ -134,8 +145,9 @@ class Worker:
         now = time.monotonic()
         ready = [one for one in self.sessions.items() if one[1].ready_at <= now]
         waiting = self.store.commands.next_of([sign_id for sign_id, session in ready if not session.is_busy])
+        heard = readable([session.udp_socket for _, session in ready if session.is_busy])
         for sign_id, session in ready:
-            line = session.offer(now >= self.ticks[sign_id], waiting)
+            line = session.offer(now >= self.ticks[sign_id], waiting, session.udp_socket.fileno() in heard)
             if line is not None:
                 offers.append((session, line))
                 self._tick_later(sign_id, line.text, now)
@@ -180,27 +192,50 @@ class Worker:
 
     def lease(self) -> None:
         """Takes signs that have work and that nobody drives; looks again soon where there are more of them."""
-        room = min(_BEGUN_AT_ONCE, self.pace.most - len(self.sessions))
+        room = min(_BEGUN_AT_ONCE, self.most - len(self.sessions))
         free = [
             sign_id
             for sign_id in self.store.leases.with_work()
             if sign_id in self.signs and sign_id not in self.sessions
         ]
         leased = self.store.leases.take(free[: max(0, room)], self.name, self.pace.lease)
-        left = Left.of(self.store, sorted(leased))
-        for sign_id in sorted(leased):
-            self.begin(sign_id, left[sign_id])
+        self.begin(Left.of(self.store, sorted(leased)))
         if len(free) > room and room > 0 and leased:
             self.next_look = 0.0
 
-    def begin(self, sign_id: int, left: Left) -> None:
-        """A session where the sign's lines left it. A sign that cannot be begun is kept from all until its lease
-        ends."""
+    def begin(self, left: dict[int, Left]) -> None:
+        """Sessions where the signs' lines left them: their co-processes begin at the same time, and what came of the
+        lines is kept in one transaction."""
+        begun: list[Session] = []
+        for sign_id, one in left.items():
+            with self._beginning(sign_id):
+                sign = self.signs[sign_id]
+                begun.append(Session(self.store, sign_id, sign, self.name, self.program, self.mib, one))
+        came: list[News] = []
+        for session in begun:
+            with self._beginning(session.sign_id):
+                came.append(session.stand())
+                session.most_lines = self.pace.lines
+                self.sessions[session.sign_id], self.ticks[session.sign_id] = session, time.monotonic() + self.pace.tick
+        self.kept(came)
+
+    def kept(self, came: list[News]) -> None:
+        """Keeps what came of lines that sessions began with; where that fails, the next worker does it."""
         try:
-            session = Session(self.store, sign_id, self.signs[sign_id], self.name, self.program, self.mib, left)
-            session.most_lines = self.pace.lines
-            self.sessions[sign_id], self.ticks[sign_id] = session, time.monotonic() + self.pace.tick
-            self.reader.verdicts.want(sign_id, session.taken_in_error())
+            if some := [news for news in came if news.is_some]:
+                self.store.lines.keep(some)
+        except (Failed, Taken):
+            for news in came:
+                self.drop(news.sign)
+            raise
+        for news in came:
+            self.reader.verdicts.want(news.sign, self.sessions[news.sign].taken_in_error())
+
+    @contextlib.contextmanager
+    def _beginning(self, sign_id: int) -> Iterator[None]:
+        """A sign that cannot be begun is kept from all until its lease ends."""
+        try:
+            yield
         except Lost:
             self.to_release.add(sign_id)
         except (Refusal, Failed, Taken, OSError) as fault:
@@ -217,7 +252,7 @@ class Worker:
         session = self.sessions.pop(sign_id, None)
         self.ticks.pop(sign_id, None)
         if session is not None:
-            session.close()
+            session.close(self.leaving)
         if is_released:
             self.to_release.add(sign_id)
 

@@ -14,6 +14,7 @@ from wisangub.endpoint.sockets import connected, received, sent
 from wisangub.endpoint.texts import ended
 from wisangub.process import description
 from wisangub.process.coprocess import CoProcess
+from wisangub.process.leaving import Leaving
 from wisangub.refusal import Refusal, reason
 from wisangub.room.fleet import Sign
 from wisangub.room.output import LOG
@@ -61,8 +62,9 @@ def is_command(line: str) -> bool:
 
 
 class Session:
-    """From a lease on until there is nothing to do. A line is offered, inserted under its number by whoever has the
-    session, handed over, and answered: python/wisangub/room/worker/carry.py has the order."""
+    """From a lease on until there is nothing to do. Its co-process begins as it is made, beside those of others, and
+    `stand` waits for it. A line is offered, inserted under its number by whoever has the session, handed over, and
+    answered: python/wisangub/room/worker/carry.py has the order."""
 
     command: Command | None = None
     out: bytes | None = None
@@ -78,16 +80,23 @@ class Session:
         self.worker, self.program = worker, program
         self.ledger: set[str] = set()
         self.steps = Steps(mib)
-        self.ready_at = time.monotonic() + PACE
-        self.head, begun_at, lines = self.centre()
-        self.number, self.count = begun_at + 1 + len(lines), len(lines)
+        self.head, begun_at, self.lines = self.centre()
+        self.number, self.count = begun_at + 1 + len(self.lines), len(self.lines)
         self.process = self.started()
+
+    def stand(self) -> News:
+        """Has the co-process where the lines left it: what came of them, which is to be kept before the next line. What
+        cannot be begun is closed."""
+        self.ready_at = time.monotonic() + PACE
         try:
-            self.udp_socket = connected(sign.host, sign.port)
-            self.go_on(lines)
+            self.process.answered_first(self.sign.name)
+            self.udp_socket = connected(self.sign.host, self.sign.port)
+            return self.go_on(self.lines)
         except BaseException:
             self.close()
             raise
+        finally:
+            self.lines = []
 
     # ---- a centre
 
@@ -102,11 +111,11 @@ class Session:
         found = Head.of(lines[0])
         if found is None or found.first is None:
             raise Refusal(f"{self.sign.name}: line {first} is no beginning of a centre")
-        if dataclasses.replace(head, first=found.first) == found and found.first >= least:
+        if head._replace(first=found.first) == found and found.first >= least:
             return found, first, lines[1:]
         number = max(above(found, len(lines) - 1), self.sign.first, least)
         why = RESTORED if found.first < least else CHANGED
-        return self._begun_anew(dataclasses.replace(head, first=number), first + len(lines), why)
+        return self._begun_anew(head._replace(first=number), first + len(lines), why)
 
     def _begun_anew(self, head: Head, number: int, why: str) -> tuple[Head, int, list[bytes]]:
         """A centre without lines; what was under way with one before it is over."""
@@ -116,17 +125,17 @@ class Session:
         return head, number, []
 
     def started(self) -> CoProcess:
-        """The co-process of the head."""
+        """The co-process of the head, which has not answered yet."""
         assert self.head.first is not None
         process = CoProcess(self.program, ["centre"], description.with_first(self.sign.text, self.head.first))
         try:
-            process.begin(b"status last", self.sign.name)
+            process.ask_first(b"status last", self.sign.name)
         except BaseException:
             process.end()
             raise
         return process
 
-    def go_on(self, lines: list[bytes]) -> None:
+    def go_on(self, lines: list[bytes]) -> News:
         """Where the lines left it. Nothing of it goes out; the last answer tells whether a command was refused."""
         begun = self.left.begun
         if begun is not None and begun[1] >= self.number:
@@ -136,20 +145,18 @@ class Session:
         is_of_command = begun is not None and begun[1] == self.number - 1
         self.process.write(b"".join(line + b"\n" for line in (*lines[-1:], b"status")))
         answer = self.process.lines(1)[0] if lines else b""
-        news = self.look(answer.decode("latin-1") if is_of_command else "")
-        if news.is_some:
-            self.store.lines.keep([news])
+        return self.look(answer.decode("latin-1") if is_of_command else "")
 
     # ---- lines
 
-    def offer(self, is_due: bool, waiting: dict[int, Command] | None = None) -> Line | None:
+    def offer(self, is_due: bool, waiting: dict[int, Command] | None = None, is_heard: bool = True) -> Line | None:
         """The line that is next: a tick that is due, a datagram that waits, or the next command where no job is under
         way; None where there is none. After a tick a datagram that waits comes before the next one, so that a worker
         that is slow takes no reply for a silence. `waiting`: the next commands of many signs, where they were asked
-        for already."""
+        for already; `is_heard`: whether something may wait at the socket."""
         if not self.is_busy:
             return self._beginning(waiting)
-        heard = received(self.udp_socket) if self.is_ticked or not is_due else None
+        heard = received(self.udp_socket) if is_heard and (self.is_ticked or not is_due) else None
         self.is_ticked = heard is None and is_due
         if heard is not None:
             return Line(self.sign_id, self.number, b"datagram " + (heard[0].hex().encode() or b"-"))
@@ -164,7 +171,7 @@ class Session:
         if command is None:
             return None
         if self.count >= self.most_lines:
-            head = dataclasses.replace(self.head, first=above(self.head, self.count))
+            head = self.head._replace(first=above(self.head, self.count))
             return Line(self.sign_id, self.number, head.line(), is_first=True)
         for _ in range(_MOST_LATE):  # what comes while no job is under way answers nothing
             if received(self.udp_socket) is None:
@@ -184,6 +191,7 @@ class Session:
             self.process.end()
             self.head, self.count, self.ledger = head, 0, set()
             self.process = self.started()
+            self.process.answered_first(self.sign.name)
             self.process.write(b"status\n")
         else:
             self.process.write(line.text + b"\nstatus\n")
@@ -227,9 +235,12 @@ class Session:
         if fault is not None:
             LOG.warning(f"{self.sign.name}: a request is lost: {reason(fault)}")
 
-    def close(self) -> None:
-        """Ends the co-process. The lines stay."""
-        self.process.end()
+    def close(self, leaving: Leaving | None = None) -> None:
+        """Ends the co-process, or has it leave with others. The lines stay."""
+        if leaving is None:
+            self.process.end()
+        else:
+            leaving.add(self.process)
         udp_socket: socket.socket | None = getattr(self, "udp_socket", None)
         if udp_socket is not None:
             udp_socket.close()
