@@ -7,7 +7,7 @@ from .description import Row
 
 Cause = tuple[int, str]
 NO_END = "the text ends before its line `end`"
-_FAULTS = {
+FAULTS = {
     3: "unsupported tag",
     4: "unsupported tag value",
     5: "text too big",
@@ -209,4 +209,4 @@ def _of_permanent(face: layout.Face, services: list[bytes], row: Row) -> str | N
         if value and not int(service):
             return f"the sign has no {name}"
     fault = layout.laid_out(face, face.defaults, row.text)[1]
-    return f"its text: {_FAULTS[fault[0]]} at octet {fault[1]}" if fault else None
+    return f"its text: {FAULTS[fault[0]]} at octet {fault[1]}" if fault else None

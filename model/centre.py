@@ -21,7 +21,7 @@ _Publication = tuple[int, int, bytes, bytes, int, int, int]  # memory, number, t
 
 
 @dataclass
-class _Job:
+class Job:
     step: int
     code: Activation
     publication: _Publication | None = None
@@ -30,7 +30,7 @@ class _Job:
 
 
 @dataclass
-class _Waiting:
+class Waiting:
     """The request that waits for its reply."""
 
     number: int
@@ -45,8 +45,8 @@ class Centre:
 
     def __init__(self, community: bytes, swapped: bool, first: int) -> None:
         self.community, self.swapped, self.next = community, swapped, first
-        self.job: _Job | None = None
-        self.waiting: _Waiting | None = None
+        self.job: Job | None = None
+        self.waiting: Waiting | None = None
         self.ledger: list[tuple[int, Activation, str]] = []  # number, code, outcome
         self.last: str | None = None  # how the last job ended, in words
         self.refusal: str | None = None  # why the last command was refused, in words
@@ -63,7 +63,7 @@ class Centre:
         self.job = job = asked(kind, held)
         return self.send(job)
 
-    def send(self, job: _Job) -> bytes | None:
+    def send(self, job: Job) -> bytes | None:
         """The request of the job's step, under a new number."""
         if self.next > _LAST_NUMBER:
             return self.fail(job, _NO_NUMBER)
@@ -73,7 +73,7 @@ class Centre:
             self.ledger.append((number, job.code, "waiting"))
         job.due = False
         octets = wire.written(wire.Message(kind, self.community, number, 0, 0, bindings))
-        self.waiting = _Waiting(number, octets, bindings[0][0])
+        self.waiting = Waiting(number, octets, bindings[0][0])
         return octets
 
     def end(self, how: str) -> bytes | None:
@@ -82,7 +82,7 @@ class Centre:
         self.job = self.waiting = None
         return None
 
-    def fail(self, job: _Job, why: str, step: int | None = None) -> bytes | None:
+    def fail(self, job: Job, why: str, step: int | None = None) -> bytes | None:
         return self.end(f"failed at step {step or job.step}: {why}")
 
     def enter(self, number: int, outcome: str) -> None:
@@ -99,7 +99,7 @@ class Centre:
         self.waiting = None
         return self.replied(self.job, message, waiting)
 
-    def replied(self, job: _Job, message: wire.Message, waiting: _Waiting) -> bytes | None:
+    def replied(self, job: Job, message: wire.Message, waiting: Waiting) -> bytes | None:
         """What goes out with the reply that was waited for."""
         if job.step == 7:
             return self.decided(job, message)
@@ -122,7 +122,7 @@ class Centre:
             return self.send(job)
         return self.polled(job, held) if job.step == 5 else self.summed(job, held)
 
-    def decided(self, job: _Job, message: wire.Message) -> bytes | None:
+    def decided(self, job: Job, message: wire.Message) -> bytes | None:
         """What goes out with the reply to an activation."""
         if message.status == wire.NO_ERROR:
             self.enter(message.number, "accepted")
@@ -131,7 +131,7 @@ class Centre:
         job.step = 8
         return self.send(job)
 
-    def polled(self, job: _Job, status: int) -> bytes | None:
+    def polled(self, job: Job, status: int) -> bytes | None:
         """What goes out with the status of a row that is being validated."""
         if status == 4:
             job.step = 6
@@ -144,7 +144,7 @@ class Centre:
         job.due = True
         return None
 
-    def summed(self, job: _Job, held: int) -> bytes | None:
+    def summed(self, job: Job, held: int) -> bytes | None:
         """What goes out with a row's checksum."""
         crc = job.code.id.crc
         if self.swapped:
@@ -197,19 +197,19 @@ def _bad_value(kind: str, held: Any) -> str | None:
     return "NUMBER" if kind == "blank" and not 1 <= held[0] <= 255 else None
 
 
-def asked(kind: str, held: Any) -> _Job:
+def asked(kind: str, held: Any) -> Job:
     """The job of a command whose values are in their ranges."""
     if kind == "publish":
         memory, number, text, owner, beacon, pixel, run, minutes, priority, address = held
         code = Activation(minutes, priority, MessageId(memory, number, checksum(text, beacon, pixel)), address)
-        return _Job(1, code, (memory, number, text, owner, beacon, pixel, run))
+        return Job(1, code, (memory, number, text, owner, beacon, pixel, run))
     if kind == "blank":
         number, minutes, priority, address = held
-        return _Job(7, Activation(minutes, priority, MessageId(BLANK, number, 0), address))
-    return _Job(7, held)
+        return Job(7, Activation(minutes, priority, MessageId(BLANK, number, 0), address))
+    return Job(7, held)
 
 
-def request(job: _Job, swapped: bool) -> tuple[int, list[wire.Binding]]:
+def request(job: Job, swapped: bool) -> tuple[int, list[wire.Binding]]:
     """The kind and the bindings of a step's request."""
     if job.step == 7:
         return wire.SET, [(DMS + (6, 3, 0), (wire.OCTETS, job.code.octets(swapped)))]

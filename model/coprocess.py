@@ -1,25 +1,30 @@
 """The model of model as a co-process, one line in and its answer out: a stand-in for `signtool sign` and `signtool
 centre`.
 
-    model/signtool sign [--sign]       model/signtool centre [--sign]
+    model/signtool sign [--sign] [--restore]       model/signtool centre [--sign]
 
-With --sign a description comes first, up to its line `end`; else the sign is the bench sign.
+With --sign a description comes first, up to its line `end`; else the sign is the bench sign. With --restore the sign
+goes on from a state, which comes next, up to its line `end`.
 """
 
 import argparse
 import functools
 import os
 import sys
-from collections.abc import Callable
+from collections.abc import Callable, Iterable
 
 from . import layout, published, text
 from .agent import Agent
+from .description import Description
+from .restored import restore
 from .saved import saved
+from .saved_centre import saved as saved_centre
+from .state_text import Refused
 
 _MOST_LINE = 65_536
 
 
-def _without_newline(line: bytes) -> bytes:
+def without_newline(line: bytes) -> bytes:
     """A line without its newline, and without a carriage return before that."""
     return line[:-1].removesuffix(b"\r") if line.endswith(b"\n") else line
 
@@ -87,7 +92,7 @@ def sign_answer(agent: Agent, words: list[bytes]) -> list[str]:
     return ["ok"]
 
 
-def _centre_answer(world: text.World, words: list[bytes]) -> list[str]:
+def centre_answer(world: text.World, words: list[bytes]) -> list[str]:
     """The lines that answer a line to a centre."""
     centre, keyword = world.centre, words[0].decode("latin-1")
     if keyword in ("publish", "blank", "activate"):
@@ -108,6 +113,8 @@ def _centre_answer(world: text.World, words: list[bytes]) -> list[str]:
     if keyword == "restart":
         centre.restart()
         return ["ok"]
+    if keyword == "save":
+        return [*saved_centre(centre), "ok"]
     if keyword == "status":
         ledger = world.report()[3 + len(world.accepted) :]
         return [*stands, *ledger, "ok"]
@@ -125,32 +132,58 @@ def answered(answer: Callable[[list[bytes]], list[str]], line: bytes) -> list[st
         return ["bad line"]
 
 
+def up_to_end(lines: Iterable[bytes]) -> bytes:
+    """The next lines, up to and with the first `end`."""
+    found = []
+    for line in lines:
+        found.append(line)
+        if without_newline(line) == b"end":
+            break
+    return b"".join(found)
+
+
+def _described(has_description: bool) -> Description:
+    """What the sign is made of; one that is refused is the end."""
+    try:
+        return text.described(up_to_end(sys.stdin.buffer)) if has_description else text.bench()
+    except text.Bad as bad:
+        _print_lines(f"line {bad.line}")
+    except text.TooLong:
+        _print_lines("too long")
+    sys.exit(1)
+
+
+def _agent(described: Description, has_state: bool) -> Agent:
+    """The sign, where a state leaves it, if one comes; one that is refused is the end."""
+    agent = Agent(described)
+    state = up_to_end(sys.stdin.buffer) if has_state else None
+    if state is not None and len(state) > text.MOST_INPUT:
+        _print_lines("too long")
+        sys.exit(1)
+    try:
+        if state is not None:
+            restore(agent.sign.state, state)
+    except Refused as refused:
+        _print_lines(f"state line {refused.line}")
+        sys.exit(f"state {refused}")
+    return agent
+
+
 def main() -> int:
     parser = argparse.ArgumentParser(description=__doc__, formatter_class=argparse.RawDescriptionHelpFormatter)
     parser.add_argument("end", choices=("sign", "centre"), help="which end answers")
     parser.add_argument("--sign", action="store_true", help="a description comes first")
+    parser.add_argument("--restore", action="store_true", help="then a sign's state comes")
     asked = parser.parse_args()
-    described = text.bench()
-    if asked.sign:
-        lines = []
-        for line in sys.stdin.buffer:
-            lines.append(line)
-            if _without_newline(line) == b"end":
-                break
-        try:
-            described = text.described(b"".join(lines))
-        except text.Bad as bad:
-            _print_lines(f"line {bad.line}")
-            return 1
-        except text.TooLong:
-            _print_lines("too long")
-            return 1
+    if asked.restore and asked.end == "centre":
+        parser.error("--restore is of a sign")
+    described = _described(asked.sign)
     answer: Callable[[list[bytes]], list[str]]
     if asked.end == "sign":
-        answer = functools.partial(sign_answer, Agent(described))
+        answer = functools.partial(sign_answer, _agent(described, asked.restore))
     else:
-        answer = functools.partial(_centre_answer, text.World(described))
-    for line in map(_without_newline, sys.stdin.buffer):
+        answer = functools.partial(centre_answer, text.World(described))
+    for line in map(without_newline, sys.stdin.buffer):
         _print_lines(*answered(answer, line))
     return 0
 

@@ -43,13 +43,12 @@ class Description:
 def is_refused(described: Description) -> bool:
     """Whether no sign is made of it: its face, its communities or its table are not in order."""
     face = described.face
-    back, colour, _, _, font, line, page, _, _ = face.defaults
     names = [font.number for font in face.fonts]
     if not (
         1 <= face.width <= 256 and 1 <= face.height <= 64 and 1 <= len(names) <= 4 and len(set(names)) == len(names)
     ):
         return True
-    if not (back <= 9 and colour <= 9 and 2 <= line <= 4 and 2 <= page <= 4 and font in names):
+    if not face.takes(face.defaults):
         return True
     communities = (described.reader, described.writer)
     if any(not 1 <= len(community) <= 32 for community in communities) or communities[0] == communities[1]:

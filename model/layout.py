@@ -43,6 +43,12 @@ class Face:
         """The font of this number; None where there is none."""
         return next((font for font in self.fonts if font.number == number), None)
 
+    def takes(self, defaults: Sequence[int]) -> bool:
+        """Whether these can be a text's defaults."""
+        back, colour, _, _, font, line, page, _, _ = defaults
+        are_justifications = 2 <= line <= 4 and 2 <= page <= 4
+        return back <= 9 and colour <= 9 and are_justifications and self.font(font) is not None
+
     def known_font(self, number: int) -> Font:
         """The font of this number, which there is."""
         font = self.font(number)

@@ -11,7 +11,7 @@ from .codes import Activation
 from .description import Description, Row, is_refused
 from .sign import Sign
 
-_MOST_INPUT = 1_048_576
+MOST_INPUT = 1_048_576
 Read = TypeVar("Read")
 _Event = tuple[str, Any]  # the kind of event, and what it says
 BENCH = (pathlib.Path(__file__).resolve().parents[1] / "signs/bench.sign").read_bytes()
@@ -30,7 +30,7 @@ class TooLong(Exception):
 
 
 def _lines_of(text: bytes) -> "_Lines":
-    if len(text) > _MOST_INPUT:
+    if len(text) > MOST_INPUT:
         raise TooLong
     return _Lines(text)
 
