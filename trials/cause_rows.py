@@ -97,7 +97,7 @@ _ROWS: list[Row] = [
         )
     ),
 ]
-_EVENTS: list[tuple[bytes, str]] = [
+EVENTS: list[tuple[bytes, str]] = [
     (b"stop", "no event begins with this word"),
     (b" sign-tick", "no event begins with this word"),
     (b"sign-tick now", "word 2: no more words are wanted"),
@@ -138,7 +138,7 @@ def described() -> list[tuple[bytes, int, str]]:
 def scripts() -> list[tuple[bytes, int, str]]:
     """The same of scripts: each event at fault, and a sign at fault."""
     return [
-        *((b"bench\nsign-tick\n# more\n%s\nstop\n" % line, 4, words) for line, words in _EVENTS),
+        *((b"bench\nsign-tick\n# more\n%s\nstop\n" % line, 4, words) for line, words in EVENTS),
         *((octets, at, words) for octets, at, words in described() if not words.startswith("no line may stand")),
         (b"bench now\n", 1, "word 1: the word size is wanted"),
         (BENCH + b"stop\n", 18, "no event begins with this word"),

@@ -5,8 +5,9 @@
 Two pairs of a sign and a centre are spoken to, one of each kind. What a centre sends is handed to its sign, and what a
 sign replies to its centre, now and then changed in an octet; between them come ticks, power losses, commands, datagrams
 of vectors/ and lines that are none. Then as many lines go to signs that have up to 1,000 objects beside their own, and
-their fonts: objects are published and withdrawn, read, walked and set, by hostile requests too. Each answer has to be
-the same. It prints what differs, and last `N passed, N failed`.
+their fonts: objects are published and withdrawn, read, walked and set, by hostile requests too. Last the states that
+the signs were asked for are handed to both with --restore, as they are and changed, and those of the centre to the
+model. Each answer has to be the same. It prints what differs, and last `N passed, N failed`.
 """
 
 import argparse
@@ -14,12 +15,15 @@ import random
 import re
 import sys
 
+from model import restored_centre, saved_centre, text
+from model.state_text import Refused
 from wisangub.process import description
 from wisangub.process.coprocess import CoProcess
 from wisangub.process.places import SIGNTOOL, TOP, program
 
-from . import agents
+from . import agents, states
 
+_CHANGED = 20  # times that a state is changed
 _WORDS = [
     "tick",
     "ticks",
@@ -105,7 +109,7 @@ class Lines:
             ]
             return self.command() if end == "centre" else self.chance.choice(others)
         if kind < 0.95:
-            asked = ["status", "restart", "status last"] if end == "centre" else ["state", "show", "save"]
+            asked = ["status", "restart", "status last", "save"] if end == "centre" else ["state", "show", "save"]
             return self.chance.choice(asked)
         return self.other()
 
@@ -130,10 +134,13 @@ class Pair:
     def __init__(self, end: str, processes: list[CoProcess]) -> None:
         self.end, self.processes = end, processes
         self.passed = self.failed = 0
+        self.saved = list[str]()  # states
 
     def answers_to(self, line: str) -> list[str]:
         """The program's answer to a line, which has to be the model's."""
         answers = [process.send(line) for process in self.processes]
+        if line == "save" and answers[0][-1] == "ok":
+            self.saved.append("".join(f"{one}\n" for one in answers[0][:-1]))
         if answers[0] == answers[1]:
             self.passed += 1
         else:
@@ -192,6 +199,34 @@ def _to_agents(asked: argparse.Namespace) -> list[Pair]:
     return pairs
 
 
+def _restored(asked: argparse.Namespace, saved: list[str]) -> tuple[int, int]:
+    """States that go on, as they are and changed: how many did as the model, and how many did not."""
+    description_of, chance = description.read(asked.sign), random.Random(asked.seed)
+    if saved and states.of_program(asked.signtool, description_of, f"{saved[0]}save\n") == ([], ""):
+        print("skipped states: the program has no option --restore")
+        return 0, 0
+    some = chance.sample(saved, min(len(saved), asked.count // 50))
+    found = [one for text in some for one in states.compared(chance, asked.signtool, description_of, text, _CHANGED)]
+    print("".join(f"{one}\n" for one in found), end="")
+    return len(some) * (1 + _CHANGED) - len(found), len(found)
+
+
+def _read_back(asked: argparse.Namespace, saved: list[str]) -> tuple[int, int]:
+    """States of a centre: of how many the model has the central system, and of how many it has not."""
+    description_of, failed = description.read(asked.sign), 0
+    described = text.bench() if description_of is None else text.described(description_of)
+    for one in saved:
+        try:
+            centre = restored_centre.restored(described.writer, described.swapped, one.encode())
+            found = "".join(f"{line}\n" for line in saved_centre.saved(centre))
+        except Refused as refused:
+            found = str(refused)
+        if found != one:
+            failed += 1
+            print(f"state {one!r}: the model {found!r}")
+    return len(saved) - failed, failed
+
+
 def main() -> int:
     parser = argparse.ArgumentParser(description="random lines to signtool's co-processes and to the model's")
     parser.add_argument(
@@ -204,7 +239,10 @@ def main() -> int:
     pairs = [*_to_both_ends(asked), *_to_agents(asked)]
     for pair in pairs:
         pair.over()
-    passed, failed = sum(pair.passed for pair in pairs), sum(pair.failed for pair in pairs)
+    again = _restored(asked, sorted({one for pair in pairs for one in pair.saved if pair.end == "sign"}))
+    read = _read_back(asked, sorted({one for pair in pairs for one in pair.saved if pair.end == "centre"}))
+    passed = sum(pair.passed for pair in pairs) + again[0] + read[0]
+    failed = sum(pair.failed for pair in pairs) + again[1] + read[1]
     print(f"{passed} passed, {failed} failed")
     return 0 if failed == 0 else 1
 

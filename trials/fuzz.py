@@ -2,9 +2,9 @@
 
     python3 -m trials.fuzz [--seconds 600] [--seed 1] [--library crates/wisangub_c/out/libwisangub_c.a] [KIND ..]
 
-KIND is datagrams, descriptions or texts, else all, each for a third of the seconds. Inputs begin with those of vectors/
-and signs/ (trials/library/fuzzed.py). The library is not instrumented: its buffers end where no memory is, the
-sanitizers look at its callers, and what it answers leads the fuzzer on. It wants clang with the fuzzer's runtime
+KIND is datagrams, descriptions, states or texts, else all, each for a quarter of the seconds. Inputs begin with those
+of vectors/ and signs/ (trials/library/fuzzed.py). The library is not instrumented: its buffers end where no memory is,
+the sanitizers look at its callers, and what it answers leads the fuzzer on. It wants clang with the fuzzer's runtime
 (Debian: clang, libclang-rt-14-dev), and is skipped by name without. An input that fails is kept where --keep says; in
 the gate `python3 -m trials.c_library` does the same for a minute.
 """

@@ -23,7 +23,7 @@ from dataclasses import dataclass
 from typing import Callable
 
 from trials.front_ends.bench import Trial
-from trials.front_ends.patience import PACE, Hangs, watched
+from trials.front_ends.patience import HANGS, PACE, Hangs, watched
 from wisangub.process.places import SIGNTOOL
 
 from .front_ends import (
@@ -39,6 +39,7 @@ from .front_ends import (
     logs,
     operators,
     parts,
+    shortened,
     speed,
     spelled,
     stops,
@@ -49,15 +50,15 @@ from .front_ends import (
 )
 
 _ENOUGH = 95.0  # seconds of the short form, after which no other kind of trial begins
-_MOST_PATIENCE = 60.0  # seconds that anything is waited for in the short form
-_MOST_IN_ALL = 380.0  # seconds of the short form, after which all ends where it stands: the gate gives it 400
+_MOST_PATIENCE = 200.0  # seconds that anything is waited for in the short form
+_MOST_IN_ALL = 1150.0  # seconds of the short form, after which all ends where it stands: the gate gives it 1200
 LONG = 4 * 3600.0  # seconds that a kind of trial may take in the long form
 
 
 @dataclass(frozen=True)
 class _Kind:
     """A kind of trial, and the seconds of the short form after which it begins no more lives: on a machine that is busy
-    there are fewer. It is ended after so long and twice what is waited for."""
+    there are fewer. It is ended after so long and twice what hangs or is waited for."""
 
     run: Callable[[Trial], None]
     share: float = 5.0
@@ -67,6 +68,7 @@ class _Kind:
 _KINDS = {
     "parts": _Kind(parts.run, is_ours=True),
     "kills": _Kind(lambda trial: kills.run(trial, 24 if trial.is_short else 1000), 11.0),
+    "shortened": _Kind(shortened.run, 8.0),
     "faults": _Kind(faults.run, 8.0),
     "centres": _Kind(lambda trial: centres.run(trial, 6 if trial.is_short else 200), 11.0, True),
     "files": _Kind(files.run, 6.0),
@@ -91,7 +93,7 @@ def tried(trial: Trial, name: str, kind: _Kind) -> float:
     """A kind of trial; what hangs in it, or is no fault that it expects, is counted as failed. The seconds that were
     lost so."""
     begun, lost = time.monotonic(), 0.0
-    most = kind.share + 2 * PACE.patience() if trial.is_short else LONG
+    most = kind.share + 2 * max(HANGS, PACE.patience()) if trial.is_short else LONG
     try:
         with watched(most):
             kind.run(trial)

@@ -6,7 +6,8 @@
 Between each test and its sign stands a relay that has that share of the requests and of the replies lost, up to 1.6
 seconds late, or doubled, a third of it each. A test is one without options but `--lossy 30`, which has to conform
 within so many minutes. A line a seed: status, differences, minutes, and the seconds that the relay and the sign were
-late by themselves at the most, since the machine was busy: a silence that is not much longer is the machine's. Last
+late by themselves at the most, since the machine was busy: a silence that is not much longer is the machine's. There
+`chrt -r 10 python3 -m trials.lossy_ways` keeps both in time; a test takes a twentieth of a processor. Last
 `N passed, N failed`. The report and the words of each are left in --into.
 """
 

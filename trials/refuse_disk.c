@@ -1,12 +1,14 @@
 /* A preloaded disk that refuses: of the calls named $DISK_CALL (open, write, fdatasync, fsync, ftruncate, link, rename) on the
    file $DISK_FILE, the one of that name with .new after it, and the folder $DISK_FOLDER, the $DISK_AT-th and the next
    $DISK_MORE after it answer the error $DISK_ERROR; a write of $DISK_SHORT octets is done before the refused one, where that
-   is set. $DISK_CUT refuses each ftruncate of the file from then on. All else is the C library's. See lasting.py. */
+   is set. $DISK_CUT refuses each ftruncate of the file from then on. With $DISK_KILL the process is killed in place of the
+   refusal. All else is the C library's. See lasting.py. */
 #define _GNU_SOURCE
 #include <dlfcn.h>
 #include <errno.h>
 #include <fcntl.h>
 #include <limits.h>
+#include <signal.h>
 #include <stdarg.h>
 #include <stdio.h>
 #include <stdlib.h>
@@ -49,6 +51,8 @@ static int is_refused(const char *call) {
         if (calls < number("DISK_AT") || calls > number("DISK_AT") + number("DISK_MORE"))
             return 0;
     }
+    if (number("DISK_KILL"))
+        kill(getpid(), SIGKILL);
     has_refused = 1;
     errno = (int)number("DISK_ERROR");
     return 1;

@@ -27,7 +27,7 @@ _MOST_TOLD = 3000  # characters of what was found, the last ones
 class Trial:
     """A folder of its own, the program, chance, whether it is the short form, and what came of it. Where another sign's
     front end is tried than wisangub-sign, `other` is its program: it is one process and takes the options --port,
-    --journal, --down, --no-ticks and --quiet, and then a description."""
+    --journal, --down, --no-ticks and --quiet, and then a description; with --keep it has --archive too."""
 
     program: str
     is_short: bool
@@ -110,10 +110,15 @@ class Trial:
         begun = time.monotonic()
         is_free = "--journal" in words and "--most-recorded" not in words and self.has("--most-recorded")
         more = ["--most-recorded", str(10**6)] if is_free else []  # most trials ask as fast as they can
+        more += self.unshortened() if "--journal" in words and "--keep" not in words else []
         front_end = self.front_end("wisangub-sign", "--port", "0", *more, *words, environment=environment)
         if front_end.wait_for_port():
             PACE.took(time.monotonic() - begun)
         return front_end
+
+    def unshortened(self) -> list[str]:
+        """The options by which a journal keeps all its lines, which most trials read."""
+        return ["--keep", "1000M"] if self.has("--keep") else []
 
     def measure(self) -> None:
         """What a start takes on this machine now."""

@@ -14,8 +14,8 @@ from .refusals import built, refusing
 from .requests import Changes
 
 _SETS = 6  # of a life
-_MOST_CALLS = 20  # of one kind in a life
-_LIVES: list[tuple[str, int, dict[str, int]]] = [
+MOST_CALLS = 20  # of one kind in a life
+LIVES: list[tuple[str, int, dict[str, int]]] = [
     ("write", errno.ENOSPC, {}),
     ("write", errno.EIO, {"short": 20}),
     ("write", errno.EROFS, {"more": 2}),
@@ -34,7 +34,7 @@ def _is_ending(front_end: FrontEnd) -> bool:
     return front_end.process.poll() is not None or b"is not known" in front_end.errors
 
 
-class _Faults:
+class Faults:
     """Lives over one journal: each with a fault, and then one without, which has SETs answered after it."""
 
     lives = 0
@@ -42,18 +42,15 @@ class _Faults:
     def __init__(self, trial: Trial, library: pathlib.Path) -> None:
         self.trial, self.library = trial, library
         self.path = trial.new_folder() / "journal"
+        self.words = ["--journal", str(self.path)]
         self.follower, self.changes = Follower(self.path), Changes(trial.chance)
 
     def life(self, call: str, at: int, error: int, **more: int) -> bool:
         """A life with a fault, and one after it: whether there was a call to refuse."""
         also = "".join(f", {word} {value}" for word, value in more.items())
         name = f"{call} {at} refused with {errno.errorcode[error]}{also}"
-        front_end = self.trial.sign(
-            "--journal",
-            str(self.path),
-            "--no-ticks",
-            environment=refusing(self.library, self.path, call, at, error, **more),
-        )
+        environment = refusing(self.library, self.path, call, at, error, **more)
+        front_end = self.trial.sign(*self.words, "--no-ticks", environment=environment)
         answered = self.ask(front_end) if front_end.port else []
         is_over = _is_ending(front_end) or answered[-1:] == [False] and eventually(lambda: _is_ending(front_end))
         status = front_end.ended() if is_over else None
@@ -71,10 +68,9 @@ class _Faults:
             )
         else:
             self.trial.holds(f"{name}: all are answered", all(answered), answered)
-        must_end = call == "fdatasync" or "cut" in more
         self.trial.holds(
             f"{name}: it goes on where it can",
-            not told or (status is not None) == must_end or not front_end.port,
+            not told or not front_end.port or self.may_end(call, status is not None, "cut" in more),
             (status, front_end.errors.decode()),
         )
         self.trial.holds(f"{name}: no traceback", b"Traceback" not in front_end.errors, front_end.errors.decode())
@@ -84,6 +80,10 @@ class _Faults:
         told = os.strerror(error).encode() in front_end.errors
         self.after(name)
         return told
+
+    def may_end(self, call: str, has_ended: bool, is_cut: bool) -> bool:
+        """Whether this fault of a call lets a front end end, or go on: what it does."""
+        return has_ended == (call == "fdatasync" or is_cut)
 
     def is_told(self, front_end: FrontEnd, error: int, is_well: bool) -> bool:
         """Whether the front end said why; where a datagram was not answered it has, and what it said is under way."""
@@ -123,8 +123,8 @@ class _Faults:
 
     def after(self, name: str) -> None:
         """A life without a fault: what it finds, and SETs that are answered."""
-        _Faults.lives += 1
-        front_end = self.trial.sign("--journal", str(self.path), "--no-ticks")
+        Faults.lives += 1
+        front_end = self.trial.sign(*self.words, "--no-ticks")
         if self.trial.holds(f"after {name}: it starts", front_end.port != 0, front_end.errors.decode()):
             manager = Manager(front_end.port)
             self.follower.catch_up(self.trial, f"after {name}")
@@ -141,27 +141,27 @@ class _Faults:
         self.trial.front_ends.remove(front_end)
 
 
-def _each(trial: Trial, library: pathlib.Path, faults: _Faults, most: int) -> None:
+def _each(trial: Trial, library: pathlib.Path, faults: Faults, most: int) -> None:
     """Each call of each kind in turn, as long as there is one more: over a journal that goes on, and over new ones."""
-    for call, error, more in _LIVES:
+    for call, error, more in LIVES:
         for at in range(1, most):
             if call in ("ftruncate", "fsync"):
                 faults.tear()
             if trial.is_late() or not faults.life(call, at, error, **more):
                 break
-    for call, error, more in _LIVES:
+    for call, error, more in LIVES:
         for at in range(1, most):
-            if trial.is_late() or not _Faults(trial, library).life(call, at, error, **more):
+            if trial.is_late() or not Faults(trial, library).life(call, at, error, **more):
                 break
 
 
-def some(trial: Trial, faults: _Faults) -> None:
+def some(trial: Trial, faults: Faults) -> None:
     """The first calls of those that a life makes at each datagram, and others once."""
     for at in range(1, 4):
-        for call, error, more in (_LIVES[0], _LIVES[1], _LIVES[4]):
+        for call, error, more in (LIVES[0], LIVES[1], LIVES[4]):
             if not trial.is_late():
                 faults.life(call, at, error, **more)
-    for call, error, more in (_LIVES[3], _LIVES[5], _LIVES[7], _LIVES[8]):
+    for call, error, more in (LIVES[3], LIVES[5], LIVES[7], LIVES[8]):
         if not trial.is_late():
             faults.life(call, 3 if call == "write" else 1, error, **more)
 
@@ -171,12 +171,12 @@ def run(trial: Trial) -> None:
     library = built(trial)
     if library is None:
         return
-    faults = _Faults(trial, library)
+    faults = Faults(trial, library)
     if trial.is_short:
         some(trial, faults)
     else:
-        _each(trial, library, faults, _MOST_CALLS)
+        _each(trial, library, faults, MOST_CALLS)
     for call in ("link", "rename") if trial.is_ours("--fresh with a disk that refuses") else ():
         if not trial.is_late():
             faults.fresh(call)
-    print(f"faults of the disk: {_Faults.lives}", flush=True)
+    print(f"faults of the disk: {Faults.lives}", flush=True)

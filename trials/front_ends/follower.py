@@ -14,7 +14,7 @@ from .manager import Manager, Name
 _RECORD = re.compile(rb"(.*) #([1-9][0-9]*) ([1-9][0-9]*) ([0-9a-f]{8})", re.DOTALL)
 
 
-def _records_of(octets: bytes, begin: int, number: int) -> tuple[list[bytes], int, int]:
+def records_of(octets: bytes, begin: int, number: int) -> tuple[list[bytes], int, int]:
     """The lines of the whole records of a journal from an octet on, the first with this number, by docs/JOURNAL.md,
     with the octet after them and the number of the next."""
     found: list[bytes] = []
@@ -31,7 +31,7 @@ def _records_of(octets: bytes, begin: int, number: int) -> tuple[list[bytes], in
 
 def lines_of(octets: bytes) -> list[bytes]:
     """The lines of all whole records of a journal."""
-    return _records_of(octets, 0, 1)[0]
+    return records_of(octets, 0, 1)[0]
 
 
 class Follower:
@@ -63,8 +63,15 @@ class Follower:
         asked. The model is handed what is new."""
         octets = self.path.read_bytes()
         trial.holds(f"{name}: the journal begins as it did", octets.startswith(self.seen), self.path)
-        new, end, self.number = _records_of(octets, len(self.seen), self.number)
+        new, end, self.number = records_of(octets, len(self.seen), self.number)
         self.seen = octets[:end]
+        self.follow(trial, name, new)
+        for octets, is_answered in self.asked[self.at :]:
+            trial.holds(f"{name}: what was answered is in the journal", not is_answered, octets.hex())
+        self.at = len(self.asked)
+
+    def follow(self, trial: Trial, name: str, new: list[bytes]) -> None:
+        """Nothing is in these lines that was not asked. The model is handed them."""
         wanted = [bytes.fromhex(line[9:].decode()) for line in new if line.startswith(b"datagram ")]
         for octets in wanted:
             while self.at < len(self.asked) and self.asked[self.at][0] != octets:
@@ -77,9 +84,6 @@ class Follower:
             if not trial.holds(f"{name}: what is in the journal was asked", self.at < len(self.asked), octets.hex()):
                 break
             self.at += 1
-        for octets, is_answered in self.asked[self.at :]:
-            trial.holds(f"{name}: what was answered is in the journal", not is_answered, octets.hex())
-        self.at = len(self.asked)
         for line in new:
             self.take(line)
 

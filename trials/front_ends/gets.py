@@ -7,7 +7,7 @@ from typing import Iterator
 from model import text, wire
 from model.sign import Sign
 from wisangub.process.places import TOP
-from wisangub.snmp.wire import is_get
+from wisangub.snmp.gets import is_get
 
 from .bench import FrontEnd, Trial
 from .follower import lines_of

@@ -20,11 +20,12 @@ def killed_later(front_end: FrontEnd, which: str, seconds: float) -> threading.T
     return timer
 
 
-class _Kills:
+class Kills:
     """Lives of a sign over one journal, each of which is ended by a kill."""
 
     def __init__(self, trial: Trial, folder: pathlib.Path) -> None:
         self.trial, self.path = trial, folder / "journal"
+        self.words = ["--journal", str(self.path), *trial.unshortened()]
         self.follower, self.changes = Follower(self.path), Changes(trial.chance)
         self.counted: list[int] = []  # values that the counter may have: the last one answered, and those after it
         self.answered = self.killed = self.early_kills = 0
@@ -34,7 +35,7 @@ class _Kills:
         """A life that is killed while it starts, or soon after."""
         which = self.trial.chance.choice(self.trial.victims())
         name = f"life {at}, {which} killed at its start"
-        front_end = self.trial.front_end("wisangub-sign", "--port", "0", "--journal", str(self.path), "--no-ticks")
+        front_end = self.trial.front_end("wisangub-sign", "--port", "0", *self.words, "--no-ticks")
         time.sleep(self.trial.chance.uniform(0.0, 1.2 * self.takes))
         inner = front_end.inner()
         front_end.kill(which)
@@ -50,7 +51,7 @@ class _Kills:
         has_ticks = at % 3 == 2
         which = self.trial.chance.choice(self.trial.victims())
         begun = time.monotonic()
-        front_end = self.trial.sign("--journal", str(self.path), *([] if has_ticks else ["--no-ticks"]))
+        front_end = self.trial.sign(*self.words, *([] if has_ticks else ["--no-ticks"]))
         self.takes = time.monotonic() - begun
         name = f"life {at}, {which} killed"
         if not self.trial.holds(f"{name}: it starts", front_end.port != 0, front_end.errors.decode()):
@@ -118,7 +119,7 @@ class _Kills:
 
     def last(self) -> None:
         """A life that ends well."""
-        front_end = self.trial.sign("--journal", str(self.path), "--no-ticks")
+        front_end = self.trial.sign(*self.words, "--no-ticks")
         if self.trial.holds("after all kills: it starts", front_end.port != 0, front_end.errors.decode()):
             manager = Manager(front_end.port)
             self.look("after all kills", manager)
@@ -141,21 +142,23 @@ class _Kills:
             self.counted = [value]
         self.follower.compare(self.trial, name, manager)
 
+    def run(self, count: int) -> None:
+        """So many kills, and a last look."""
+        begun, at = time.monotonic(), 0
+        while self.killed < count and at < 2 * count and not self.trial.is_late():
+            (self.early if at % 8 == 7 else self.life)(at)
+            at += 1
+            if at % 100 == 0:
+                print(f"{self.killed} kills, {time.monotonic() - begun:.0f} s", flush=True)
+        self.last()
+        print(
+            f"kills of a sign: {self.killed}, {self.early_kills} of them at a start, {self.answered} SETs answered, "
+            f"a journal of {self.path.stat().st_size} octets, "
+            f"{time.monotonic() - begun:.0f} s",
+            flush=True,
+        )
+
 
 def run(trial: Trial, count: int) -> None:
     """So many kills, and a last look."""
-    begun = time.monotonic()
-    kills = _Kills(trial, trial.new_folder())
-    at = 0
-    while kills.killed < count and at < 2 * count and not trial.is_late():
-        (kills.early if at % 8 == 7 else kills.life)(at)
-        at += 1
-        if at % 100 == 0:
-            print(f"{kills.killed} kills, {time.monotonic() - begun:.0f} s", flush=True)
-    kills.last()
-    print(
-        f"kills of a sign: {kills.killed}, {kills.early_kills} of them at a start, {kills.answered} SETs answered, "
-        f"a journal of {kills.path.stat().st_size} octets, "
-        f"{time.monotonic() - begun:.0f} s",
-        flush=True,
-    )
+    Kills(trial, trial.new_folder()).run(count)

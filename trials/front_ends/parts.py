@@ -11,7 +11,7 @@ from typing import Callable
 import tests.endpoint
 
 from .bench import Trial
-from .patience import PACE, Hangs, watched
+from .patience import HANGS, Hangs, watched
 
 
 def _takes_nothing(test: Callable[..., object]) -> bool:
@@ -31,7 +31,7 @@ def run(trial: Trial) -> None:
             continue
         for name in [name for name in vars(module) if name.startswith("test_") and _takes_nothing(vars(module)[name])]:
             try:
-                with contextlib.redirect_stderr(io.StringIO()), watched(PACE.patience()):
+                with contextlib.redirect_stderr(io.StringIO()), watched(HANGS):
                     vars(module)[name]()
                 trial.holds(name, True)
             except (Exception, Hangs):  # whatever a test raises is what it found

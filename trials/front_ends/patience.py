@@ -8,6 +8,7 @@ from typing import Any, Iterator
 
 TIMES = 60  # of what a front end's start takes: after so long a wait is given up
 LEAST, _MOST = 30.0, 600.0  # seconds
+HANGS = 150.0  # seconds after which what takes some on a quiet machine hangs on any
 RINGS_AGAIN = 5.0  # seconds, should what is ended go on waiting
 
 

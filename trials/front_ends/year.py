@@ -5,7 +5,6 @@ import os
 import pathlib
 import resource
 import time
-from dataclasses import replace
 from typing import Iterator
 
 from model import wire
@@ -57,7 +56,7 @@ def write(head: Head, path: pathlib.Path, lines: Iterator[bytes]) -> int:
     """Writes a journal of a sign: how many lines."""
     count, synced = 0, 1
     with open(path, "wb") as file:
-        some = [replace(head, form=records.FORM).line()]
+        some = [head._replace(form=records.FORM).line()]
         while some:
             for line in some:
                 count += 1
@@ -70,14 +69,13 @@ def write(head: Head, path: pathlib.Path, lines: Iterator[bytes]) -> int:
 
 def start(trial: Trial, name: str, path: pathlib.Path, count: int, counter: int) -> tuple[float, float]:
     """The seconds that a start over a journal takes by the clock, and of processors."""
-    begun = time.monotonic()
+    begun, size = time.monotonic(), path.stat().st_size
     front_end = trial.front_end(
         "wisangub-sign", "--port", "0", "--journal", str(path), "--down", "process", "--no-ticks"
     )
     while not front_end.port and front_end.process.poll() is None and time.monotonic() < begun + 600:
         front_end.wait_for_port()
     seconds, processor = time.monotonic() - begun, front_end.processor_time()
-    size = path.stat().st_size
     if trial.holds(f"{name}: a front end starts", front_end.port != 0, front_end.errors.decode()):
         manager = Manager(front_end.port)
         found = manager.get([DMS + (6, 10, 0)])

@@ -41,9 +41,10 @@ def datagrams(which: str) -> list[str]:
 
 
 def _sign_lines(trial: Trial, count: int = _LINES) -> list[str]:
-    """Requests of the vectors in any order, seconds, losses of power, and what is shown."""
+    """Requests of the vectors in any order, seconds, losses of power, what is shown, and saves."""
     octets = datagrams("request")
-    return [trial.chance.choice(octets if trial.chance.random() < 0.8 else _OTHERS) for _ in range(count)]
+    others = (*_OTHERS, "save")
+    return [trial.chance.choice(octets if trial.chance.random() < 0.8 else others) for _ in range(count)]
 
 
 def _centre_lines(trial: Trial, count: int = _LINES) -> list[str]:

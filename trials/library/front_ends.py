@@ -10,7 +10,7 @@ import subprocess
 import sys
 import time
 
-from wisangub.snmp.wire import is_get
+from wisangub.snmp.gets import is_get
 
 from .against_vectors import cases
 from .trial import TOP, Trial

@@ -1,7 +1,7 @@
 /*
- * Inputs of libFuzzer at the library for C: FUZZED=datagrams|descriptions|texts FUZZ_SIGN=DESCRIPTION fuzz .., built by
- * trials/library/fuzzed.py. What goes in and what comes out stands at the end of a page behind which none may be read
- * or written, since the library itself is not instrumented; what it answers leads the fuzzer on, by counters.
+ * Inputs of libFuzzer at the library for C: FUZZED=datagrams|descriptions|states|texts FUZZ_SIGN=DESCRIPTION fuzz ..,
+ * built by trials/library/fuzzed.py. What goes in and what comes out stands at the end of a page behind which none may
+ * be read or written, since the library itself is not instrumented; what it answers leads the fuzzer on, by counters.
  *
  * An input of `datagrams` is calls of both ends, one after the other: an octet that says which, two octets that say how
  * much belongs to it, and so much. Each input begins with new ends, so that it can be tried again.
@@ -96,6 +96,21 @@ static void looked_at(unsigned call, enum wisangub_answer answer, size_t size)
 
 /* ---- datagrams */
 
+/* Each row of the pages is the one that is given alone. */
+static void rows(struct wisangub_sign *sign, size_t pages, uint16_t width, uint16_t height)
+{
+    size_t size = 0, at = 0;
+    for (size_t number = 0; at < pages; number++) {
+        at += WISANGUB_PAGE_HEAD;
+        for (uint16_t y = 0; y < height; y++, at += width) {
+            uint8_t *row = input - width;
+            must(wisangub_sign_page_row(sign, number, y, WISANGUB_LOOK, row, width, &size) == WISANGUB_DONE, "a row");
+            must(size == width && memcmp(row, output - pages + at, width) == 0, "a row of a page");
+        }
+    }
+    must(wisangub_sign_page_row(sign, 0, height, WISANGUB_LOOK, input, 0, &size) == WISANGUB_FAULT, "no more rows");
+}
+
 static void draw(struct wisangub_sign *sign)
 {
     struct wisangub_shown shown;
@@ -113,6 +128,7 @@ static void draw(struct wisangub_sign *sign)
     must(wisangub_sign_page_times(sign, 0, &page) == WISANGUB_DONE, "the times of a page");
     must(page.count * (WISANGUB_PAGE_HEAD + (size_t)width * height) == needed, "how many pages there are");
     must(wisangub_sign_page_times(sign, page.count, &page) == WISANGUB_FAULT, "no more pages");
+    rows(sign, needed, width, height);
     must(wisangub_sign_due(sign, shown.number, 0, &due) == WISANGUB_DONE || due == 0, "what is due");
 }
 
@@ -250,6 +266,52 @@ static void datagrams(const uint8_t *octets, size_t size)
     wisangub_sign_free(&sign);
 }
 
+/* ---- causes */
+
+/* The words of a cause fill just the room that they ask for; they are ASCII. */
+static void words_of(enum wisangub_answer answer, size_t needed, size_t made)
+{
+    must(answer == WISANGUB_DONE && made == needed && needed < 256, "words of a cause");
+    for (const uint8_t *at = output - needed; at < output; at++) {
+        must(*at >= ' ' && *at < 127, "a word");
+    }
+}
+
+/* What is refused has a cause at the same place; what is not has none. */
+static void text_cause(const struct wisangub_sign *sign, const uint8_t *text, size_t size,
+                       const struct wisangub_text_fault *fault, int is_refused)
+{
+    struct wisangub_text_cause cause = {0, 0, 0, 0, 0, 0};
+    size_t needed = 0, made = 0;
+    enum wisangub_answer asked = wisangub_sign_text_cause(sign, text, size, &cause, NULL, 0, &needed);
+    if (!is_refused) {
+        must(asked == WISANGUB_NOTHING && needed == 0, "no cause of a text");
+        return;
+    }
+    must(asked == WISANGUB_TOO_SMALL, "the size of words");
+    asked = wisangub_sign_text_cause(sign, text, size, &cause, output - needed, needed, &made);
+    words_of(asked, needed, made);
+    must(cause.place == fault->place && cause.code == fault->code && cause.lack <= WISANGUB_LACK_OCTETS, "a cause");
+    seen(4, cause.lack, (size_t)cause.character << 32 | (size_t)cause.font << 24 | cause.count);
+}
+
+static void description_cause(const uint8_t *text, size_t size, size_t line, int is_refused)
+{
+    struct wisangub_cause cause = {0, 0, 0, 0, 0, 0, 0, 0, 0, 0};
+    size_t needed = 0, made = 0;
+    enum wisangub_answer asked = wisangub_description_cause(text, size, &cause, NULL, 0, &needed);
+    if (!is_refused) {
+        must(asked == WISANGUB_NOTHING && needed == 0, "no cause of a description");
+        return;
+    }
+    must(asked == WISANGUB_TOO_SMALL, "the size of words");
+    asked = wisangub_description_cause(text, size, &cause, output - needed, needed, &made);
+    words_of(asked, needed, made);
+    must(cause.line == line && cause.kind >= WISANGUB_CAUSE_MISSING && cause.kind <= WISANGUB_CAUSE_TEXT, "a cause");
+    must(cause.least <= cause.most && cause.wanted <= WISANGUB_WANTED_CODE, "what is wanted");
+    seen(1, cause.kind, cause.word);
+}
+
 /* ---- texts */
 
 /* What `check` says is what all layers of the pages say. */
@@ -266,6 +328,7 @@ static void texts(const uint8_t *octets, size_t size)
     enum wisangub_answer answer = wisangub_sign_check(&sign, text, size, &pages, &fault), drawn;
     seen(0, answer, answer == WISANGUB_DONE ? pages : (size_t)fault.code << 16 | fault.place);
     must(answer == WISANGUB_DONE || (answer == WISANGUB_FAULT && fault.place <= size), "a check");
+    text_cause(&sign, text, size, &fault, answer != WISANGUB_DONE);
     for (int layer = 0; layer < 3; layer++) {
         drawn = wisangub_sign_text_pages(&sign, text, size, (enum wisangub_layer)layer, NULL, 0, &needed, &again);
         must(drawn == (answer == WISANGUB_DONE ? WISANGUB_TOO_SMALL : answer), "the room of pages of a text");
@@ -289,13 +352,39 @@ static void descriptions(const uint8_t *octets, size_t size)
     struct wisangub_sign sign = {NULL};
     uint32_t first = 0;
     size_t line = 0;
-    enum wisangub_answer answer = wisangub_sign_new(&sign, put(octets, size), size, &first, &line);
+    const uint8_t *text = put(octets, size);
+    enum wisangub_answer answer = wisangub_sign_new(&sign, text, size, &first, &line);
     must(answer == WISANGUB_DONE || (answer == WISANGUB_FAULT && sign.at == NULL && line > 0), "a description");
+    description_cause(text, size, line, answer != WISANGUB_DONE);
     seen(0, answer, line);
     if (answer == WISANGUB_DONE) {
         uint16_t width = 0, height = 0;
         wisangub_sign_matrix(&sign, &width, &height);
         must(width >= 1 && width <= 256 && height >= 1 && height <= 64, "the matrix");
+        wisangub_sign_tick(&sign);
+        draw(&sign);
+    }
+    wisangub_sign_free(&sign);
+}
+
+/* ---- states */
+
+/* A text is the state of the sign that is made of it, or names a line; and the sign goes on. */
+static void states(const uint8_t *octets, size_t size)
+{
+    struct wisangub_sign sign = {NULL};
+    uint32_t first = 0;
+    size_t line = 0, most = 0, needed = 0, made = 0;
+    const uint8_t *text = put(octets, size);
+    enum wisangub_answer answer =
+        wisangub_sign_restore(&sign, description, description_size, text, size, &first, &line);
+    must(answer == WISANGUB_DONE || (answer == WISANGUB_STATE && sign.at == NULL && line > 0), "a state");
+    seen(0, answer, line);
+    if (answer == WISANGUB_DONE) {
+        must(wisangub_sign_save_most(&sign, &most) == WISANGUB_DONE && size <= most, "the most octets of a state");
+        must(wisangub_sign_save(&sign, NULL, 0, &needed) == WISANGUB_TOO_SMALL && needed == size, "its size");
+        must(wisangub_sign_save(&sign, output - size, size, &made) == WISANGUB_DONE && made == size, "its text");
+        must(memcmp(output - size, text, size) == 0, "the same text");
         wisangub_sign_tick(&sign);
         draw(&sign);
     }
@@ -312,6 +401,7 @@ int LLVMFuzzerInitialize(int *count, char ***words)
     description_size = fread(description, 1, sizeof description, file);
     fclose(file);
     fuzz = strcmp(kind, "texts") == 0 ? texts : strcmp(kind, "descriptions") == 0 ? descriptions : datagrams;
+    fuzz = strcmp(kind, "states") == 0 ? states : fuzz;
     input = guarded();
     output = guarded();
     return 0;

@@ -1,4 +1,4 @@
-"""libFuzzer over the library for C: datagrams and other calls of both ends, descriptions, and texts."""
+"""libFuzzer over the library for C: datagrams and other calls of both ends, descriptions, states, and texts."""
 
 from __future__ import annotations
 
@@ -7,12 +7,14 @@ import re
 
 from model import text, wire
 from model.objects import DMS
+from model.saved import saved
+from model.sign import Sign
 from wisangub.snmp.wire import name_content
 
 from .against_vectors import cases
 from .trial import PLAIN, TOP, Trial, described
 
-KINDS = {"datagrams": 20000, "descriptions": 60000, "texts": 600}  # the most octets of an input
+KINDS = {"datagrams": 20000, "descriptions": 60000, "states": 20000, "texts": 600}  # the most octets of an input
 FUZZER = ["-std=c11", "-Wall", "-Wextra", "-Werror", "-O1", "-g", "-fsanitize=fuzzer,address,undefined"]
 FUZZER += ["-fno-sanitize-recover=all"]
 TO_SIGN, TO_CENTRE, SIGN_TICK, CENTRE_TICK, POWER_LOST, POWER_BACK, COMMAND, PAGES, HEARD, RESTART = range(10)
@@ -74,8 +76,21 @@ def besides() -> list[bytes]:
     return [*found, call(FONTS) + call(OBJECT, name_content((*DMS, 3, 1, 0))) + call(TO_SIGN, first)]
 
 
+def states() -> list[bytes]:
+    """Those that a sign is in after each of the vectors' requests, and without power."""
+    sign, found = Sign(text.bench()), []
+    for case in cases("requests"):
+        sign.receive(bytes.fromhex(case["request"]))
+        sign.tick()
+        found.append("\n".join([*saved(sign.state), ""]).encode("ascii"))
+    sign.showing.power_lost()
+    return [*found, "\n".join([*saved(sign.state), ""]).encode("ascii")]
+
+
 def inputs(kind: str) -> list[bytes]:
     """What the fuzzer begins with: all that the vectors have."""
+    if kind == "states":
+        return states()
     if kind == "texts":
         return [case["text"].encode("latin-1") for case in cases("texts")]
     if kind == "descriptions":

@@ -10,7 +10,7 @@ from .trial import PLAIN, REFUSING, TOP, UNDER_VALGRIND, Trial, Way, described
 _MOST_CALLS = 2000  # allocations of a talk
 _MOST_START = 60  # seconds beside those that are asked for
 _ROADSIDE = str(TOP / "signs" / "roadside.sign")
-_MANY = ("show", "bits", "state", "centre status", "pages 415b6e705d42")  # lines that are answered by many
+_MANY = ("show", "bits", "state", "save", "centre status", "pages 415b6e705d42")  # lines that are answered by many
 
 
 def _lines_of_a_talk() -> list[str]:
@@ -22,8 +22,13 @@ def _lines_of_a_talk() -> list[str]:
         "pages 415b6e705d42",
         "pages 5b",
         "check 41",
+        *(
+            f"why {what}"
+            for what in ("text 415b", "text 41", f"command {b'blank'.hex()}", f"description {b'size'.hex()}")
+        ),
         "bits",
         *(f"datagram {octets}" for octets in requests[:3]),
+        "save",
         "object 1.3.6.1.2.1.1.1.0 OCTET STRING 4142",
         "object 1.3.6.1.2.1.1.4.0 OCTET STRING 41 octets 0 300",
         "object 1.3.6.1.2.1.1.4.0 OBJECT IDENTIFIER 1.3.6",
@@ -101,7 +106,8 @@ def blinked(trial: Trial) -> None:
         trial.check(f"{way.name}: blink", status == 0 and cells == [width] * height, (status, cells))
         trial.check(f"{way.name}: blink draws", len(set(said.split("m ")[0:-1])) > 1, said[:200])
         status, said = trial.ran(trial.called(way, "blink", "A["), sign)
-        is_told = status == 2 and "at octet 1: no such tag (3)\n    A[\n     ^\n" in said
+        is_told = status == 2 and "refused: unsupported tag at octet 1\n    A[\n     ^\n" in said
         trial.check(f"{way.name}: blink with a text at fault", is_told, (status, said[-200:]))
         status, said = trial.ran(trial.called(way, "blink", "A"), "size 1 x\n")
-        trial.check(f"{way.name}: blink without a description", status == 2 and "line 1" in said, (status, said))
+        is_told = status == 2 and "line 1 of the description is refused: word 3: a number from 0 to 65535" in said
+        trial.check(f"{way.name}: blink without a description", is_told, (status, said))

@@ -41,6 +41,7 @@ def nulls(trial: Trial, module: ModuleType, library: ctypes.CDLL) -> None:
 
 NUMBERS = (ctypes.c_size_t, ctypes.c_uint32, ctypes.c_uint16, ctypes.c_uint8)
 STRUCTS = {"sign": "Sign", "centre": "Centre", "text_fault": "TextFault", "shown": "Shown", "code": "Code"}
+STRUCTS |= {"cause": "Cause", "text_cause": "TextCause"}
 STRUCTS |= {"page": "Page", "entry": "Entry", "status": "Status", "value": "Value", "access": "Access"}
 
 

@@ -21,7 +21,7 @@ from .trial import TOP, Trial
 _BENCH = str(TOP / "signs/bench.sign")
 _SIGN = text.bench()
 _DMS = (1, 3, 6, 1, 4, 1, 1206, 4, 2, 3)
-_CONTROL, _LEVEL, _CELL, _NOW = (*_DMS, 7, 1, 0), (*_DMS, 7, 6, 0), (*_DMS, 7, 3, 0), (*_DMS, 7, 5, 0)
+_CONTROL, LEVEL, _CELL, _NOW = (*_DMS, 7, 1, 0), (*_DMS, 7, 6, 0), (*_DMS, 7, 3, 0), (*_DMS, 7, 5, 0)
 _COLDEST, _WARMEST = (*_DMS, 9, 9, 1, 0), (*_DMS, 9, 9, 2, 0)
 _DESCR, _UPTIME, _CLOCK = (1, 3, 6, 1, 2, 1, 1, 1, 0), (1, 3, 6, 1, 2, 1, 1, 3, 0), (1, 3, 7)
 _FAULTS = (
@@ -109,7 +109,7 @@ def _faults(trial: Trial) -> None:
     trial.same("objects: no file", (status, said), (2, f"{path}: No such file or directory\n"))
 
 
-class _Manager:
+class Manager:
     """One who asks a front end."""
 
     def __init__(self, front_end: FrontEnd) -> None:
@@ -138,18 +138,19 @@ class _Manager:
             self.output += self.front_end.process.stdout.read() or b""
             return self.output.count(b"\n") >= count
 
-        _eventually(read)
+        eventually(read)
         return self.output.decode().splitlines()
 
 
-def _eventually(is_so: Callable[[], bool]) -> bool:
+def eventually(is_so: Callable[[], bool]) -> bool:
+    """Whether something holds within the time that a reply may take."""
     last = time.monotonic() + MOST_REPLY
     while not is_so() and time.monotonic() < last:
         time.sleep(0.02)
     return is_so()
 
 
-def _file(path: pathlib.Path, *lines: str) -> None:
+def written_file(path: pathlib.Path, *lines: str) -> None:
     new = path.with_suffix(".new")
     new.write_text("".join(f"{line}\n" for line in lines), encoding="ascii")
     os.replace(new, path)
@@ -161,32 +162,34 @@ def _served(trial: Trial) -> None:
     level = "object 1.3.6.1.4.1.1206.4.2.3.7.6.0 INTEGER 3 number 0 15"
     descr = "object 1.3.6.1.2.1.1.1.0 OCTET STRING 41"
     contact = "object 1.3.6.1.2.1.1.4.0 OCTET STRING - octets 0 9"
-    _file(path, "# some", level, descr, contact, "uptime 1.3.6.1.2.1.1.3.0", "clock 1.3.7")
+    written_file(path, "# some", level, descr, contact, "uptime 1.3.6.1.2.1.1.3.0", "clock 1.3.7")
     front_end = FrontEnd(trial, "signd", None, "--objects", str(path))
-    manager = _Manager(front_end)
+    manager = Manager(front_end)
     trial.same("objects: a Get", manager.value(_DESCR), (_DESCR, (wire.OCTETS, b"A")))
     trial.same("objects: the walk begins", manager.value((1, 3), wire.GET_NEXT), (_DESCR, (wire.OCTETS, b"A")))
     before = manager.value(_UPTIME)
     clock = manager.value(_CLOCK)
     is_now = clock is not None and clock[1][0] == wire.COUNTER and abs(int(clock[1][1]) - time.time()) < 60
     trial.check("objects: the clock", is_now, clock)
-    found = [manager.set(_LEVEL, (wire.INTEGER, number)) for number in (16, 15, 9)]
-    found += [manager.set(_LEVEL, (wire.INTEGER, 4), _SIGN.reader), manager.set(_DESCR, (wire.OCTETS, b"B"))]
+    found = [manager.set(LEVEL, (wire.INTEGER, number)) for number in (16, 15, 9)]
+    found += [manager.set(LEVEL, (wire.INTEGER, 4), _SIGN.reader), manager.set(_DESCR, (wire.OCTETS, b"B"))]
     found.append(manager.set((*_DESCR[:-2], 4, 0), (wire.OCTETS, b"\x00\xff")))
     trial.same("objects: SETs", found, [3, 0, 0, 2, 2, 0])
-    lines = [f"set {'.'.join(map(str, _LEVEL))} INTEGER {number}" for number in (15, 9)]
+    lines = [f"set {'.'.join(map(str, LEVEL))} INTEGER {number}" for number in (15, 9)]
     lines.append("set 1.3.6.1.2.1.1.4.0 OCTET STRING 00ff")
     trial.same("objects: what was set is printed", manager.told(3), lines)
-    _file(path, level, "object 1.3.6.1.2.1.1.1.0 OCTET STRING 42", "object 1.3.8 Gauge 7", "uptime 1.3.6.1.2.1.1.3.0")
+    written_file(
+        path, level, "object 1.3.6.1.2.1.1.1.0 OCTET STRING 42", "object 1.3.8 Gauge 7", "uptime 1.3.6.1.2.1.1.3.0"
+    )
     front_end.process.send_signal(signal.SIGHUP)
-    is_another = _eventually(lambda: manager.value(_DESCR) == (_DESCR, (wire.OCTETS, b"B")))
+    is_another = eventually(lambda: manager.value(_DESCR) == (_DESCR, (wire.OCTETS, b"B")))
     trial.check("objects: a SIGHUP", is_another, manager.value(_DESCR))
-    kept = (manager.value(_LEVEL), manager.value(_CLOCK), manager.value((1, 3, 8)))
-    trial.same("objects: what was exchanged", kept, ((_LEVEL, (wire.INTEGER, 9)), None, ((1, 3, 8), (wire.GAUGE, 7))))
+    kept = (manager.value(LEVEL), manager.value(_CLOCK), manager.value((1, 3, 8)))
+    trial.same("objects: what was exchanged", kept, ((LEVEL, (wire.INTEGER, 9)), None, ((1, 3, 8), (wire.GAUGE, 7))))
     after = manager.value(_UPTIME)
-    is_later = _eventually(lambda: (manager.value(_UPTIME) or before) != before)
+    is_later = eventually(lambda: (manager.value(_UPTIME) or before) != before)
     trial.check("objects: the time since the start", is_later, (before, after))
-    _file(path, "object 1.3.8 Gauge 8", "object")
+    written_file(path, "object 1.3.8 Gauge 8", "object")
     front_end.process.send_signal(signal.SIGHUP)
     time.sleep(0.3)
     trial.same("objects: a faulty file changes nothing", manager.value((1, 3, 8)), ((1, 3, 8), (wire.GAUGE, 7)))
@@ -199,13 +202,13 @@ def _served(trial: Trial) -> None:
 def _with_fonts(trial: Trial) -> None:
     """The objects of the sign's fonts are read where the file says so at the start."""
     path, count = trial.folder / "fonts.objects", (*_DMS, 3, 1, 0)
-    _file(path, "object 1.3.8 Gauge 7", "fonts")
+    written_file(path, "object 1.3.8 Gauge 7", "fonts")
     front_end = FrontEnd(trial, "signd", None, "--objects", str(path))
-    manager = _Manager(front_end)
+    manager = Manager(front_end)
     found = [manager.value(count), manager.value((*_DMS, 3), wire.GET_NEXT)]
     trial.same("objects: fonts", found, [(count, (wire.INTEGER, len(_SIGN.face.fonts)))] * 2)
     trial.same("objects: fonts are not set", manager.set(count, (wire.INTEGER, 1)), 2)
-    _file(path, "object 1.3.8 Gauge 8")
+    written_file(path, "object 1.3.8 Gauge 8")
     front_end.process.send_signal(signal.SIGHUP)
     time.sleep(0.3)
     trial.same("objects: fonts are settled", manager.value((1, 3, 8)), ((1, 3, 8), (wire.GAUGE, 7)))
@@ -217,27 +220,27 @@ def _with_fonts(trial: Trial) -> None:
 def _journalled(trial: Trial) -> None:
     """What managers set is there again after a start, and is told again."""
     path, journal = trial.folder / "more.objects", trial.folder / "objects.journal"
-    _file(path, "object 1.3.6.1.4.1.1206.4.2.3.7.6.0 INTEGER 3 number 0 15")
+    written_file(path, "object 1.3.6.1.4.1.1206.4.2.3.7.6.0 INTEGER 3 number 0 15")
     for number in (7, 8):
         front_end = FrontEnd(trial, "signd", journal, "--objects", str(path))
-        manager = _Manager(front_end)
+        manager = Manager(front_end)
         if number > 7:
-            trial.same("objects: told again", manager.told(1), [f"set {'.'.join(map(str, _LEVEL))} INTEGER 7"])
-            trial.same("objects: there again", manager.value(_LEVEL), (_LEVEL, (wire.INTEGER, 7)))
-        trial.same("objects: a SET is recorded", manager.set(_LEVEL, (wire.INTEGER, number)), 0)
+            trial.same("objects: told again", manager.told(1), [f"set {'.'.join(map(str, LEVEL))} INTEGER 7"])
+            trial.same("objects: there again", manager.value(LEVEL), (LEVEL, (wire.INTEGER, 7)))
+        trial.same("objects: a SET is recorded", manager.set(LEVEL, (wire.INTEGER, number)), 0)
         status, said = front_end.end(signal.SIGKILL)
         trial.check("objects: no fault", status == -signal.SIGKILL and "rror" not in said, (status, said))
 
 
 def _dimmed(trial: Trial) -> None:
     """examples/dimming.c makes a dimming value of the level that a manager sets, and publishes what it measures."""
-    both: list[wire.Binding] = [(_CONTROL, (wire.INTEGER, 4)), (_LEVEL, (wire.INTEGER, 8))]
+    both: list[wire.Binding] = [(_CONTROL, (wire.INTEGER, 4)), (LEVEL, (wire.INTEGER, 8))]
     null = (wire.NULL, b"")
     asked = [
         wire.Message(wire.SET, _SIGN.writer, 1, 0, 0, both),
         wire.Message(wire.GET, _SIGN.reader, 2, 0, 0, [(name, null) for name in (_CELL, _NOW, _COLDEST, _WARMEST)]),
-        wire.Message(wire.SET, _SIGN.writer, 3, 0, 0, [(_LEVEL, (wire.INTEGER, 16))]),
-        wire.Message(wire.SET, _SIGN.reader, 4, 0, 0, [(_LEVEL, (wire.INTEGER, 15))]),
+        wire.Message(wire.SET, _SIGN.writer, 3, 0, 0, [(LEVEL, (wire.INTEGER, 16))]),
+        wire.Message(wire.SET, _SIGN.reader, 4, 0, 0, [(LEVEL, (wire.INTEGER, 15))]),
     ]
     lines = ["", *(wire.written(one).hex() for one in asked), ""]
     status, said = trial.ran(trial.called(trial.way, "dimming", _BENCH), "".join(f"{line}\n" for line in lines))

@@ -13,6 +13,7 @@ from .trial import PLAIN, TOP, UNDER_VALGRIND, Trial, Way, described
 ROADSIDE = str(TOP / "signs" / "roadside.sign")
 HEARD, HEARD_SHORT, HEARD_SLOW = 100000, 20000, 500  # datagrams
 STEP_SLOW = "200"  # every so many trials of records_test, where each takes long
+SLOTS_SHORT, SLOTS_SLOW = "50", "2000"  # and of slots_test
 MOST_TEST = 600  # seconds
 
 
@@ -72,8 +73,11 @@ def arena(trial: Trial, library: pathlib.Path) -> None:
 def tried(trial: Trial, way: Way, step: str, count: int) -> None:
     says_ok(trial, way, "arena_test", "1")
     says_ok(trial, way, "records_test", step)
-    with tempfile.TemporaryDirectory(dir=trial.folder) as folder:
+    says_ok(trial, way, "slots_test", ROADSIDE, SLOTS_SLOW if way.by else SLOTS_SHORT if trial.is_short() else step)
+    with tempfile.TemporaryDirectory(dir=trial.folder) as folder, tempfile.TemporaryDirectory(dir=folder) as other:
         says_ok(trial, way, "journal_test", folder)
+        if not way.by:  # a life that refuses a state ends with it in its memory, which valgrind would tell of
+            says_ok(trial, way, "states_test", other, step)
     heard(trial, way, count)
 
 

@@ -13,8 +13,8 @@ from dataclasses import dataclass
 
 TOP = pathlib.Path(__file__).resolve().parent.parent.parent
 SANITIZE = "-fsanitize=address,undefined -fno-sanitize-recover=all -fno-omit-frame-pointer"
-MOST_TALK = 120  # seconds
-MOST_COMPILED = 120
+MOST_TALK = 600  # seconds
+MOST_COMPILED = 600
 LAST = 50.0
 MOST_SHOWN = 600
 SIGNS = ("roadside", "gantry")

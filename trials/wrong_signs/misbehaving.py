@@ -97,6 +97,14 @@ def other_value(reply: bytes) -> bytes:
     return wire.written(replace(message, bindings=bindings))
 
 
+def other_name(reply: bytes) -> bytes:
+    """The first name is another."""
+    message = spelled(reply)
+    assert message is not None
+    bindings = [((*name[:-1], name[-1] + 1), value) for name, value in message.bindings[:1]]
+    return wire.written(replace(message, bindings=[*bindings, *message.bindings[1:]]))
+
+
 def session(
     link: Callable[[SimulatedClock], Misbehaving],
     wait: float = 1.0,

@@ -1,0 +1,82 @@
+"""States of a sign, as random talks leave them and changed: the program and the model go on from them to the same, or
+refuse them at the same line."""
+
+import functools
+import io
+import random
+import re
+import subprocess
+
+from model import coprocess, text
+from model.agent import Agent
+from model.description import Description
+from model.restored import restore
+from model.saved import saved
+from model.state_text import Refused
+
+_PATIENCE = 60.0  # seconds
+_NUMBERS = ("0", "1", "2", "3", "4", "5", "8", "13", "255", "256", "512", "513", "65535", "3932100", "4294967295", "01")
+_OCTETS = "0123456789abcdefABCDEF -.\n\r\0#"
+Told = tuple[list[str], str]  # what is printed, and the reason of a refusal
+
+
+def text_of(agent: Agent) -> str:
+    """The text of a sign's state."""
+    return "\n".join([*saved(agent.sign.state), ""])
+
+
+def of_model(described: Description, octets: str) -> Told:
+    """What the model answers, where these octets come with --restore."""
+    lines, agent = iter(io.BytesIO(octets.encode("latin-1"))), Agent(described)
+    try:
+        restore(agent.sign.state, coprocess.up_to_end(lines))
+    except Refused as refused:
+        return [f"state line {refused.line}"], str(refused)
+    answer = functools.partial(coprocess.sign_answer, agent)
+    return [one for line in lines for one in coprocess.answered(answer, coprocess.without_newline(line))], ""
+
+
+def of_program(program: str, description: bytes | None, octets: str) -> Told:
+    """The same of the program."""
+    call = [program, "sign", "--restore", *(["--sign"] if description is not None else [])]
+    handed = (description or b"") + octets.encode("latin-1")
+    ended = subprocess.run(call, input=handed, capture_output=True, timeout=_PATIENCE, check=False)
+    found = re.search(r"line \d+: .*", ended.stderr.decode("latin-1"))
+    return ended.stdout.decode("latin-1").splitlines(), found[0] if found else ""
+
+
+def _with_other_word(chance: random.Random, lines: list[str]) -> None:
+    """A word of a line is a number, or that of another line."""
+    at = chance.randrange(1, len(lines))
+    words, others = lines[at].split(" "), chance.choice(lines).split(" ")
+    words[chance.randrange(len(words))] = chance.choice([*_NUMBERS, chance.choice(others)])
+    lines[at] = " ".join(words)
+
+
+def changed(chance: random.Random, octets: str) -> str:
+    """A text with something changed: a word mostly, or octets, or lines."""
+    kind, at = chance.random(), chance.randrange(len(octets))
+    if kind < 0.15:
+        return octets[:at] + chance.choice(_OCTETS) + octets[at + chance.choice((0, 1)) :]
+    if kind < 0.2:
+        return octets[:at]
+    lines = octets.splitlines()
+    if kind < 0.8:
+        _with_other_word(chance, lines)
+    elif kind < 0.9:
+        lines[at % len(lines)] = chance.choice(lines)
+    else:
+        lines.insert(at % len(lines), chance.choice(lines))
+    return "".join(f"{line}\n" for line in lines)
+
+
+def compared(chance: random.Random, program: str, description: bytes | None, octets: str, count: int) -> list[str]:
+    """What the program answers otherwise than the model, of a state that the program has, and of it so often
+    changed."""
+    described = text.bench() if description is None else text.described(description)
+    found, others = [], [octets, *(changed(chance, octets) for _ in range(count))]
+    for other in others:
+        told, wanted = of_program(program, description, f"{other}save\n"), of_model(described, f"{other}save\n")
+        if told != wanted or other == octets and wanted != ([*octets.splitlines(), "ok"], ""):
+            found.append(f"state {other!r}: signtool {told}, the model {wanted}")
+    return found
