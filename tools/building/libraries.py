@@ -5,10 +5,12 @@ from __future__ import annotations
 
 import contextlib
 import fcntl
+import inspect
 import os
 import pathlib
 import shutil
 from types import ModuleType
+from typing import Any
 
 from .plan import TOP
 from .proofs import Proofs
@@ -25,6 +27,14 @@ def link_or_copy(one: str, other: str) -> None:
 def _is_same(one: pathlib.Path, other: pathlib.Path) -> bool:
     """Whether both are one library."""
     return (one / "format").exists() and (other / "format").exists() and (one / "format").samefile(other / "format")
+
+
+def _crates_of(rt: ModuleType) -> list[Any]:
+    """The repository's crates as `rt` has them. Some kits' `crates_of` also puts aside what earlier runs left."""
+    if len(inspect.signature(rt.crates_of).parameters) == 1:
+        return list(rt.crates_of(str(TOP)))
+    rt.rtlib.Crate = rt.Crate
+    return list(rt.rtlib.crates_below(str(TOP)))
 
 
 def _give(made: pathlib.Path, to: pathlib.Path, stamp: str) -> None:
@@ -51,7 +61,7 @@ def give_all(rt: ModuleType, proofs: Proofs) -> str:
         held.callback(os.chdir, here)
         os.chdir(TOP)
         rt.Crate.allowed = rt.handles_of(str(TOP))
-        for crate in rt.crates_of(str(TOP)):
+        for crate in _crates_of(rt):
             if crate.name in names and crate.makes_rlib():
                 _give(proofs.made(crate.name), pathlib.Path(crate.rlib), crate.stamp())
     return ""

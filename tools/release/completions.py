@@ -11,7 +11,7 @@ import re
 import subprocess
 import sys
 
-_FILES = {"FILE", "PATH", "DESCRIPTION"}
+_FILES = {"FILE", "FOLDER", "PATH", "DESCRIPTION"}
 _TEMPLATE = """# bash completion of {name}, made from its --help
 _{function}() {{
     local word=${{COMP_WORDS[COMP_CWORD]}} before=${{COMP_WORDS[COMP_CWORD - 1]}} part=${{COMP_WORDS[1]}}

@@ -28,7 +28,7 @@ _FOLDER = "/usr/share/doc/libwisangub-dev/examples"
 
 def makefile(text: str) -> str:
     """The Makefile of the programs, from the whole one."""
-    lists = re.findall(r"(?m)^(?:OBJECTS|RECORDS|JOURNAL|PANEL) =.*$", text)
+    lists = re.findall(r"(?m)^(?:SIGND|OBJECTS|RECORDS|STATES|JOURNAL|PANEL) =.*$", text)
     rules = [re.findall(rf"(?m)^\$\(OUT\)/{name}:.*$", text)[0] for name in _PROGRAMS]
     programs = f"PROGRAMS = {' '.join(_PROGRAMS)}"
     parts = [_HEAD.format(folder=_FOLDER) + programs, *lists, "\nall: $(PROGRAMS:%=$(OUT)/%)", *rules]

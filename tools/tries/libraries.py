@@ -17,7 +17,7 @@ from types import ModuleType
 from building.ending import raise_where_ended
 from building.kit import Kit
 from building.libraries import link_or_copy
-from building.plan import TOP, Plan
+from building.plan import PARTS, TOP, Plan
 from building.proofs import Proofs
 from building.schedule import Schedule
 
@@ -60,8 +60,37 @@ def kit_program(kit: Kit) -> ModuleType:
 
 
 def of_gate(plan: Plan, proofs: Proofs, wanted: set[str]) -> int:
+    """What `rt ci` kept on this machine, where the kit's keeps anything, or else what it left in this clone."""
+    rt = kit_program(proofs.kit)
+    return kept_by_gate(rt, plan, proofs, wanted) if hasattr(rt, "Kept") else left_by_gate(plan, proofs, wanted)
+
+
+def changed(paths: Iterable[pathlib.Path]) -> list[float]:
+    """When each of these files was changed, and those of a folder."""
+    files = (file for path in paths for file in (path.rglob("*") if path.is_dir() else [path]))
+    return [file.stat().st_mtime for file in files if file.is_file()]
+
+
+def left_by_gate(plan: Plan, proofs: Proofs, wanted: set[str]) -> int:
+    """What `rt ci` left in out/rlib of the crates, if it made each after the last change of what it is made of, and
+    after those below it: it writes no sum of the sources there."""
+    made = {name: plan.crates[name].folder / "out/rlib" / f"{name}.rlib" for name in wanted}
+    times = {name: changed([path]) for name, path in made.items() if (path / "format").is_file()}
+    if not wanted <= set(times):
+        return 0
+    for name in wanted:
+        folder = plan.crates[name].folder
+        sources = changed([TOP / "crates.txt", *(folder / part for part in PARTS if (folder / part).is_dir())])
+        if min(times[name]) < max([*sources, *(max(times[lower]) for lower in plan.below(name))]):
+            return 0
+    for name in wanted:
+        give(plan, proofs, name, made[name])
+    return len(wanted)
+
+
+def kept_by_gate(rt: ModuleType, plan: Plan, proofs: Proofs, wanted: set[str]) -> int:
     """What `rt ci` kept on this machine, by its own sums of the sources, on a copy of these."""
-    rt, here, count = kit_program(proofs.kit), os.getcwd(), 0
+    here, count = os.getcwd(), 0
     with tempfile.TemporaryDirectory(prefix="wrong-bodies-gate-") as folder:
         copy = f"{folder}/copy"
         rt.copy_crates(str(TOP), copy)

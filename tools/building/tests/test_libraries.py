@@ -103,3 +103,11 @@ def test_none_is_given_while_rt_works_in_one(rt: types.ModuleType, proofs: Proof
     finally:
         os.close(folder)
     assert give_all(rt, proofs) == "" and given("low")
+
+
+def test_a_kit_that_puts_aside_what_stands_gives_its_crates_too(rt: types.ModuleType, proofs: Proofs) -> None:
+    crates = rt.crates_of("")
+    rt.crates_of = lambda root, aside: pytest.fail("it puts aside what is proved")  # type: ignore[attr-defined]
+    rt.rtlib = types.SimpleNamespace(crates_below=lambda top: crates)
+    assert give_all(rt, proofs) == ""
+    assert (planning.TOP / "crates/high/out/rlib/stamp").read_text(encoding="utf-8") == "sum of high"
