@@ -29,7 +29,7 @@ struct call {
 static char description[TEXT_MOST], line[2 * TEXT_MOST];
 static uint8_t octets[TEXT_MOST], sent[WISANGUB_DATAGRAM], pages[PAGES_MOST], none;
 static _Alignas(16) unsigned char stack[STACK];
-static size_t description_size, sent_size, live, most, calls, used;
+static size_t description_size, sent_size, last_page, live, most, calls, used;
 static struct wisangub_sign sign = {NULL}, other = {NULL};
 static struct wisangub_centre centre = {NULL};
 static enum wisangub_answer answered;
@@ -141,6 +141,13 @@ static enum wisangub_answer check(const struct call *call)
     return wisangub_sign_check(&sign, call->octets, call->size, &count, &fault);
 }
 
+static enum wisangub_answer text_cause(const struct call *call)
+{
+    struct wisangub_text_cause cause;
+    size_t size = 0;
+    return wisangub_sign_text_cause(&sign, call->octets, call->size, &cause, sent, sizeof sent, &size);
+}
+
 static enum wisangub_answer text_pages(const struct call *call)
 {
     struct wisangub_text_fault fault;
@@ -159,6 +166,26 @@ static enum wisangub_answer draw(const struct call *call)
     size_t size = 0;
     (void)call;
     return wisangub_sign_pages(&sign, WISANGUB_LOOK, pages, sizeof pages, &size);
+}
+
+/* A row of the last page. */
+static enum wisangub_answer draw_row(const struct call *call)
+{
+    size_t size = 0;
+    return wisangub_sign_page_row(&sign, last_page, (uint16_t)call->size, WISANGUB_LOOK, pages, sizeof pages, &size);
+}
+
+/* Three rows of the last page of what is shown. */
+static void draw_rows(void)
+{
+    struct wisangub_page page = {.count = 1};
+    uint16_t width = 0, height = 0;
+    wisangub_sign_page_times(&sign, 0, &page);
+    wisangub_sign_matrix(&sign, &width, &height);
+    last_page = page.count - 1;
+    for (uint16_t third = 0; third < 3; third++) {
+        measured("sign_page_row", draw_row, NULL, (size_t)height * third / 3);
+    }
 }
 
 static enum wisangub_answer bits(const struct call *call)
@@ -233,6 +260,20 @@ static enum wisangub_answer make(const struct call *call)
     return wisangub_sign_new(&other, call->octets, call->size, &first, &at);
 }
 
+static enum wisangub_answer description_cause(const struct call *call)
+{
+    struct wisangub_cause cause;
+    size_t size = 0;
+    return wisangub_description_cause(call->octets, call->size, &cause, sent, sizeof sent, &size);
+}
+
+static enum wisangub_answer command_cause(const struct call *call)
+{
+    struct wisangub_cause cause;
+    size_t size = 0;
+    return wisangub_command_cause(call->octets, call->size, &cause, sent, sizeof sent, &size);
+}
+
 static enum wisangub_answer give_back(const struct call *call)
 {
     (void)call;
@@ -263,6 +304,7 @@ static const uint8_t *kept(void) { return memcpy(octets, sent, sent_size); }
 static void carry_out(const char *words)
 {
     struct wisangub_status status = {.busy = 1};
+    measured("command_cause", command_cause, (const uint8_t *)words, strlen(words) / 2);
     enum wisangub_answer sends = measured("centre_command", centre_command, (const uint8_t *)words, strlen(words));
     while (wisangub_centre_status(&centre, &status) == WISANGUB_DONE && status.busy) {
         while (sends == WISANGUB_DONE && measured("sign_receive", receive, kept(), sent_size) == WISANGUB_DONE) {
@@ -326,11 +368,13 @@ static void take(char *word)
         measured("centre_receive", centre_receive, octets, size);
     } else if (strncmp(word, "text ", 5) == 0) {
         measured("sign_check", check, octets, size);
+        measured("sign_text_cause", text_cause, octets, size);
         measured("sign_text_pages", text_pages, octets, size);
         measured("crc", crc, octets, size);
     } else if (strncmp(word, "describe ", 9) == 0) {
         measured("sign_new", make, octets, size);
         measured("sign_free", give_back, NULL, 0);
+        measured("description_cause", description_cause, octets, size);
     } else if (strncmp(word, "power ", 6) == 0) {
         measured("sign_power_lost", lost, NULL, 0);
         measured("sign_power_back", back, octets, (size_t)strtoull(rest, NULL, 10));
@@ -338,6 +382,7 @@ static void take(char *word)
         measured("sign_tick", tick, NULL, 0);
     } else if (strcmp(word, "pages") == 0) {
         measured("sign_pages", draw, NULL, 0);
+        draw_rows();
         measured("row_bits", bits, pages + WISANGUB_PAGE_HEAD, 256);
         measured("sign_shown", shown, NULL, 0);
         measured("sign_changes", changed, NULL, 0);
@@ -360,6 +405,7 @@ int main(int count, char **words)
     printf("a sign and its central system 0 %zu %zu\n", live, calls);
     measured("sign_new", make, (const uint8_t *)description, description_size);
     measured("sign_free", give_back, NULL, 0);
+    measured("description_cause", description_cause, (const uint8_t *)description, description_size);
     while (fgets(line, sizeof line, stdin) != NULL) {
         line[strcspn(line, "\n")] = '\0';
         take(line);
