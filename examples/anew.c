@@ -18,18 +18,18 @@ enum { ROOM = 1 << 17, LINE_MOST = 1 << 16 };
 static char octets[ROOM]; /* one file at a time is written */
 
 /* The name of the file beside a journal: whether it has one. */
-static int name_beside(const char *path, char name[PATH_MAX])
+static int name_beside(const struct place *place, char name[PATH_MAX])
 {
-    int size = snprintf(name, PATH_MAX, "%s.new", path);
+    int size = snprintf(name, PATH_MAX, "%s.new", place->real);
     errno = size < PATH_MAX ? 0 : ENAMETOOLONG;
     return size < PATH_MAX;
 }
 
-void anew_begin(struct anew *anew, const char *path)
+void anew_begin(struct anew *anew, const struct place *place)
 {
     char name[PATH_MAX];
-    *anew = (struct anew){.path = path, .file = -1};
-    if (name_beside(path, name)) {
+    *anew = (struct anew){.place = place, .file = -1};
+    if (name_beside(place, name)) {
         (void)unlink(name);
         anew->file = open(name, O_RDWR | O_CREAT | O_EXCL | O_APPEND | O_CLOEXEC, 0600);
     }
@@ -73,13 +73,13 @@ int anew_written(struct anew *anew)
 int anew_named(const struct anew *anew)
 {
     char name[PATH_MAX];
-    int folder = folder_of(anew->path);
+    int folder = folder_of(anew->place);
     if (folder < 0) {
         return errno;
     }
-    int error = name_beside(anew->path, name) && rename(name, anew->path) == 0 ? 0 : errno;
+    int error = name_beside(anew->place, name) && rename(name, anew->place->real) == 0 ? 0 : errno;
     if (error == 0 && fsync(folder) != 0) {
-        lose(anew->path, strerror(errno));
+        lose(anew->place->path, strerror(errno));
     }
     close(folder);
     return error;
@@ -88,7 +88,7 @@ int anew_named(const struct anew *anew)
 void anew_drop(const struct anew *anew)
 {
     char name[PATH_MAX];
-    if (anew->file >= 0 && name_beside(anew->path, name)) {
+    if (anew->file >= 0 && name_beside(anew->place, name)) {
         (void)unlink(name);
     }
     if (anew->file >= 0) {

@@ -6,17 +6,19 @@
 #include <stdint.h>
 #include <sys/types.h>
 
+#include "files.h"
+
 struct anew {
-    const char *path; /* of the journal */
-    int file;         /* -1 where there is none */
+    const struct place *place; /* of the journal */
+    int file;                  /* -1 where there is none */
     off_t size;
-    uint64_t count;   /* of its records, each of which is on the disk when the file has its name */
-    size_t waits;     /* octets that are not written yet */
-    int error;        /* with which the disk refused; nothing is written then */
+    uint64_t count;            /* of its records, each of which is on the disk when the file has its name */
+    size_t waits;              /* octets that are not written yet */
+    int error;                 /* with which the disk refused; nothing is written then */
 };
 
 /* A file beside a journal, locked, with the journal's name and `.new`. */
-void anew_begin(struct anew *anew, const char *path);
+void anew_begin(struct anew *anew, const struct place *place);
 
 /* One more record. */
 void anew_line(struct anew *anew, const char *line, size_t size);

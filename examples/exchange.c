@@ -70,19 +70,18 @@ static void put_all(struct anew *anew, const struct journal *journal, const char
 int journal_exchange(struct journal *journal, const char *state, size_t size, const struct power *power,
                      const char *archive)
 {
-    const char *path = journal->asked.path;
     struct anew anew;
-    if (!file_stands(journal->file, path, journal->size)) {
-        lose(path, "another hand moved or changed it");
+    if (!file_stands(journal->file, &journal->place, journal->size)) {
+        lose(journal->asked.path, "another hand moved or changed it");
     }
     if (journal->sets.is_short) {
         return ENOMEM;
     }
-    anew_begin(&anew, path);
+    anew_begin(&anew, &journal->place);
     put_all(&anew, journal, state, size, power);
     int error = anew_written(&anew);
     if (error == 0 && archive != NULL) {
-        error = archive_keep(archive, path);
+        error = archive_keep(archive, journal->place.real);
     }
     error = error == 0 ? anew_named(&anew) : error;
     if (error != 0) {

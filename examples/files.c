@@ -3,7 +3,6 @@
 
 #include <errno.h>
 #include <fcntl.h>
-#include <limits.h>
 #include <stdio.h>
 #include <stdlib.h>
 #include <string.h>
@@ -44,10 +43,26 @@ static int is_named(int file, const char *path, off_t *size)
     return open.st_dev == named.st_dev && open.st_ino == named.st_ino;
 }
 
-int file_stands(int file, const char *path, off_t size)
+int file_stands(int file, const struct place *place, off_t size)
 {
     off_t found = 0;
-    return is_named(file, path, &found) && found == size;
+    int is_linked = strcmp(place->path, place->real) != 0;
+    return is_named(file, place->real, &found) && found == size && (!is_linked || is_named(file, place->path, &found));
+}
+
+/* Follows the path where it is a link: whether the file that it leads to is there. */
+static int followed(struct place *place)
+{
+    struct stat found;
+    if (lstat(place->path, &found) != 0 || !S_ISLNK(found.st_mode)) {
+        snprintf(place->real, sizeof place->real, "%s", place->path);
+        return 1;
+    }
+    int is_there = realpath(place->path, place->real) != NULL;
+    if (!is_there && errno != ENOENT) {
+        refuse_error(place->path);
+    }
+    return is_there;
 }
 
 /* Takes the file for this front end alone. */
@@ -87,34 +102,34 @@ static int opened_once(const char *path, int *refused)
     return file;
 }
 
-int file_opened(const char *path, int *refused)
+int file_opened(struct place *place, int *refused)
 {
     for (;;) {
         off_t size;
-        int file = opened_once(path, refused);
+        int file = opened_once(place->path, refused);
         if (file < 0) {
             return -1;
         }
-        lock(file, path);
-        if (is_named(file, path, &size)) {
+        lock(file, place->path);
+        if (followed(place) && is_named(file, place->real, &size)) {
             return file;
         }
         close(file);
     }
 }
 
-int file_again(int file, const char *path)
+int file_again(int file, const struct place *place)
 {
     off_t size;
-    int again = open(path, O_RDWR | OURS);
+    int again = open(place->real, O_RDWR | OURS);
     if (again < 0) {
         return -1;
     }
-    if (!is_named(file, path, &size) || !is_named(again, path, &size)) {
-        lose(path, "another hand moved or changed it");
+    if (!is_named(file, place->real, &size) || !is_named(again, place->real, &size)) {
+        lose(place->path, "another hand moved or changed it");
     }
     close(file);
-    lock(again, path);
+    lock(again, place->path);
     return again;
 }
 
@@ -129,9 +144,9 @@ int file_cut(int file, const char *path, off_t size)
     return 0;
 }
 
-int folder_of(const char *path)
+int folder_of(const struct place *place)
 {
-    char *real = realpath(path, NULL);
+    char *real = realpath(place->real, NULL);
     if (real == NULL) {
         return -1;
     }
@@ -142,16 +157,16 @@ int folder_of(const char *path)
     return folder;
 }
 
-int folder_synced(const char *path)
+int folder_synced(const struct place *place)
 {
-    int folder = folder_of(path);
+    int folder = folder_of(place);
     if (folder < 0) {
         return errno;
     }
     int error = fsync(folder) != 0 ? errno : 0;
     close(folder);
     if (error != 0 && error != EROFS) {
-        lose(path, strerror(error));
+        lose(place->path, strerror(error));
     }
     return error;
 }
@@ -192,10 +207,10 @@ static int made_beside(const char *path, const char *word, char name[PATH_MAX])
     }
 }
 
-int put_aside(const char *path, const char *word, const char *octets, size_t size)
+int put_aside(const struct place *place, const char *word, const char *octets, size_t size)
 {
     char name[PATH_MAX];
-    int file = made_beside(path, word, name);
+    int file = made_beside(place->real, word, name);
     if (file < 0) {
         return errno;
     }
@@ -205,12 +220,12 @@ int put_aside(const char *path, const char *word, const char *octets, size_t siz
     }
     close(file);
     if (error == 0) {
-        error = folder_synced(name);
+        error = folder_synced(place);
     }
     if (error != 0) {
         (void)unlink(name);
         return error;
     }
-    fprintf(stderr, "%s: %zu octets are cut away, and kept as %s\n", path, size, name);
+    fprintf(stderr, "%s: %zu octets are cut away, and kept as %s\n", place->path, size, name);
     return 0;
 }

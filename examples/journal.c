@@ -74,7 +74,7 @@ static int append(struct journal *journal, const char *lines, size_t size, int i
     journal->size += (off_t)made;
     journal->count = number;
     journal->synced = is_synced ? number : journal->synced;
-    if (!file_stands(journal->file, path, journal->size)) {
+    if (!file_stands(journal->file, &journal->place, journal->size)) {
         lose(path, "another hand moved or changed it");
     }
     tell(journal, 0);

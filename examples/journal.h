@@ -6,6 +6,7 @@
 #include <stdint.h>
 #include <sys/types.h>
 
+#include "files.h"
 #include "lines.h"
 #include "moments.h"
 #include "sets.h"
@@ -49,6 +50,7 @@ struct mending {
 
 struct journal {
     struct journal_asked asked;
+    struct place place;
     int file;               /* -1 where there is none yet */
     int refused;            /* the error with which the disk refused last; 0 where it takes records */
     int is_started;         /* the start is recorded */

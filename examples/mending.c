@@ -20,16 +20,15 @@ enum { NAMES_MOST = 10000, MUCH = 1 << 20, MINUTE = 60 };
 static int reopened(struct journal *journal)
 {
     int refused = 0;
-    const char *path = journal->asked.path;
     if (journal->file < 0) {
-        journal->file = file_opened(path, &refused);
+        journal->file = file_opened(&journal->place, &refused);
         journal->mending.is_readable = refused != 0;
         return refused;
     }
     if (!journal->mending.is_readable) {
         return 0;
     }
-    int again = file_again(journal->file, path);
+    int again = file_again(journal->file, &journal->place);
     if (again < 0) {
         return errno;
     }
@@ -43,7 +42,7 @@ static int cut(struct journal *journal, const char *text)
 {
     struct mending *mending = &journal->mending;
     size_t size = (size_t)mending->found - mending->kept;
-    int error = mending->is_aside || size == 0 ? 0 : put_aside(journal->asked.path, "cut", text + mending->kept, size);
+    int error = mending->is_aside || size == 0 ? 0 : put_aside(&journal->place, "cut", text + mending->kept, size);
     if (error != 0 || size == 0) {
         return error;
     }
@@ -98,10 +97,10 @@ static int exchanged(struct anew *anew, char name[PATH_MAX])
 {
     int error = anew_written(anew);
     if (error == 0) {
-        error = kept_as_older(anew->path, name);
+        error = kept_as_older(anew->place->real, name);
     }
     if (error == 0) {
-        error = folder_synced(anew->path);
+        error = folder_synced(anew->place);
     }
     return error == 0 ? anew_named(anew) : error;
 }
@@ -109,11 +108,10 @@ static int exchanged(struct anew *anew, char name[PATH_MAX])
 /* Writes the journal beside, syncs it, and renames it over the old one: at each moment one of both is there. */
 static int rewritten(struct journal *journal, const char *text)
 {
-    const char *path = journal->asked.path;
     char name[PATH_MAX], head[256];
     struct anew anew;
     snprintf(head, sizeof head, "journal 2 sign rules 1 description %s", journal->asked.digest);
-    anew_begin(&anew, path);
+    anew_begin(&anew, &journal->place);
     (void)fchmod(journal->file, 0600);
     write_anew(&anew, text, journal->mending.kept, head);
     int error = exchanged(&anew, name);
@@ -121,7 +119,7 @@ static int rewritten(struct journal *journal, const char *text)
         anew_drop(&anew);
         return error;
     }
-    fprintf(stderr, "%s: it was of form 1 and is written anew; the old one is kept as %s\n", path, name);
+    fprintf(stderr, "%s: it was of form 1 and is written anew; the old one is kept as %s\n", journal->asked.path, name);
     close(journal->file);
     journal->file = anew.file;
     journal->mending = (struct mending){.found = anew.size, .kept = (size_t)anew.size};
@@ -160,7 +158,7 @@ int journal_mended(struct journal *journal)
     if (error != 0) {
         return error;
     }
-    if (!file_stands(journal->file, journal->asked.path, journal->mending.found)) {
+    if (!file_stands(journal->file, &journal->place, journal->mending.found)) {
         lose(journal->asked.path, "another hand moved or changed it");
     }
     error = written_beside(journal);
@@ -173,5 +171,5 @@ int journal_mended(struct journal *journal)
     }
     journal->size = journal->mending.found;
     journal->synced = journal->count;
-    return folder_synced(journal->asked.path);
+    return folder_synced(&journal->place);
 }

@@ -1,3 +1,4 @@
+#define _GNU_SOURCE
 #include "shortening.h"
 
 #include <inttypes.h>

@@ -89,7 +89,8 @@ void journal_open(struct journal *journal, struct journal_asked asked, double up
     char head[256] = "", told[96] = "";
     int refused = 0, is_new = 0;
     struct moment now = moment_at(up);
-    *journal = (struct journal){.asked = asked, .file = file_opened(asked.path, &refused), .last = now};
+    *journal = (struct journal){.asked = asked, .place.path = asked.path, .last = now};
+    journal->file = file_opened(&journal->place, &refused);
     journal->mending.is_readable = refused != 0;
     struct past past = go_on(journal, handing, &is_new);
     if (past.has_last) {

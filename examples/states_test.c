@@ -4,10 +4,12 @@
  * of the old files. It prints `ok`, or what does not hold.
  */
 #define _GNU_SOURCE
+#include <fcntl.h>
 #include <inttypes.h>
 #include <stdio.h>
 #include <stdlib.h>
 #include <string.h>
+#include <sys/file.h>
 #include <sys/stat.h>
 #include <unistd.h>
 
@@ -235,6 +237,72 @@ static void archived(void)
     check("and no other", archive_keep("/nowhere/at/all", path) != 0 && !archive_is(path) && archive_is(beside(".kept")));
 }
 
+/* ---- links */
+
+static char link_path[512], real_path[512];
+
+/* From here on the test looks beside the link, or beside the file that it leads to. */
+static void look_beside(const char *where) { snprintf(path, sizeof path, "%s", where); }
+
+static ino_t inode_of(const char *name)
+{
+    struct stat found = {0};
+    (void)stat(name, &found);
+    return found.st_ino;
+}
+
+/* A life by way of the link, which is there after it, and alone there: its status. The test then looks at the file. */
+static int linked_lives(const char *steps)
+{
+    struct stat found;
+    look_beside(link_path);
+    int status = lived(accepting, steps);
+    check("the link stays", lstat(link_path, &found) == 0 && S_ISLNK(found.st_mode));
+    size_t size_of_path = strlen(link_path);
+    check("what is said has its path", said[0] == '\0' || strncmp(said, link_path, size_of_path) == 0);
+    look_beside(real_path);
+    check("the file is a file", lstat(real_path, &found) == 0 && S_ISREG(found.st_mode));
+    return status;
+}
+
+/* One front end holds it by both names. */
+static void held_by_both_names(void)
+{
+    int held = open(real_path, O_RDWR | O_CLOEXEC);
+    check("held", held >= 0 && flock(held, LOCK_EX) == 0);
+    check("by the link", linked_lives("k") == 2 && is_in(": another front end holds this journal", said));
+    check("by the name", lives("k") == 2 && is_in(": another front end holds this journal", said));
+    close(held);
+}
+
+/* Where the path is a link, the file that it leads to is written, shortened, cut and written anew. */
+static void linked(void)
+{
+    clear();
+    snprintf(link_path, sizeof link_path, "%s", path);
+    snprintf(real_path, sizeof real_path, "%.500s", beside(".disk/file"));
+    (void)mkdir(beside(".disk"), 0700);
+    check("a link by way of a link",
+          symlink("journal.way", link_path) == 0 && symlink("journal.disk/file", beside(".way")) == 0);
+    check("a link to nothing", linked_lives("ktk") == 0 && is_in("+ + ", handed));
+    read_lines();
+    ino_t before = inode_of(real_path);
+    check("shortened", linked_lives("ks") == 0 && is_in("+ = ", handed) && inode_of(real_path) != before);
+    read_lines();
+    check("to the state", is_in(state_text, lines) && found_beside("*", handed) == 1);
+    check("gone on from", linked_lives("k") == 0 && strncmp(handed, "s36,1 ", 6) == 0);
+    write_file(path, octets, size - 5);
+    check("torn", linked_lives("k") == 0 && is_in("kept as", said) && found_beside(".cut-*", handed) == 1);
+    make_older("journal 1 sign rules 1 description bench\nstart - 1795543676 1\nclock 1795543676 1\nticks 4\n");
+    check("form 1", linked_lives("k") == 0 && is_in("t4 ", handed) && found_beside(".form1", handed) == 1);
+    held_by_both_names();
+    clear();
+    look_beside(link_path);
+    check("a link to itself", unlink(beside(".way")) == 0 && symlink(link_path, beside(".way")) == 0);
+    check("is refused", lives("k") == 2 && is_in("Too many levels of symbolic links", said));
+    clear();
+}
+
 /* The order of names is that of their numbers. */
 static void ordered(void)
 {
@@ -270,6 +338,7 @@ int main(int count, char **words)
     by_name();
     refusing_disk();
     archived();
+    linked();
     ordered();
     if (!failed) {
         puts("ok");

@@ -39,13 +39,21 @@ def _shortens(trial: Trial, front_end: FrontEnd, journal: pathlib.Path) -> None:
     trial.check("shortened at a SIGHUP", is_another and _lines(journal)[1] == _FIRST, journal.read_bytes()[:300])
 
 
-def _turns(trial: Trial, kinds: tuple[str, ...], is_killed: bool) -> None:
+def _link(folder: pathlib.Path) -> pathlib.Path:
+    """A path that leads by a link to a file of another folder, which is not there yet."""
+    disk, path = folder.with_suffix(".disk"), folder.with_suffix(".link")
+    disk.mkdir()
+    path.symlink_to(f"{disk.name}/journal")
+    return path
+
+
+def _turns(trial: Trial, kinds: tuple[str, ...], is_killed: bool, is_linked: bool = False) -> None:
     """Front ends one after the other shorten a journal every few datagrams, and at a SIGHUP: they answer as one that
-    was never ended, and all that was cut off is kept."""
-    name = f"shortened, {' then '.join(kinds)}{', killed' if is_killed else ''}"
+    was never ended, and all that was cut off is kept. Where its path is a link, that stays, and leads to a file."""
+    name = f"shortened, {' then '.join(kinds)}{', killed' * is_killed}{', linked' * is_linked}"
     folder = trial.folder / f"{len(list(trial.folder.iterdir()))}.kept"
     folder.mkdir()
-    journal, before = folder.with_suffix(".journal"), list[str]()
+    journal, before = _link(folder) if is_linked else folder.with_suffix(".journal"), list[str]()
     sets, gets = settings()
     for turn, kind in enumerate(kinds):
         front_end = FrontEnd(trial, kind, journal, "--keep", "2k", "--archive", str(folder))
@@ -62,6 +70,10 @@ def _turns(trial: Trial, kinds: tuple[str, ...], is_killed: bool) -> None:
         status, faults = front_end.end(signal.SIGKILL if is_killed else signal.SIGTERM)
         is_well = status == (-9 if is_killed else 0) and "shortened from" in faults
         trial.check(f"{name}: {kind} ends", is_well, f"exit {status}: {faults}")
+        trial.same(f"{name}: its path behind {kind}", (journal.is_symlink(), journal.is_file()), (is_linked, True))
+    if is_linked:
+        beside = [path.name for path in folder.with_suffix(".disk").iterdir()]
+        trial.same(f"{name}: the file", beside, ["journal"])
     numbers = sorted(int(path.name.rpartition("-")[2]) for path in folder.iterdir())
     trial.same(f"{name}: what was cut off", numbers, list(range(1, len(numbers) + 1)))
     trial.check(f"{name}: replies", all(before), before)
@@ -133,6 +145,7 @@ def run(trial: Trial) -> None:
     has_both = os.access(trial.program, os.X_OK)
     kinds = _BOTH if has_both else _BOTH[:1]
     _turns(trial, ("signd", "signd"), False)
+    _turns(trial, ("signd", "signd"), False, is_linked=True)
     _with_objects(trial, ("signd", "signd"))
     _refusals(trial, kinds)
     _options(trial, kinds)
@@ -141,4 +154,5 @@ def run(trial: Trial) -> None:
         return
     _turns(trial, ("front end", "signd", "front end"), False)
     _turns(trial, ("signd", "front end", "signd", "front end"), True)
+    _turns(trial, ("signd", "front end", "signd"), False, is_linked=True)
     _with_objects(trial, ("signd", "front end", "signd"))

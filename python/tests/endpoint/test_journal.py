@@ -10,7 +10,7 @@ from unittest import mock
 
 from wisangub.endpoint import records
 from wisangub.endpoint.clock import Moment
-from wisangub.endpoint.files import NotKept, opened
+from wisangub.endpoint.files import NotKept, Place, opened
 from wisangub.endpoint.journal import Journal
 from wisangub.endpoint.keeper import Keeper
 from wisangub.endpoint.owed import MOST_EXACT
@@ -265,8 +265,8 @@ def test_what_differs_is_named() -> None:
 
 def test_one_front_end_a_journal() -> None:
     with tempfile.TemporaryDirectory() as folder:
-        file = opened(f"{folder}/journal")
-        assert "another front end holds" in refused(lambda: opened(f"{folder}/journal"))
+        file = opened(Place.of(f"{folder}/journal"))
+        assert "another front end holds" in refused(lambda: opened(Place.of(f"{folder}/journal")))
         assert os.fstat(file).st_mode & 0o777 == 0o600
         os.close(file)
 
@@ -274,7 +274,7 @@ def test_one_front_end_a_journal() -> None:
 def test_an_old_file_is_put_aside_whole() -> None:
     with tempfile.TemporaryDirectory() as folder:
         text = made(f"{folder}/journal")
-        journal = Journal.fresh(f"{folder}/journal", HEAD)
+        journal = Journal.fresh(Place.of(f"{folder}/journal"), HEAD)
         journal.keep([b"tick"])
         os.close(journal.file)
         assert kept(f"{folder}/journal") == [b"tick"]

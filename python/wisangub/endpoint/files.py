@@ -6,7 +6,7 @@ import fcntl
 import os
 import stat
 import time
-from typing import Callable
+from typing import Callable, NamedTuple
 
 from wisangub.refusal import Refusal, reason
 
@@ -23,28 +23,40 @@ class NotKept(Refusal):
     """The disk refuses, and the file is as it was: what should have been recorded counts as lost."""
 
 
+class Place(NamedTuple):
+    """Where a journal is: `path` as it was given, which is said of it. Where that is a symbolic link, `real` is the
+    file that it led to as the journal was opened: all that is written is that file, or stands beside it."""
+
+    path: str
+    real: str
+
+    @staticmethod
+    def of(path: str) -> "Place":
+        return Place(path, os.path.realpath(path) if os.path.islink(path) else path)
+
+
 def refusal(fault: OSError, words: str = "", status: int = 2) -> Refusal:
     """What a fault of the disk is: where that is full, or can only be read, it may be otherwise later."""
     told = f"{words}: {fault.strerror}" if words else reason(fault)
     return NotKept(told, status) if fault.errno in _FULL else Refusal(told, status)
 
 
-def opened(path: str, how: int = WRITTEN) -> int:
+def opened(place: Place, how: int = WRITTEN) -> int:
     """The file of this name, made where there is none, locked."""
     while True:
         try:
-            file = os.open(path, how | os.O_CLOEXEC | os.O_NOCTTY, MODE)
+            file = os.open(place.real, how | os.O_CLOEXEC | os.O_NOCTTY, MODE)
         except OSError as fault:
-            raise refusal(fault) from fault
-        _lock(file, path)
-        if _is_named(file, path):
+            raise refusal(fault, place.path) from fault
+        _lock(file, place.path)
+        if _is_named(file, place.real):
             return file
         os.close(file)
 
 
-def opened_to_read(path: str) -> int:
+def opened_to_read(place: Place) -> int:
     """The file of this name, locked; -1 where there is none. It is of a disk that cannot be written now."""
-    return opened(path, os.O_RDONLY) if os.path.exists(path) else -1
+    return opened(place, os.O_RDONLY) if os.path.exists(place.real) else -1
 
 
 def _lock(file: int, path: str) -> None:
@@ -76,11 +88,13 @@ def _is_named(file: int, path: str) -> bool:
         return False
 
 
-def stands(file: int, path: str, size: int) -> bool:
-    """Whether the name still stands for the open file, and the file has what was written and no more."""
+def stands(file: int, place: Place, size: int) -> bool:
+    """Whether the name still stands for the open file, and so a link that led to it, and the file has what was written
+    and no more."""
     try:
-        named = os.stat(path)
-        return named.st_size == size and os.path.samestat(named, os.fstat(file))
+        named = os.stat(place.real)
+        is_same = place.path == place.real or os.path.samestat(named, os.stat(place.path))
+        return is_same and named.st_size == size and os.path.samestat(named, os.fstat(file))
     except OSError:
         return False
 
@@ -94,21 +108,21 @@ def cut(file: int, size: int, path: str) -> None:
         raise Refusal(f"{path}: {reason(fault)}: what is on the disk is not known", 1) from fault
 
 
-def folder_of(path: str) -> int:
-    """The folder of a file, open to be synced."""
+def folder_of(path: str, said: str = "") -> int:
+    """The folder of a file, open to be synced; `said` is what the file is called, where that is something else."""
     try:
         return os.open(os.path.dirname(os.path.realpath(path)), os.O_RDONLY | os.O_DIRECTORY | os.O_CLOEXEC)
     except OSError as fault:
-        raise refusal(fault, f"the folder of {path}", 1) from fault
+        raise refusal(fault, f"the folder of {said or path}", 1) from fault
 
 
-def synced_folder(path: str) -> None:
+def synced_folder(path: str, said: str = "") -> None:
     """The names in the file's folder are on the disk."""
-    folder = folder_of(path)
+    folder = folder_of(path, said)
     try:
         os.fsync(folder)
     except OSError as fault:
-        raise refusal(fault, f"the folder of {path}", 1) from fault
+        raise refusal(fault, f"the folder of {said or path}", 1) from fault
     finally:
         os.close(folder)
 
@@ -134,11 +148,11 @@ def copied(file: int, begin: int, end: int, to: int) -> None:
     os.fsync(to)
 
 
-def kept_aside(file: int, begin: int, end: int, path: str) -> str:
+def kept_aside(file: int, begin: int, end: int, place: Place) -> str:
     """A new file beside this one that has some of its octets, on the disk: its name."""
     name = ""
     try:
-        name = _free(f"{path}{_CUT}{dated()}")
+        name = _free(f"{place.real}{_CUT}{dated()}")
         made = os.open(name, os.O_WRONLY | os.O_CREAT | os.O_EXCL | os.O_CLOEXEC, MODE)
         try:
             copied(file, begin, end, made)
@@ -148,49 +162,49 @@ def kept_aside(file: int, begin: int, end: int, path: str) -> str:
         finally:
             os.close(made)
     except OSError as fault:
-        raise NotKept(f"{path}: what is cut away cannot be put aside: {fault.strerror}", 1) from fault
-    synced_folder(path)
+        raise NotKept(f"{place.path}: what is cut away cannot be put aside: {fault.strerror}", 1) from fault
+    synced_folder(place.real, place.path)
     return name
 
 
-def octets_aside(path: str) -> int:
+def octets_aside(place: Place) -> int:
     """How many octets were cut from the file of this name, as far as they lie beside it."""
-    folder, name = os.path.split(os.path.abspath(path))
+    folder, name = os.path.split(os.path.abspath(place.real))
     with os.scandir(folder) as entries:
         return sum(entry.stat().st_size for entry in entries if entry.name.startswith(name + _CUT))
 
 
-def put_aside(path: str, begin: Callable[[int], None]) -> tuple[int, str]:
+def put_aside(place: Place, begin: Callable[[int], None]) -> tuple[int, str]:
     """A new file, begun, in the place of the one of this name, which is kept under another. At each moment there is a
     file of this name, so that a centre's numbers are never begun again."""
-    aside = _free(f"{path}.{dated()}")
-    return replaced(path, begin, lambda: _kept_as(path, aside)), aside
+    aside = _free(f"{place.real}.{dated()}")
+    return replaced(place, begin, lambda: _kept_as(place, aside)), aside
 
 
-def written_anew(path: str, begin: Callable[[int], None]) -> tuple[int, str]:
+def written_anew(place: Place, begin: Callable[[int], None]) -> tuple[int, str]:
     """The same for a journal of form 1, which is kept as it was; where that has such a name already it has no other."""
-    aside = path + _OLDER
-    is_kept = os.path.lexists(aside) and os.path.samestat(os.lstat(aside), os.stat(path))
+    aside = place.real + _OLDER
+    is_kept = os.path.lexists(aside) and os.path.samestat(os.lstat(aside), os.stat(place.real))
     aside = aside if is_kept else _free(aside)
-    return replaced(path, begin, lambda: _kept_as(path, aside)), aside
+    return replaced(place, begin, lambda: _kept_as(place, aside)), aside
 
 
-def _kept_as(path: str, aside: str) -> None:
+def _kept_as(place: Place, aside: str) -> None:
     if not os.path.lexists(aside):
-        os.link(path, aside)
+        os.link(place.real, aside)
 
 
-def replaced(path: str, begin: Callable[[int], None], keep: Callable[[], object]) -> int:
+def replaced(place: Place, begin: Callable[[int], None], keep: Callable[[], object]) -> int:
     """A new file, begun, in the place of the old one, which is kept before and stays where the disk refuses. The folder
     is not synced yet."""
-    made, file = path + NEW, -1
+    made, file = place.real + NEW, -1
     try:
         if os.path.lexists(made):
             os.unlink(made)
-        file = opened(made)
+        file = opened(Place(made, made))
         begin(file)
         keep()
-        os.rename(made, path)
+        os.rename(made, place.real)
     except (OSError, Refusal) as fault:
         if file >= 0:
             os.close(file)

@@ -13,6 +13,7 @@ from .files import (
     NEW,
     WRITTEN,
     NotKept,
+    Place,
     cut,
     folder_of,
     kept_aside,
@@ -37,8 +38,8 @@ class Journal:
     disk cannot be written at a start, what is left to do with the file is done before the first record that it takes:
     it is not ready until then."""
 
-    def __init__(self, path: str, head: Head) -> None:
-        self.path, self.head = path, head._replace(form=FORM)
+    def __init__(self, place: Place, head: Head) -> None:
+        self.place, self.path, self.head = place, place.path, head._replace(form=FORM)
         self.file, self.is_written = -1, False  # whether it is open to be written
         self.size, self.number, self.since = 0, 1, 1  # octets, the next record's number, the first that is not synced
         self.base = 0  # octets that were written with a state
@@ -53,7 +54,7 @@ class Journal:
     def opened(path: str, head: Head, accepts: bool = False, is_patient: bool = False) -> "Journal":
         """The journal of a file that is there, or of a new one; a torn end is put aside, and with `accepts` what is
         damaged. A patient one waits where the disk is full, or can only be read."""
-        journal = Journal(path, head)
+        journal = Journal(Place.of(path), head)
         try:
             journal.open(is_patient)
             journal.read(accepts)
@@ -69,19 +70,19 @@ class Journal:
         return journal
 
     @staticmethod
-    def fresh(path: str, head: Head) -> "Journal":
+    def fresh(place: Place, head: Head) -> "Journal":
         """A new journal in the place of an old one, which is put aside under a name with the date."""
 
         def begun(file: int) -> None:
             """The new file has the journal's first records."""
-            new = Journal(path + NEW, head)
+            new = Journal(Place(place.real + NEW, place.real + NEW), head)
             new.file = file
             new.begin()
 
-        journal = Journal(path, head)
-        journal.file, aside = put_aside(path, begun)
+        journal = Journal(place, head)
+        journal.file, aside = put_aside(place, begun)
         journal.is_written = True
-        LOG.info(f"{path}: put aside as {aside}")
+        LOG.info(f"{journal.path}: put aside as {aside}")
         journal.read(False)
         journal.prepare()
         journal.is_new = True
@@ -90,11 +91,11 @@ class Journal:
     def open(self, is_patient: bool) -> None:
         """Opens the file, to be read alone where that is all that the disk takes."""
         try:
-            self.file, self.is_written = opened(self.path), True
+            self.file, self.is_written = opened(self.place), True
         except NotKept as refused:
             if not is_patient:
                 raise
-            self.file = opened_to_read(self.path)
+            self.file = opened_to_read(self.place)
             self._log_refused(str(refused))
 
     def text(self) -> mmap.mmap | bytes:
@@ -133,18 +134,19 @@ class Journal:
         elif self.size < self.found.length:
             self.cut_off(self.size, self.found.length)
             self.found = self.found._replace(length=self.size)
-        synced_folder(self.path)  # whoever made the file, or renamed it, may have been killed before this
+        # whoever made the file, or renamed it, may have been killed before this
+        synced_folder(self.place.real, self.path)
         self.is_ready = True
 
     def open_again(self) -> None:
         """Opens a file to be written that was opened to be read, or was not there."""
         try:
-            os.close(os.open(self.path, WRITTEN | os.O_CLOEXEC | os.O_NOCTTY, 0o600))
+            os.close(os.open(self.place.real, WRITTEN | os.O_CLOEXEC | os.O_NOCTTY, 0o600))
         except OSError as fault:
-            raise refusal(fault) from fault
+            raise refusal(fault, self.path) from fault
         before = os.fstat(self.file) if self.file >= 0 else None
         self.close()
-        self.file = opened(self.path)
+        self.file = opened(self.place)
         now = os.fstat(self.file)
         if before is not None and (not os.path.samestat(before, now) or before.st_size != now.st_size):
             raise Refusal(f"{self.path}: another hand moved or changed it meanwhile", 1)
@@ -165,7 +167,7 @@ class Journal:
 
     def cut_off(self, size: int, length: int) -> None:
         """Puts what stands behind the kept records into a file of its own, and then cuts it away."""
-        name = kept_aside(self.file, size, length, self.path)
+        name = kept_aside(self.file, size, length, self.place)
         LOG.info(f"{self.path}: {length - size} octets from octet {size} on are cut away, and kept as {name}")
         cut(self.file, size, self.path)
         self.since = self.number
@@ -174,7 +176,7 @@ class Journal:
         """A journal of form 1 becomes one of form 2."""
         text = self.text()
         made: list[int] = []
-        file, aside = written_anew(self.path, lambda file: made.append(self.copy(text, found.size, file)))
+        file, aside = written_anew(self.place, lambda file: made.append(self.copy(text, found.size, file)))
         self.close()
         self.file, self.is_written = file, True
         self.size, self.number, self.since = os.fstat(file).st_size, made[0], made[0]
@@ -198,7 +200,7 @@ class Journal:
     def exchange(self, state: list[bytes], keep: Callable[[], object]) -> None:
         """Another file is in force from here on, which begins with the state in which the records left the sign; the
         old one is kept before. Where the disk refuses it stays as it is: NotKept."""
-        if not stands(self.file, self.path, self.size):
+        if not stands(self.file, self.place, self.size):
             raise Refusal(f"{self.path}: another hand moved or changed it", 1)
         _, last = reading.started(self.text(), self.size)
         if last is None:
@@ -212,11 +214,11 @@ class Journal:
             os.fsync(file)
 
         try:
-            folder = folder_of(self.path)
+            folder = folder_of(self.place.real, self.path)
         except Refusal as fault:
             raise NotKept(str(fault), 1) from fault
         try:
-            self.take(replaced(self.path, begun, keep), len(octets), len(lines) + 1)
+            self.take(replaced(self.place, begun, keep), len(octets), len(lines) + 1)
             _sync(folder, f"the folder of {self.path}", os.fsync)
         finally:
             os.close(folder)
@@ -278,7 +280,7 @@ class Journal:
             _sync(self.file, self.path, os.fdatasync)
         self.size, self.number = self.size + len(octets), self.number + len(lines)
         self.since = self.number if synced else self.since
-        if not stands(self.file, self.path, self.size):
+        if not stands(self.file, self.place, self.size):
             raise Refusal(f"{self.path}: another hand moved or changed it: what was recorded last is not kept", 1)
 
     def close(self) -> None:

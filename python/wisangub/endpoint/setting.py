@@ -14,7 +14,7 @@ from wisangub.process.coprocess import CoProcess
 from wisangub.process.stands import signtool
 from wisangub.refusal import Refusal
 
-from .files import octets_aside, opened
+from .files import Place, octets_aside, opened
 from .journal import Journal
 from .reading import first_of
 from .records import SECTOR, SHORTEST, Head
@@ -102,18 +102,19 @@ def number_above(path: str, file: int, end: str, aside: int = 0) -> int | None:
 
 def journal_of(asked: argparse.Namespace, head: Head) -> Journal:
     """The journal that is asked for."""
-    if not asked.fresh or not os.path.lexists(asked.journal):
+    place = Place.of(asked.journal)
+    if not asked.fresh or not os.path.lexists(place.real):
         accepts = getattr(asked, "accept_damage", False)
         return Journal.opened(asked.journal, head, accepts, is_patient=not asked.need_journal)
-    old = opened(asked.journal)
+    old = opened(place)
     try:
-        above = number_above(asked.journal, old, head.end, octets_aside(asked.journal))
+        above = number_above(asked.journal, old, head.end, octets_aside(place))
         wanted = getattr(asked, "first", None)  # of a centre
         if above is not None and wanted is not None and wanted < above:
             raise Refusal(f"--first {wanted}: {asked.journal} may have used each number below {above}")
         if above is not None and head.first is not None:
             head = head._replace(first=max(above, head.first))
-        return Journal.fresh(asked.journal, head)
+        return Journal.fresh(place, head)
     finally:
         os.close(old)
 

@@ -92,7 +92,7 @@ class Shortening:
         try:
             if not keeper.is_paid():
                 raise NotKept(f"{journal.path}: {journal.refused}", 1)
-            journal.exchange(self.looked_at(sign), lambda: self.archive and self.archive.keep(journal.path))
+            journal.exchange(self.looked_at(sign), lambda: self.archive and self.archive.keep(journal.place.real))
         except NotKept as fault:
             if is_asked or str(fault) != self.refused:
                 LOG.info(f"{journal.path} is not shortened: {fault}")
