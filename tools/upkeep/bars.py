@@ -37,7 +37,7 @@ BARS = (
     Bar("one path to each name", crates.paths),
     Bar("wrong bodies are kept", wrong.listed),
     Bar("a wrong body of each crate", wrong.owed),
-    Bar("wrong bodies apply", wrong.applied),
+    Bar("wrong bodies apply and read", wrong.read),
     Bar("the drawing of the houses", drawing.drawn),
     Bar("files that octets pass", drawing.passed),
     Bar("the list of tools", tools.in_list),

@@ -24,6 +24,13 @@ def names(tree: Tree) -> list[str]:
     return [line.split(":")[0].split()[0] for line in lines]
 
 
+def used(text: str) -> dict[str, list[str]]:
+    """What each crate stands on, of others and of the kit, by a text as that of crates.txt."""
+    lines = [line.split("#")[0] for line in text.splitlines()]
+    halves = [line.partition(":") for line in lines if line.strip()]
+    return {head.split()[0]: below.split() for head, _, below in halves}
+
+
 def houses(tree: Tree) -> dict[str, list[str]]:
     """The crates of each house: those below its line of crates.txt."""
     found: dict[str, list[str]] = {}

@@ -1,4 +1,5 @@
-"""Bars of the wrong bodies: that none is lost, that each can be applied, and that each crate that promises has one."""
+"""Bars of the wrong bodies: that none is lost, that each can be applied and read, and that each crate that promises has
+one."""
 
 from __future__ import annotations
 
@@ -6,6 +7,7 @@ import re
 
 from . import crates
 from .edits import edits_of, faults
+from .names import unknown
 from .tree import Tree
 
 LIST = "tools/upkeep/wrong_bodies.txt"
@@ -60,10 +62,17 @@ def owed(tree: Tree) -> list[str]:
     ]
 
 
-def applied(tree: Tree) -> list[str]:
-    """Wrong bodies that cannot be applied to the code as it stands."""
-    return [
-        f"crates/{crate}/{name}.edit: {why}"
-        for crate in crates.names(tree)
-        for name, why in faults(edits_of(tree.top / "crates" / crate)).items()
-    ]
+def read(tree: Tree) -> list[str]:
+    """Wrong bodies that cannot be applied to the code as it stands, or name what is not there."""
+    found = []
+    for crate, below in crates.used(tree.text(crates.LIST)).items():
+        edits = edits_of(tree.top / "crates" / crate)
+        wrong = faults(edits)
+        found += [f"crates/{crate}/{name}.edit: {why}" for name, why in wrong.items()]
+        found += [
+            f"{crate}/{edit.name}: names {name}, which its file does not"
+            for edit in edits
+            if edit.name not in wrong
+            for name in unknown(edit, below)
+        ]
+    return found

@@ -27,7 +27,7 @@ def put(top: pathlib.Path, name: str, text: str) -> None:
 
 def below(top: pathlib.Path) -> list[str]:
     tree = Tree(top)
-    return [*wrong.listed(tree), *wrong.owed(tree), *wrong.applied(tree)]
+    return [*wrong.listed(tree), *wrong.owed(tree), *wrong.read(tree)]
 
 
 def test_all_is_well(top: pathlib.Path) -> None:
