@@ -11,9 +11,9 @@ outputs and its exit status.
 Each crate is proved from nothing, over the statements of those below it. A run that was stopped goes on where it was.
 A crate that fails ends the run: the end of its log is shown, and the whole stands in its out/build.log.
 
-What it proved is all that is built on: `make -C examples` and measures/run.sh prove their own crate over it, and `rt
-check` in a crate that crate. Where `rt` built a crate below since then, it may refuse one above, as `proved over
-another build`: tools/build.py, called again, gives it what is proved of the sources as they stand.
+What it proved is all that is built on: `make -C examples` and measures/run.sh prove their own crate over it, and
+tools/check.py the crate that it is asked for. Where `rt` built a crate below since then, it may refuse one above, as
+`proved over another build`: tools/build.py, called again, gives it what is proved of the sources as they stand.
 """
 
 from __future__ import annotations

@@ -14,7 +14,7 @@ from dataclasses import dataclass
 from .plan import Crate
 from .proofs import Proofs
 
-_KEPT = "out/incremental"  # where `rt check` and `rt lib` keep what they proved of a crate
+KEPT = "out/incremental"  # where a check keeps what it proved of a crate, by tools/check.py or the kit's `rt`
 
 
 @contextlib.contextmanager
@@ -61,7 +61,7 @@ class Static:
         """Proves the crate, going on from what was kept of it, and makes the library."""
         kit, place = self.proofs.kit, self.made.with_suffix(".new")
         words = kit.checked(self.proofs.plan, self.crate, libraries, jobs)
-        words += ["--crate-type", "staticlib", *kit.compiled(), "--incremental", _KEPT, "-o", str(place)]
+        words += ["--crate-type", "staticlib", *kit.compiled(), "--incremental", KEPT, "-o", str(place)]
         words += ["--target", self.target] if self.target else []
         words += ["--cpu", self.cpu] if self.cpu else []
         with held(self.crate):
