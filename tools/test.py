@@ -8,10 +8,10 @@ and the tests of Python but those that take a minute by themselves or have a ser
 front ends run with the model, and what compares the program is skipped. What lacks pytest, mypy, the SNMP tools or
 the kit is skipped by name.
 
-Last, one at a time, `rt check` proves each crate that changed: one of which a file of src/, specs/ or proofs/ is not as
-in the last commit that main has too (of origin/main where there is one; on main without a remote, the last commit),
-whether that is committed or not, or tracked by git or not. Crates above it are left to the gate. A check takes 20
-seconds to 3 minutes where the crates below are built (tools/build.py), and else builds them first.
+Last, one at a time, tools/check.py proves each crate that changed: one of which a file of src/, specs/ or proofs/ is
+not as in the last commit that main has too (of origin/main where there is one; on main without a remote, the last
+commit), whether that is committed or not, or tracked by git or not. Crates above it are left to the gate. A check takes
+20 seconds to 3 minutes where the crates below are proved (tools/build.py), and else proves them first.
 
 How far it is and how long the rest takes is said on standard error. Of a step that fails the output is shown. The last
 two lines are `N skipped: names` and `N passed, N failed`; the exit status is 0 where nothing failed. It is not the
@@ -80,7 +80,7 @@ def _checks() -> tuple[list[Step], str]:
     return [
         Step(
             f"check of {name}",
-            f"env -C crates/{name} rt check",
+            f"tools/check.py {name}",
             _LONGEST_CHECK,
             "rt",
             plan.measured(name).work * SECONDS_A_LINE,

@@ -13,10 +13,15 @@ import pytest
 import python_tests
 from steps.step import TOP, Step, judged
 
-NEEDED = ("tools/test.py", "tools/after_gate.py", "tools/steps", "tools/building")
-RT = """#!/bin/sh
+NEEDED = ("tools/test.py", "tools/after_gate.py", "tools/check.py", "tools/build.py")
+FOLDERS = ("tools/steps", "tools/building", "tools/tries")
+RATTLE = """#!/bin/sh
 echo "$1 in $(basename "$PWD")" >> "$ASKED"
 [ "$(basename "$PWD")" != bad ] || { echo a goal is open; exit 1; }
+while [ $# != 0 ]; do
+    [ "$1" != -o ] || echo made > "$2"
+    shift
+done
 """
 
 
@@ -29,13 +34,11 @@ def write(path: pathlib.Path, text: str) -> None:
 def top(tmp_path: pathlib.Path) -> pathlib.Path:
     """A repository with three crates, none of which changed."""
     top = tmp_path / "top"
+    for name in FOLDERS:
+        shutil.copytree(TOP / name, top / name, ignore=shutil.ignore_patterns("tests", "__pycache__"))
     for name in NEEDED:
-        if (TOP / name).is_dir():
-            shutil.copytree(TOP / name, top / name, ignore=shutil.ignore_patterns("tests", "__pycache__"))
-        else:
-            (top / "tools").mkdir(parents=True, exist_ok=True)
-            shutil.copy(TOP / name, top / name)
-    write(top / "crates.txt", "high: low bad\nlow:\nbad: low\n")
+        shutil.copy(TOP / name, top / name)
+    write(top / "crates.txt", "high: low\nlow:\nbad: low\n")
     for name in ("low", "bad", "high"):
         write(top / f"crates/{name}/src/{'main' if name == 'high' else 'lib'}.rt", "fn nothing() {}\n")
     write(top / ".gitignore", "out/\n__pycache__/\n")
@@ -45,13 +48,19 @@ def top(tmp_path: pathlib.Path) -> pathlib.Path:
     return top
 
 
+def kit(top: pathlib.Path, text: str) -> pathlib.Path:
+    """The folder of the programs of a kit, which all are this text."""
+    folder = top.parent / "kit/bin"
+    for name in ("rt", "rattle"):
+        write(folder / name, text)
+        (folder / name).chmod(0o755)
+    write(folder.parent / "KIT-ID", "a kit")
+    return folder
+
+
 def called(top: pathlib.Path, *words: str, has_kit: bool = True) -> tuple[int, str, str, list[str]]:
     """The status, what it printed, what it said, and what the kit was asked."""
-    folder = top.parent / "bin"
-    path = f"{folder}:{os.environ['PATH']}" if has_kit else "/usr/bin:/bin"
-    if has_kit:
-        write(folder / "rt", RT)
-        (folder / "rt").chmod(0o755)
+    path = f"{kit(top, RATTLE)}:{os.environ['PATH']}" if has_kit else "/usr/bin:/bin"
     environment = {**os.environ, "PATH": path, "ASKED": str(top.parent / "asked"), "PYTHONDONTWRITEBYTECODE": "1"}
     call = [sys.executable, "tools/test.py", *words]
     ended = subprocess.run(call, cwd=top, env=environment, capture_output=True, text=True, check=False)
@@ -67,7 +76,7 @@ def change(top: pathlib.Path, *names: str) -> None:
 def test_crates_that_changed_are_checked_one_at_a_time_the_lowest_first(top: pathlib.Path) -> None:
     change(top, "high", "low")
     status, printed, said, asked = called(top, "check of high", "check of low")
-    assert (status, asked) == (0, ["check in low", "check in high"])
+    assert (status, asked) == (0, ["check in low", "build in low", "check in high"])
     assert printed.splitlines()[-2:] == ["0 skipped: none", "2 passed, 0 failed"]
     assert "1 of 2 steps in 0 s; some " in said and "2 of 2 steps in " in said
 
@@ -75,7 +84,7 @@ def test_crates_that_changed_are_checked_one_at_a_time_the_lowest_first(top: pat
 def test_a_crate_that_is_not_proved_fails_and_its_output_is_shown(top: pathlib.Path) -> None:
     change(top, "bad", "high")
     status, printed, _, asked = called(top, "check of bad", "check of high")
-    assert (status, asked) == (1, ["check in bad", "check in high"])
+    assert (status, asked) == (1, ["build in low", "check in bad", "check in high"])
     assert "a goal is open" in printed and printed.endswith("1 passed, 1 failed\n")
 
 
@@ -108,16 +117,15 @@ def test_the_list_names_steps_and_changed_crates(top: pathlib.Path) -> None:
     change(top, "low")
     status, printed, _, asked = called(top, "--list")
     assert (status, asked) == (0, []) and "model: python3 -m trials.compare_model" in printed
-    assert printed.splitlines()[-1].startswith("check of low: env -C crates/low rt check (some ")
+    assert printed.splitlines()[-1].startswith("check of low: tools/check.py low (some ")
     assert "check of" not in called(top, "--list", "--without-crates")[1]
 
 
 @pytest.mark.parametrize("number, status", [(signal.SIGINT, 130), (signal.SIGTERM, 143)])
 def test_an_interrupt_ends_it_at_once(top: pathlib.Path, number: int, status: int) -> None:
     change(top, "low")
-    write(top.parent / "bin/rt", "#!/bin/sh\necho $$ > $ASKED\nexec sleep 60\n")
-    (top.parent / "bin/rt").chmod(0o755)
-    environment = {**os.environ, "PATH": f"{top.parent}/bin:{os.environ['PATH']}", "ASKED": f"{top.parent}/asked"}
+    folder = kit(top, "#!/bin/sh\necho $$ > $ASKED\nexec sleep 60\n")
+    environment = {**os.environ, "PATH": f"{folder}:{os.environ['PATH']}", "ASKED": f"{top.parent}/asked"}
     call = [sys.executable, "tools/test.py", "check of low"]
     with subprocess.Popen(
         call,
