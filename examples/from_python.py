@@ -109,6 +109,7 @@ ARGUMENTS = {
     "sign_check": [SIGN, c_char_p, c_size_t, SIZE, POINTER(TextFault)],
     "sign_text_cause": [SIGN, c_char_p, c_size_t, POINTER(TextCause), BUFFER, c_size_t, SIZE],
     "sign_pages": [SIGN, c_uint32, BUFFER, c_size_t, SIZE],
+    "sign_page_row": [SIGN, c_size_t, c_uint16, c_uint32, BUFFER, c_size_t, SIZE],
     "sign_text_pages": [SIGN, c_char_p, c_size_t, c_uint32, BUFFER, c_size_t, SIZE, POINTER(TextFault)],
     "sign_show_fonts": [SIGN],
     "sign_publish": [SIGN, BUFFER, c_size_t, POINTER(Value), BUFFER, c_size_t, POINTER(Access)],
