@@ -14,9 +14,9 @@ use Rattle.dms_sign.specs.Reply as sign
 use Rattle.dms_sign.specs.ReplyView.{is_addressed, answered}
 use Rattle.dms_sign.proofs.Addressed.{on_addressed, not_addressed}
 use Rattle.dms_sign.proofs.Sending.{get_says, get_next_says}
-use Rattle.dms_device.specs.Setting.{refusal_of}
+use Rattle.dms_device.specs.Setting.{are_all_named, refusal_of}
 use Rattle.dms_agent.specs.Values.{or_else, agent_value, earliest, agent_after}
-use Rattle.dms_agent.specs.Received.{AgentReceived, dropped, of_sign, read, are_all_named, device_set, agent_answered, on_message_if, agent_received}
+use Rattle.dms_agent.specs.Received.{AgentReceived, dropped, of_sign, read, device_set, agent_answered, on_message_if, agent_received}
 use Rattle.dms_agent.specs.Promises.{alone}
 
 -- ---- what names read

@@ -1,4 +1,3 @@
-pub mod Named
 pub mod Alone
 pub mod Objects
 pub mod Sizes

@@ -10,10 +10,10 @@ use Rattle.dms_sign.specs.Requests.{may_write}
 use Rattle.dms_sign.specs.Reply as sign
 use Rattle.dms_sign.specs.ReplyView.{is_addressed}
 use Rattle.dms_device.specs.declared.fault.Refusal.{Refusal}
-use Rattle.dms_device.specs.Setting.{refusal_of, written}
+use Rattle.dms_device.specs.Setting.{are_all_named, refusal_of, written}
 use Rattle.dms_agent.specs.declared.agent.Agent.{Agent}
 use Rattle.dms_agent.specs.Values.{agent_value, agent_after}
-use Rattle.dms_agent.specs.Received.{AgentReceived, dropped, of_sign, read, are_all_named, device_set, agent_answered, on_message_if, agent_received}
+use Rattle.dms_agent.specs.Received.{AgentReceived, dropped, of_sign, read, device_set, agent_answered, on_message_if, agent_received}
 use Rattle.dms_agent.specs.Promises.{is_set, is_done, objects_after}
 
 -- what is answered, by the kind, by whether all names are the device's, and by its refusal

@@ -17,10 +17,10 @@ use Rattle.dms_sign.specs.Requests.{Answer, may_write}
 use Rattle.dms_sign.specs.Reply as sign
 use Rattle.dms_sign.specs.ReplyView.{is_addressed}
 use Rattle.dms_device.specs.declared.fault.Refusal.{Refusal}
-use Rattle.dms_device.specs.Setting.{refusal_of}
+use Rattle.dms_device.specs.Setting.{are_all_named, refusal_of}
 use Rattle.dms_agent.specs.declared.agent.Agent.{Agent}
 use Rattle.dms_agent.specs.Values.{agent_value, agent_after}
-use Rattle.dms_agent.specs.Received.{AgentReceived, dropped, of_sign, are_all_named, set_reply, device_set, agent_answered, on_message_if, agent_received}
+use Rattle.dms_agent.specs.Received.{AgentReceived, dropped, of_sign, set_reply, device_set, agent_answered, on_message_if, agent_received}
 use Rattle.dms_agent.specs.Promises.{is_done}
 use Rattle.dms_agent.proofs.Objects.{done_reply}
 

@@ -7,9 +7,8 @@ use Rattle.dms_sign.specs.Requests.{may_write}
 use Rattle.dms_sign.specs.ReplyView.{is_addressed}
 use Rattle.dms_sign.specs.State.{SignState}
 use Rattle.dms_device.specs.Object.{DeviceObject}
-use Rattle.dms_device.specs.Setting.{refusal_of, written}
+use Rattle.dms_device.specs.Setting.{are_all_named, refusal_of, written}
 use Rattle.dms_agent.specs.declared.agent.Agent.{Agent}
-use Rattle.dms_agent.specs.Received.{are_all_named}
 
 -- the sign with a device that has no objects, whose fonts cannot be read
 abbrev pub alone : SignState → Agent

@@ -1,11 +1,10 @@
 -- What comes of a datagram to an agent (RFC 1157, 4.1, and this profile).
-use Rattle.std.specs.Prelude.{ℕ, Bool, false, if◌then◌else◌, List, [], ◌∷◌}
-use Rattle.std.specs.Prelude.{Option, Some, None, is_some}
-use Rattle.std.specs.List.{list_all}
+use Rattle.std.specs.Prelude.{ℕ, if◌then◌else◌, List}
+use Rattle.std.specs.Prelude.{Option, Some, None}
 use Rattle.dms_wire.specs.declared.message.Kind.{Kind}
 use Rattle.dms_wire.specs.declared.message.Kind.TheVariants.{Get, GetNext, Response, Set}
 use Rattle.dms_wire.specs.ErrorStatus.{error_status_number}
-use Rattle.dms_wire.specs.Message.{VarBind, SnmpMessage}
+use Rattle.dms_wire.specs.Message.{SnmpMessage}
 use Rattle.dms_wire.specs.MessageOf.{message_of}
 use Rattle.dms_mib_replies.specs.Replies.{reply_with, get_reply, get_next_reply}
 use Rattle.dms_codes.specs.declared.codes.Activation.{Activation}
@@ -13,9 +12,7 @@ use Rattle.dms_sign.specs.Requests.{may_write}
 use Rattle.dms_sign.specs.Reply as sign
 use Rattle.dms_sign.specs.ReplyView.{is_addressed}
 use Rattle.dms_device.specs.declared.fault.Refusal.{Refusal}
-use Rattle.dms_device.specs.Object.{DeviceObject}
-use Rattle.dms_device.specs.Objects.{device_value}
-use Rattle.dms_device.specs.Setting.{refusal_of, written_unless}
+use Rattle.dms_device.specs.Setting.{are_all_named, refusal_of, written_unless}
 use Rattle.dms_agent.specs.declared.agent.Agent.{Agent}
 use Rattle.dms_agent.specs.Values.{agent_value, agent_after}
 
@@ -38,15 +35,6 @@ abbrev pub read : Agent → List ℕ → AgentReceived
 read a octets = record { reply = Some octets; after = record a { sign = sign.after_get a.sign }; accepted = None }
 
 -- ---- a Set
-
--- the binding's name is that of an object of the device
-abbrev pub is_named : List DeviceObject → VarBind → Bool
-is_named objects binding = is_some (device_value objects binding.name)
-
--- so is each, and there is one
-abbrev pub are_all_named : List DeviceObject → List VarBind → Bool
-are_all_named objects [] = false
-are_all_named objects (binding ∷ more) = list_all (is_named objects) (binding ∷ more)
 
 -- it repeats the bindings, without an error or with that for which the Set is refused
 abbrev pub set_reply : SnmpMessage → Option Refusal → List ℕ

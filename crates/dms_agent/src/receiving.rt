@@ -5,15 +5,15 @@ ghost use Rattle.dms_wire.specs.declared.message.Kind.TheVariants.{Set};
 ghost use Rattle.dms_wire.specs.View.{snmp_message};
 ghost use Rattle.dms_sign.specs.ReplyView.{IsRead, sent, accepted_by};
 ghost use Rattle.dms_sign.specs.declared.sign.reply.Receipt.TheVariants.{Dropped};
-ghost use Rattle.dms_device.specs.Setting.{refusal_of, written_unless};
-ghost use Rattle.dms_agent.specs.Received.{are_all_named, set_reply, agent_set};
+ghost use Rattle.dms_device.specs.View.{refusal_in};
+ghost use Rattle.dms_agent.specs.Received.{set_reply, agent_set};
 ghost use Rattle.dms_agent.specs.Received.{agent_answered, agent_received};
 
 use crate::agent::Agent;
-use dms_device::Device;
-use dms_mib_replies::{Objects, answer_get, answer_next, repeat};
+use dms_device::Refusal;
+use dms_mib_replies::{answer_get, answer_next, repeat};
 use dms_sign::Receipt;
-use dms_wire::{Binds, ErrorStatus, Kind, Message, Out, heard};
+use dms_wire::{ErrorStatus, Kind, Message, Out, heard};
 
 impl Agent {
     /// What comes of a datagram: the reply is left in `out`, which is empty where nothing is sent. What the sign drops
@@ -69,40 +69,24 @@ impl Agent {
         ensures accepted { accepted_by result ≡ (agent_set self.old (snmp_message message.now)).accepted }
         ensures empty { result ≡ Dropped → out.new.items ≡ [] }
     {
-        if !are_all_named(&self.device, &message.binds) {
-            return self.sign.answer(message, out);
-        }
         let may_write = self.sign.may_write(message);
-        set_device(&mut self.device, may_write, message, out);
-        self.sign.heard();
-        Receipt::Replied
-    }
-}
-
-/// Whether each name is that of an object of the device, and there is one.
-fn are_all_named(device: &Device, binds: &Binds<'_>) -> bool
-    ensures { result ≡ are_all_named device.now binds.now }
-{
-    let mut rest = binds.again();
-    let mut found = false;
-    while let Some(name) = rest.next_name() {
-        if device.value(&name).is_none() {
-            return false;
+        match self.device.set_own(may_write, &message.binds) {
+            None => self.sign.answer(message, out),
+            Some(done) => {
+                reply_to_set(done, message, out);
+                self.sign.heard();
+                Receipt::Replied
+            }
         }
-        found = true;
     }
-    found
 }
 
-/// Does a Set of the device's, and writes its reply.
-fn set_device(device: &mut Device, may_write: bool, message: &Message<'_>, out: &mut Out)
+/// Writes the reply to a Set of the device's.
+fn reply_to_set(done: Result<(), Refusal>, message: &Message<'_>, out: &mut Out)
     requires { IsRead (snmp_message message.now) }
-    ensures written { device.new ≡ written_unless device.old message.now.binds
-        (refusal_of device.old may_write message.now.binds) }
-    ensures reply { out.new.items
-        ≡ set_reply (snmp_message message.now) (refusal_of device.old may_write message.now.binds) }
+    ensures { out.new.items ≡ set_reply (snmp_message message.now) (refusal_in done) }
 {
-    match device.set(may_write, &message.binds) {
+    match done {
         Ok(()) => repeat(message, ErrorStatus::NoError, 0, out),
         Err(refusal) => repeat(message, refusal.status, refusal.index, out),
     }

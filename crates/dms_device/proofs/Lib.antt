@@ -4,4 +4,5 @@ pub mod Found
 pub mod Writes
 pub mod Faultless
 pub mod Judging
+pub mod Naming
 pub mod Telling

@@ -1,7 +1,7 @@
 -- What a manager's Set does to the objects of a device, or why it does nothing (RFC 1157, 4.1.5, and this profile).
 use Rattle.std.specs.Prelude.{ℕ, ◌+◌, ◌||◌, Bool, true, false, not, if◌then◌else◌}
-use Rattle.std.specs.Prelude.{List, [], ◌∷◌, ◌++◌, map, length, Option, Some, None}
-use Rattle.std.specs.List.{find}
+use Rattle.std.specs.Prelude.{List, [], ◌∷◌, ◌++◌, map, length, Option, Some, None, is_some}
+use Rattle.std.specs.List.{find, list_all}
 use Rattle.std.specs.Option.{option_map_or}
 use Rattle.dms_wire.specs.Message.{ObjectValue, VarBind}
 use Rattle.dms_wire.specs.declared.error_status.ErrorStatus.{ErrorStatus}
@@ -11,7 +11,18 @@ use Rattle.dms_device.specs.declared.access.Access.{Access}
 use Rattle.dms_device.specs.declared.access.Access.TheVariants.{ReadOnly, Number, Octets}
 use Rattle.dms_device.specs.declared.fault.Refusal.{Refusal}
 use Rattle.dms_device.specs.Object.{DeviceObject, admits}
-use Rattle.dms_device.specs.Objects.{has_name}
+use Rattle.dms_device.specs.Objects.{has_name, device_value}
+
+-- ---- whose Set it is
+
+-- the binding's name is that of an object of the device
+abbrev pub is_named : List DeviceObject → VarBind → Bool
+is_named objects binding = is_some (device_value objects binding.name)
+
+-- so is each, and there is one
+abbrev pub are_all_named : List DeviceObject → List VarBind → Bool
+are_all_named objects [] = false
+are_all_named objects (binding ∷ more) = list_all (is_named objects) (binding ∷ more)
 
 -- ---- what keeps a Set from writing
 

@@ -1,21 +1,22 @@
 //! A device: the objects that firmware publishes.
 
-ghost use Rattle.std.specs.Prelude.{◌≡◌, ◌≤◌, true, false, [], drop, map, length, slice_get, option_map, OnOk, OnErr};
+ghost use Rattle.std.specs.Prelude.{◌≡◌, ◌≤◌, true, false, [], drop, map, length, slice_get, is_some, option_map};
+ghost use Rattle.std.specs.Prelude.{OnOk, OnErr, IfSome, IfNone};
 ghost use Rattle.std.specs.List.{list_any};
 ghost use Rattle.dms_wire.specs.Limits.{most_bindings};
 ghost use Rattle.dms_wire.specs.View.{var_bind};
 ghost use Rattle.dms_device.specs.Objects.{has_name, rises};
 ghost use Rattle.dms_device.specs.Publishing.{published, withdrawn};
-ghost use Rattle.dms_device.specs.Setting.{refusal_of, written_unless};
+ghost use Rattle.dms_device.specs.Setting.{are_all_named, refusal_of, written_unless};
 ghost use Rattle.dms_device.specs.Taken.{set_bindings, told, told_first};
 ghost use Rattle.dms_device.specs.View.{refusal_in};
 
 use crate::fault::Refusal;
 use crate::object::Object;
 use crate::places::{
-    place_after, place_of, place_set, put_object, take_object, tell_object, tell_objects,
+    NO_PLACES, place_after, place_of, place_set, put_object, take_object, tell_object, tell_objects,
 };
-use crate::setting::{judged, set_objects};
+use crate::setting::{judged, judged_own, set_objects};
 use dms_mib_replies::{Next, NextName, Objects};
 use dms_wire::{Bind, Binds, Oid, Value};
 use std::alloc::{AllocError, Global};
@@ -105,8 +106,26 @@ impl Device {
         ensures written { self.new ≡ written_unless self.old binds.now (refusal_of self.old may_write binds.now) }
     {
         judged(self.objects.as_slice(), may_write, binds)?;
-        set_objects(&mut self.objects, binds);
+        set_objects(&mut self.objects, binds, &NO_PLACES);
         Ok(())
+    }
+
+    /// Does a manager's Set as `set` does it, where its names are all those of objects that are here, and there is one.
+    /// Any other Set is not the device's, and nothing changes. Each name is looked up once.
+    pub fn set_own(&mut self, may_write: bool, binds: &Binds<'_>) -> Option<Result<(), Refusal>>
+        requires { length binds.now ≤ most_bindings }
+        ensures own { is_some result ≡ are_all_named self.old binds.now }
+        ensures refusal { IfSome result (λ done. refusal_in done ≡ refusal_of self.old may_write binds.now) }
+        ensures written { IfSome result (λ done. self.new
+            ≡ written_unless self.old binds.now (refusal_of self.old may_write binds.now)) }
+        ensures kept { IfNone result (self.new ≡ self.old) }
+    {
+        let mut places = NO_PLACES;
+        let done = judged_own(self.objects.as_slice(), may_write, binds, &mut places)?;
+        if done.is_ok() {
+            set_objects(&mut self.objects, binds, &places);
+        }
+        Some(done)
     }
 
     /// The first object, by its name, that a manager set and of which firmware was not told yet, with what was set.

@@ -12,6 +12,15 @@ use crate::object::Object;
 use dms_wire::{Bind, Oid};
 use std::alloc::AllocError;
 
+/// How many places are kept of a Set: a datagram has about so many names of objects.
+pub(crate) const PLACES: usize = 64;
+
+/// Where the objects may stand that the names of a Set are those of, one after the other. It is looked whether they do.
+pub(crate) type Places = [u32; PLACES];
+
+/// Nothing is known.
+pub(crate) const NO_PLACES: Places = [0; PLACES];
+
 /// The place of the first object that comes after a name, or how many there are.
 pub(crate) fn place_after(objects: &[Object], name: &Oid<'_>) -> usize
     requires { rises objects.now ≡ true }
@@ -53,6 +62,22 @@ pub(crate) fn place_of(objects: &[Object], name: &Oid<'_>) -> Result<usize, usiz
     }
 }
 
+/// The same, where the object may well stand at a place: there it is looked for first.
+pub(crate) fn place_near(objects: &[Object], name: &Oid<'_>, near: usize) -> Result<usize, usize>
+    requires { rises objects.now ≡ true }
+    ensures within { IfOk result (λ place. place < length objects.now) }
+    ensures found { IfOk result (HoldsAt (λ object. has_name name.now object ≡ true) objects.now) }
+    ensures none { OnErr result (list_any (has_name name.now) objects.now ≡ false) }
+{
+    if near < objects.len() {
+        let object = &objects[near];
+        if object.has_name(name) {
+            return Ok(near);
+        }
+    }
+    place_of(objects, name)
+}
+
 /// Puts an object into its place, in place of the one that has its name.
 pub(crate) fn put_object(objects: &mut Vec<Object>, object: Object) -> Result<(), AllocError>
     requires { rises objects.old.items ≡ true }
@@ -89,13 +114,13 @@ pub(crate) fn take_object(objects: &mut Vec<Object>, name: &Oid<'_>) -> bool
     }
 }
 
-/// Sets the object of a binding's name to its value, where it takes it.
-pub(crate) fn set_object(objects: &mut Vec<Object>, binding: &Bind<'_>)
+/// Sets the object of a binding's name to its value, where it takes it. The object may well stand at a place.
+pub(crate) fn set_object(objects: &mut Vec<Object>, binding: &Bind<'_>, near: usize)
     requires { rises objects.old.items ≡ true }
     ensures done { objects.new.items ≡ map (set_by_binding (var_bind binding.now)) objects.old.items }
     ensures rises { rises objects.new.items ≡ true }
 {
-    if let Ok(place) = place_of(objects.as_slice(), &binding.name) {
+    if let Ok(place) = place_near(objects.as_slice(), &binding.name, near) {
         let object = &mut objects[place];
         object.set(&binding.value);
     }

@@ -1,16 +1,17 @@
 //! A manager's Set: each binding is judged, in order; then all values are assigned.
 
-ghost use Rattle.std.specs.Prelude.{◌≡◌, ◌≤◌, true, take, length};
+ghost use Rattle.std.specs.Prelude.{◌≡◌, ◌<◌, ◌≤◌, true, take, length, is_some, IfSome};
+ghost use Rattle.std.specs.List.{list_all, HoldsAt};
 ghost use Rattle.dms_wire.specs.Limits.{most_bindings};
 ghost use Rattle.dms_wire.specs.View.{var_bind};
 ghost use Rattle.dms_sign_access.specs.Slots.{AreTaken};
-ghost use Rattle.dms_device.specs.Objects.{rises};
-ghost use Rattle.dms_device.specs.Setting.{refusal_at, refusal_of, written};
+ghost use Rattle.dms_device.specs.Objects.{has_name, rises};
+ghost use Rattle.dms_device.specs.Setting.{is_named, are_all_named, refusal_at, refusal_of, written};
 ghost use Rattle.dms_device.specs.View.{refusal_in, status_in};
 
 use crate::fault::Refusal;
 use crate::object::Object;
-use crate::places::{place_of, set_object};
+use crate::places::{PLACES, Places, place_of, set_object};
 use dms_sign_access::{Slots, mark_name, was_given};
 use dms_wire::{Bind, Binds, ErrorStatus};
 
@@ -34,6 +35,56 @@ pub(crate) fn judged(objects: &[Object], may_write: bool, binds: &Binds<'_>) -> 
     Ok(())
 }
 
+/// Why a Set is refused, where it is; nothing, where its names are not all those of objects, or it has none. `places`
+/// has where the objects stand, as long as no binding is refused.
+pub(crate) fn judged_own(
+    objects: &[Object],
+    may_write: bool,
+    binds: &Binds<'_>,
+    places: &mut Places,
+) -> Option<Result<(), Refusal>>
+    requires rises { rises objects.now ≡ true }
+    requires few { length binds.now ≤ most_bindings }
+    ensures own { is_some result ≡ are_all_named objects.now binds.now }
+    ensures refusal { IfSome result (λ done. refusal_in done ≡ refusal_of objects.now may_write binds.now) }
+{
+    let mut index = 0;
+    let mut slots: Slots = [0; 16];
+    let mut rest = binds.again();
+    while let Some(binding) = rest.next() {
+        let Ok(place) = place_of(objects, &binding.name) else {
+            return None;
+        };
+        places[index as usize % PLACES] = u32::try_from(place).unwrap_or(0);
+        let checked = judged_there(objects, place, may_write, binds, index, &slots, &binding);
+        index += 1;
+        if let Err(status) = checked {
+            return if are_named(objects, rest) {
+                Some(Err(Refusal { index, status }))
+            } else {
+                None
+            };
+        }
+        mark_name(&mut slots, &binding.name);
+    }
+    if index == 0 { None } else { Some(Ok(())) }
+}
+
+/// Whether each name is that of an object.
+fn are_named(objects: &[Object], binds: Binds<'_>) -> bool
+    requires { rises objects.now ≡ true }
+    ensures { result ≡ list_all (is_named objects.now) binds.entry }
+{
+    let mut rest = binds;
+    while let Some(binding) = rest.next() {
+        match place_of(objects, &binding.name) {
+            Ok(_) => {}
+            Err(_) => return false,
+        }
+    }
+    true
+}
+
 /// The first thing that is wrong with the binding after the first `index` bindings.
 fn judged_at(
     objects: &[Object],
@@ -47,12 +98,31 @@ fn judged_at(
     requires taken { AreTaken slots.now (take index before.now) }
     ensures { status_in result ≡ refusal_at objects.now may_write (take index before.now) (var_bind binding.now) }
 {
+    match place_of(objects, &binding.name) {
+        Ok(place) => judged_there(objects, place, may_write, before, index, slots, binding),
+        Err(_) => Err(ErrorStatus::NoSuchName),
+    }
+}
+
+/// The same, where the object of the binding's name stands at a place.
+fn judged_there(
+    objects: &[Object],
+    place: usize,
+    may_write: bool,
+    before: &Binds<'_>,
+    index: u32,
+    slots: &Slots,
+    binding: &Bind<'_>,
+) -> Result<(), ErrorStatus>
+    requires rises { rises objects.now ≡ true }
+    requires within { place < length objects.now }
+    requires found { HoldsAt (λ object. has_name (var_bind binding.now).name object ≡ true) objects.now place }
+    requires taken { AreTaken slots.now (take index before.now) }
+    ensures { status_in result ≡ refusal_at objects.now may_write (take index before.now) (var_bind binding.now) }
+{
     if !may_write {
         return Err(ErrorStatus::NoSuchName);
     }
-    let Ok(place) = place_of(objects, &binding.name) else {
-        return Err(ErrorStatus::NoSuchName);
-    };
     let access = objects[place].access();
     if !access.is_written() {
         return Err(ErrorStatus::NoSuchName);
@@ -66,14 +136,16 @@ fn judged_at(
     Ok(())
 }
 
-/// Sets each binding's object to its value.
-pub(crate) fn set_objects(objects: &mut Vec<Object>, binds: &Binds<'_>)
+/// Sets each binding's object to its value. The objects may well stand at these places.
+pub(crate) fn set_objects(objects: &mut Vec<Object>, binds: &Binds<'_>, places: &Places)
     requires { rises objects.old.items ≡ true }
     ensures done { objects.new.items ≡ written objects.old.items binds.now }
     ensures rises { rises objects.new.items ≡ true }
 {
+    let mut at = 0;
     let mut rest = binds.again();
     while let Some(binding) = rest.next() {
-        set_object(objects, &binding);
+        set_object(objects, &binding, places[at] as usize);
+        at = (at + 1) % PLACES;
     }
 }
