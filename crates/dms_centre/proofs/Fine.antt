@@ -22,13 +22,17 @@ use Rattle.dms_centre.specs.Resending.{given_up, is_waiting}
 use Rattle.dms_centre_jobs.specs.Requests.{IsWork}
 use Rattle.dms_centre.specs.CodeView.{sent_in, phase_model}
 use Rattle.dms_centre.specs.ByPhase.{is_awaiting, awaits_activation}
-use Rattle.dms_centre.specs.Invariant.{AllBelow, IsState, IsPhase, IsPending}
+use Rattle.dms_centre.proofs.Rising.{rise_if, rise_still}
+use Rattle.dms_centre.specs.Invariant.{AllBelow, Rise, IsState, IsPhase, IsPending}
 use Rattle.dms_centre.specs.Invariant.{NoneWaits, WaitsAsLast, OnlyLastWaits, OneWaits, WaitsWith, HasWaiting}
 
 -- ---- the ledger
 
 pub begins : (next : ℕ) → AllBelow next []
 begins next = λ k d h. absurd (omega arith)
+
+pub begins_rising : (next : ℕ) → Rise 0 next []
+begins_rising next = omega arith
 
 same_number : (b : Bool) (outcome : Outcome) (entry : Entry) → (if b then record entry { outcome = outcome } else entry).number ≡ entry.number
 same_number true outcome entry = refl
@@ -117,7 +121,7 @@ appended_with true number ledger entry none is = (
 appended_with false number ledger entry none is = none
 
 -- a code enters
-entered_waits : (b : Bool) (next number : ℕ) (ledger after : List Entry) (entry : Entry) → NoneWaits ledger → number ≡ next → entry.number ≡ next
+pub entered_waits : (b : Bool) (next number : ℕ) (ledger after : List Entry) (entry : Entry) → NoneWaits ledger → number ≡ next → entry.number ≡ next
     → after ≡ (if b then ledger ++ entry ∷ [] else ledger) → WaitsWith b number after
 entered_waits b next number ledger after entry none number_is entry_is after_is =
     subst (WaitsWith b number) (sym after_is) (appended_with b number ledger entry none (entry_is ∙ sym number_is))
@@ -171,6 +175,7 @@ pub awaiting_again : (state : CentreState) (job : Job) (pending : Pending) (ledg
 awaiting_again state job pending ledger octets m is other work pending_is octets_is ledger_is = record {
   settings = is.settings;
   below = subst (AllBelow (state.next + 1)) (sym ledger_is) (below_if (is_activating job.step) state.next state.ledger _ is.below refl);
+  rise = subst (Rise 0 (state.next + 1)) (sym ledger_is) (rise_if (is_activating job.step) state.next state.ledger _ is.rise refl);
   phase = (work.0, subst IsPending (sym pending_is) (record { some = subst (λ xs. 0 < length xs) (sym octets_is) (canonical_some m); age = omega arith }), work.1);
   waiting = entered_waits (is_activating job.step) state.next pending.number state.ledger ledger _ (none_waits state.phase state.ledger other is.waiting) (ap (λ (p : Pending). p.number) pending_is) refl ledger_is;
 }
@@ -198,6 +203,7 @@ pub decided_again : (state : CentreState) (phase : Phase) (number : ℕ) (outcom
 decided_again state phase number outcome ledger last is is_phase settled one ledger_is = record {
   settings = is.settings;
   below = subst (AllBelow state.next) (sym ledger_is) (decided_below state.next number outcome state.ledger is.below);
+  rise = subst (Rise 0 state.next) (sym ledger_is) (rise_still (λ (entry : Entry). entry.number == number) outcome 0 state.next state.ledger is.rise);
   phase = is_phase;
   waiting = none_has phase ledger (subst NoneWaits (sym ledger_is) (one_decided number outcome state.ledger settled one));
 }
@@ -216,6 +222,7 @@ pub given_up_again : (state : CentreState) (outcome : Outcome) (ledger : List En
 given_up_again state outcome ledger is settled ledger_is = record {
   settings = is.settings;
   below = subst (AllBelow state.next) (sym ledger_is) (given_up_below state.next outcome state.ledger is.below);
+  rise = subst (Rise 0 state.next) (sym ledger_is) (rise_still (λ (entry : Entry). is_waiting entry.outcome) outcome 0 state.next state.ledger is.rise);
   phase = is.phase;
   waiting = none_has state.phase ledger (subst NoneWaits (sym ledger_is) (given_up_none outcome state.ledger settled));
 }
@@ -225,6 +232,7 @@ pub given_up_idle : (state : CentreState) (outcome : Outcome) (ledger : List Ent
 given_up_idle state outcome ledger last is settled ledger_is = record {
   settings = is.settings;
   below = subst (AllBelow state.next) (sym ledger_is) (given_up_below state.next outcome state.ledger is.below);
+  rise = subst (Rise 0 state.next) (sym ledger_is) (rise_still (λ (entry : Entry). is_waiting entry.outcome) outcome 0 state.next state.ledger is.rise);
   phase = tt;
   waiting = subst NoneWaits (sym ledger_is) (given_up_none outcome state.ledger settled);
 }

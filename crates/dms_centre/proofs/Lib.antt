@@ -1,3 +1,5 @@
 pub mod Unheard
 pub mod Entries
+pub mod Rising
 pub mod Fine
+pub mod Restored

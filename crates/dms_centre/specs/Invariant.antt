@@ -1,5 +1,5 @@
 -- What holds of a central system between its calls (this profile).
-use Rattle.std.specs.Prelude.{ℕ, ◌≡◌, ◌<◌, ◌≤◌, Bool, true, false, List, [], ◌∷◌, length, All}
+use Rattle.std.specs.Prelude.{ℕ, ◌+◌, ◌≡◌, ◌<◌, ◌≤◌, Bool, true, false, List, [], ◌∷◌, length, All}
 use Rattle.dms_centre.specs.State.{CentreState, Pending, Phase, Idle, Awaits, Due, Entry}
 use Rattle.dms_centre.specs.Replies.{most_polls}
 use Rattle.dms_centre.specs.Resending.{ticks_to_wait, is_waiting}
@@ -19,6 +19,11 @@ IsPhase (Due job) = IsWork job.work × (job.polls ≤ most_polls)
 -- each entry has a lower number
 abbrev pub AllBelow : ℕ → List Entry → Type 0
 AllBelow next ledger = All (λ entry. entry.number < next) ledger
+
+-- the numbers of entries rise, from least on, and are below next
+abbrev pub Rise : ℕ → ℕ → List Entry → Type 0
+Rise least next [] = least ≤ next
+Rise least next (entry ∷ ledger) = (least ≤ entry.number) × Rise (entry.number + 1) next ledger
 
 -- ---- which entries wait
 
@@ -55,5 +60,6 @@ HasWaiting (Due job) ledger = NoneWaits ledger
 pub record IsState (state : CentreState) : Type 0 where
   pub settings : AreSettings state.settings
   pub below : AllBelow state.next state.ledger
+  pub rise : Rise 0 state.next state.ledger
   pub phase : IsPhase state.phase
   pub waiting : HasWaiting state.phase state.ledger

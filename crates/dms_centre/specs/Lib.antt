@@ -8,8 +8,11 @@ pub mod Inputs
 pub mod Room
 pub mod CodeView
 pub mod Texts
+pub mod Restoring
+pub mod RestoringTexts
 -- What its laws are stated in.
 pub mod History
+-- What holds between its calls.
+pub mod Invariant
 -- What only proofs go through.
 pub mod ByPhase
-pub mod Invariant

@@ -23,7 +23,7 @@ use dms_mib::{Column, Instance, Name, Scalar};
 use dms_wire::{Binds, ErrorStatus, Kind, Message, Out, heard};
 
 /// How many times a row is polled that is being validated.
-const MOST_POLLS: u8 = 10;
+pub(crate) const MOST_POLLS: u8 = 10;
 
 impl Centre {
     /// Takes a datagram, whoever sent it: what does not answer the waiting request changes nothing. What is sent is in

@@ -33,7 +33,7 @@ use std::alloc::Global;
 use std::marker::Model;
 
 /// The last number that a request can have (this profile).
-const LAST_NUMBER: u32 = 2_147_483_647;
+pub(crate) const LAST_NUMBER: u32 = 2_147_483_647;
 
 /// The central system of one sign.
 ///
@@ -41,8 +41,8 @@ const LAST_NUMBER: u32 = 2_147_483_647;
 /// contract sees the state of the definitions, and how many more entries the ledger takes without memory.
 #[derive(Drop)]
 pub struct Centre {
-    community: ArrayVec<u8, MAX_COMMUNITY>,
-    order: Order,
+    pub(crate) community: ArrayVec<u8, MAX_COMMUNITY>,
+    pub(crate) order: Order,
     /// The number that the next request takes.
     pub(crate) next: u32,
     pub(crate) stage: Stage,
@@ -94,7 +94,7 @@ fn copied<const N: usize>(octets: &[u8]) -> ArrayVec<u8, N>
 impl Centre {
     /// A central system with no job, whose first request has the number `first`. Its ledger takes memory from `alloc`
     /// as it grows.
-    #[tactic(auto, using(crate::proofs::Fine::begins))]
+    #[tactic(auto, using(crate::proofs::Fine::begins, crate::proofs::Fine::begins_rising))]
     pub fn new(alloc: Global, settings: Settings<'_>, first: u32) -> Result<Centre, CentreFault>
         ensures made { IfOk result (λ centre. centre.state ≡ start (settings_model settings.entry) first) }
         ensures community { IsOk result ↔ IsTrue (has_community_size settings.entry.community.now) }
@@ -270,7 +270,7 @@ impl Centre {
     }
 
     /// Makes room for one more entry of the ledger.
-    fn make_room(&mut self) -> Result<(), NoMemory>
+    pub(crate) fn make_room(&mut self) -> Result<(), NoMemory>
         ensures made { OnOk result (0 < self.new.spare) }
         ensures none { OnErr result (self.old.spare ≡ 0) }
         ensures state { self.new.state ≡ self.old.state }

@@ -2,11 +2,11 @@
 
 ghost use Rattle.std.specs.Prelude.{◌≡◌, ◌<◌, ◌++◌, ◌∷◌, [], map, true, false};
 ghost use Rattle.indexmap.specs.IndexMap.{spare};
-ghost use Rattle.dms_centre.specs.declared.outcome.Outcome.TheVariants as outcomes;
 ghost use Rattle.dms_centre_jobs.specs.Steps.{is_activating};
 ghost use Rattle.dms_centre.specs.Sending.{entered};
 ghost use Rattle.dms_centre.specs.Replies.{with_outcome};
 ghost use Rattle.dms_centre.specs.Resending.{given_up};
+ghost use Rattle.dms_centre.specs.Restoring.{number_after};
 ghost use Rattle.dms_centre_jobs.specs.CodeView.{job_model};
 ghost use Rattle.dms_centre.specs.CodeView.{ledger_model};
 ghost use Rattle.dms_centre.specs.Invariant.{AllBelow, OnlyLastWaits};
@@ -56,30 +56,41 @@ impl Entry {
     }
 }
 
-/// A code is sent, under the number of its request.
-fn enter(ledger: &mut IndexMap<u32, Entry>, number: u32, code: Activation)
+/// A code enters the ledger, under the number of its request.
+pub(crate) fn enter(
+    ledger: &mut IndexMap<u32, Entry>,
+    number: u32,
+    code: Activation,
+    outcome: Outcome,
+)
     requires room { 0 < spare ledger.old }
     requires below { AllBelow number (ledger_model ledger.old.entries) }
     ensures { ledger_model ledger.new.entries
-        ≡ ledger_model ledger.old.entries ++ record { number = number; code = code; outcome = outcomes.Waiting } ∷ [] }
+        ≡ ledger_model ledger.old.entries ++ record { number = number; code = code; outcome = outcome } ∷ [] }
 {
-    let entry = Entry {
-        code,
-        outcome: Outcome::Waiting,
-    };
-    ledger.insert(number, entry).unwrap();
+    ledger.insert(number, Entry { code, outcome }).unwrap();
+}
+
+/// The least number that a new entry can have: the numbers of entries rise.
+pub(crate) fn number_after(ledger: &IndexMap<u32, Entry>) -> u64
+    ensures { result ≡ number_after (ledger_model ledger.now.entries) }
+{
+    match ledger.last() {
+        Some((number, _)) => u64::from(*number) + 1,
+        None => 0,
+    }
 }
 
 /// The request of a job is sent: where it puts a message up, the code enters the ledger.
 pub(crate) fn enter_job(ledger: &mut IndexMap<u32, Entry>, number: u32, job: &Job)
     requires room { is_activating job.now.step ≡ true → 0 < spare ledger.old }
-    requires below { AllBelow number (ledger_model ledger.old.entries) }
+    requires below { is_activating job.now.step ≡ true → AllBelow number (ledger_model ledger.old.entries) }
     ensures entries { ledger_model ledger.new.entries
         ≡ entered (ledger_model ledger.old.entries) number (job_model job.now) }
     ensures spare { is_activating job.now.step ≡ false → spare ledger.new ≡ spare ledger.old }
 {
     if job.step.is_activating() {
-        enter(ledger, number, job.work.code());
+        enter(ledger, number, job.work.code(), Outcome::Waiting);
     }
 }
 

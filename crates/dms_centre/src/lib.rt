@@ -21,6 +21,7 @@ pub mod ledger;
 pub mod outcome;
 mod pending;
 mod reply;
+mod restoring;
 pub mod settings;
 mod stage;
 
@@ -31,5 +32,6 @@ pub use fault::{CommandFault, NoMemory};
 pub use ledger::Entry;
 pub use outcome::Outcome;
 pub use pending::Pending;
+pub use restoring::{EndFault, EntryFault, JobFault, SavedJob, SavedStage};
 pub use settings::{CentreFault, Settings};
 pub use stage::Phase;

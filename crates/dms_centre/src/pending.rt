@@ -40,13 +40,21 @@ impl Pending {
     pub(crate) fn begin(&mut self, number: u32, octets: &Out)
         ensures { pending_model self.new ≡ record { number = number; octets = octets.now.items; sends = 1; age = 0 } }
     {
+        self.put(number, octets, 1, 0);
+    }
+
+    /// A request went out so many times, the last time so many ticks ago.
+    pub(crate) fn put(&mut self, number: u32, octets: &Out, sends: u8, age: u8)
+        ensures { pending_model self.new
+            ≡ record { number = number; octets = octets.now.items; sends = sends; age = age } }
+    {
         self.number = number;
         self.octets.clear();
         self.octets
             .try_extend_from_slice(octets.as_slice())
             .unwrap();
-        self.sends = 1;
-        self.age = 0;
+        self.sends = sends;
+        self.age = age;
     }
 
     /// Its octets go out again.

@@ -8,7 +8,6 @@ use Rattle.dms_centre_jobs.specs.Commands.{CommandModel}
 use Rattle.dms_centre.specs.Commands.{commanded, refusal_of}
 use Rattle.dms_centre_text.specs.CommandReading.{command_of}
 use Rattle.dms_centre_lines.specs.Calls.{CentreCall, command}
-use Rattle.dms_centre_lines.specs.CallReading.{or_command}
 use Rattle.wisangub_c_values.specs.Ledger.{ledger_entry}
 use Rattle.wisangub_c_values.specs.declared.ledger_values.LedgerEntry.{LedgerEntry}
 use Rattle.wisangub_c.specs.Answers.{done, no_memory, at_fault, busy, numbers_used_up, out_of_range}
@@ -22,9 +21,13 @@ IsPlaced state place = (spare : ℕ) × (place ≡ Some (record { state = state;
 
 -- ---- commands
 
+abbrev pub if_command : Option CommandModel → Option CentreCall
+if_command None = None
+if_command (Some asked) = Some (command asked)
+
 -- the command that a line spells, as in a script
 abbrev pub command_in : CentreState → List ℕ → Option CentreCall
-command_in state line = or_command None (command_of state.settings.order line)
+command_in state line = if_command (command_of state.settings.order line)
 
 -- why a command is not taken
 abbrev pub refusal_answer : CommandFault → ℕ
