@@ -9,7 +9,8 @@ use Rattle.dms_centre_jobs.specs.Job.{SettingsModel}
 use Rattle.dms_centre.specs.Texts.{outcome_text}
 use Rattle.dms_centre.specs.State.{Entry, CentreState}
 use Rattle.dms_centre_state.specs.CentreText.{number_line, last_line, phase_text, ledger_line, ledger_lines, text_of_state}
-use Rattle.dms_centre_state.specs.Reached.{IsEntry, Rise, IsPhaseOf, IsReached}
+use Rattle.dms_centre.specs.Invariant.{Rise}
+use Rattle.dms_centre_state.specs.Reached.{IsEntry, IsPhaseOf, IsReached}
 use Rattle.dms_centre_state.proofs.Tells.{Tells, cancel, other_texts, after_tells, pair_tells, made_tells, number_tells}
 use Rattle.dms_centre_state.proofs.Groupings.{of_entry, of_state}
 use Rattle.dms_centre_state.proofs.Words.{field_tells, code_tells}

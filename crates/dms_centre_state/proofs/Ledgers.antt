@@ -11,13 +11,11 @@ use Rattle.dms_centre.specs.declared.outcome.Outcome.TheVariants.{Waiting}
 use Rattle.dms_centre.specs.State.{Pending, Phase, Idle, Awaits, Due, Entry, CentreState}
 use Rattle.dms_centre.specs.Replies.{with_outcome, decided}
 use Rattle.dms_centre.specs.Resending.{is_waiting, given_up, gives_up}
-use Rattle.dms_centre_state.specs.Reached.{IsEntry, IsOutcome, Rise, is_settled, waiting_entries, IsLedgerOf, IsReached}
+use Rattle.dms_centre.specs.Invariant.{Rise}
+use Rattle.dms_centre.proofs.Rising.{rise_still}
+use Rattle.dms_centre_state.specs.Reached.{IsEntry, IsOutcome, is_settled, waiting_entries, IsLedgerOf, IsReached}
 
 -- ---- one entry
-
-number_stays : (b : Bool) (outcome : Outcome) (entry : Entry) → (if b then record entry { outcome = outcome } else entry).number ≡ entry.number
-number_stays true outcome entry = refl
-number_stays false outcome entry = refl
 
 still_entry : (b : Bool) (outcome : Outcome) (entry : Entry) → IsOutcome outcome → IsEntry entry → IsEntry (if b then record entry { outcome = outcome } else entry)
 still_entry true outcome entry is_outcome is = record { code = is.code; outcome = is_outcome }
@@ -28,19 +26,6 @@ still_settled true outcome entry settled is = settled
 still_settled false outcome entry settled is = is
 
 -- ---- all of them
-
-rise_more : (least next : ℕ) (ledger : List Entry) → Rise least next ledger → Rise least (next + 1) ledger
-rise_more least next [] rise = omega (arith, rise)
-rise_more least next (entry ∷ ledger) rise = (rise.0, rise_more (entry.number + 1) next ledger rise.1)
-
-rise_push : (least next : ℕ) (ledger : List Entry) (entry : Entry) → Rise least next ledger → entry.number ≡ next → Rise least (next + 1) (ledger ++ entry ∷ [])
-rise_push least next [] entry rise is = (omega (arith, rise, is), omega (arith, is))
-rise_push least next (first ∷ ledger) entry rise is = (rise.0, rise_push (first.number + 1) next ledger entry rise.1 is)
-
-pub rise_if : (b : Bool) (next : ℕ) (ledger : List Entry) (entry : Entry) → Rise 0 next ledger → entry.number ≡ next
-    → Rise 0 (next + 1) (if b then ledger ++ entry ∷ [] else ledger)
-rise_if true next ledger entry rise is = rise_push 0 next ledger entry rise is
-rise_if false next ledger entry rise is = rise_more 0 next ledger rise
 
 all_push : {A : Type 0} (P : A → Type 0) (xs : List A) (x : A) → AllByRecursion P xs → P x → AllByRecursion P (xs ++ x ∷ [])
 all_push P [] x all one = (one, tt)
@@ -58,12 +43,6 @@ waits_if false ledger entry = sym (append-nil ledger)
 module _ (test : Entry → Bool) (outcome : Outcome) where
   abbrev settles : Entry → Entry
   settles entry = if test entry then record entry { outcome = outcome } else entry
-
-  rise_still : (least next : ℕ) (ledger : List Entry) → Rise least next ledger → Rise least next (map settles ledger)
-  rise_still least next [] rise = rise
-  rise_still least next (entry ∷ ledger) rise =
-      let same = number_stays (test entry) outcome entry in
-      (omega (arith, rise.0, same), rise_still ((settles entry).number + 1) next ledger (subst (λ n. Rise (n + 1) next ledger) (sym same) rise.1))
 
   entries_still : (ledger : List Entry) → IsOutcome outcome → AllByRecursion IsEntry ledger → AllByRecursion IsEntry (map settles ledger)
   entries_still [] is_outcome all = tt

@@ -30,9 +30,11 @@ use Rattle.dms_centre_jobs.specs.Requests.{AreSettings}
 use Rattle.dms_centre.specs.History.{Input, IsInput, OfCommand, OfDatagram, OfTick, OfRestart, History, made, move_at, after_input, after_inputs}
 use Rattle.dms_centre_jobs.proofs.JobLaws.{is_job}
 use Rattle.dms_centre_jobs.proofs.Requests.{is_code}
-use Rattle.dms_centre_state.specs.Reached.{suits, IsJob, is_sent_by_ticks, IsRequestOf, IsPhaseOf, waiting_entries, IsLedgerOf, IsWhy, IsEnded, IsReached}
+use Rattle.dms_centre.specs.Restoring.{suits, is_sent_by_ticks}
+use Rattle.dms_centre.proofs.Rising.{rise_if}
+use Rattle.dms_centre_state.specs.Reached.{IsJob, IsRequestOf, IsPhaseOf, waiting_entries, IsLedgerOf, IsWhy, IsEnded, IsReached}
 use Rattle.dms_centre_state.proofs.Heard.{AreInRange, IsHeard, heard, number_heard}
-use Rattle.dms_centre_state.proofs.Ledgers.{rise_if, entries_if, waits_if, Settles, settles_rest, settles_decided, settles_given_up}
+use Rattle.dms_centre_state.proofs.Ledgers.{entries_if, waits_if, Settles, settles_rest, settles_decided, settles_given_up}
 
 abbrev Comes : Move → Type 0
 Comes move = IsReached move.state

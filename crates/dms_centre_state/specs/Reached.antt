@@ -4,9 +4,7 @@ use Rattle.std.specs.List.{AllByRecursion}
 use Rattle.dms_wire_ber.specs.Integer.{in_range}
 use Rattle.dms_wire.specs.Canonical.{canonical}
 use Rattle.dms_codes.specs.Codes.{IsActivation}
-use Rattle.dms_centre_jobs.specs.declared.step.Step.{Step}
-use Rattle.dms_centre_jobs.specs.declared.step.Step.TheVariants.{Polling, Activating, Explaining}
-use Rattle.dms_centre_jobs.specs.Job.{SettingsModel, Work, Publishing, Showing, Job}
+use Rattle.dms_centre_jobs.specs.Job.{SettingsModel, Job}
 use Rattle.dms_centre_jobs.specs.Steps.{is_activating, code_of, last_number, request_of}
 use Rattle.dms_centre_jobs.specs.Requests.{AreSettings, IsWork}
 use Rattle.dms_centre.specs.declared.ended.Ended.{Ended}
@@ -18,26 +16,15 @@ use Rattle.dms_centre.specs.declared.outcome.Outcome.TheVariants.{Waiting, Refus
 use Rattle.dms_centre.specs.State.{Pending, Phase, Idle, Awaits, Due, Entry, CentreState}
 use Rattle.dms_centre.specs.Replies.{most_polls}
 use Rattle.dms_centre.specs.Resending.{most_sends, ticks_to_wait, is_waiting}
+use Rattle.dms_centre.specs.Restoring.{suits, is_sent_by_ticks}
+use Rattle.dms_centre.specs.Invariant.{Rise}
 
 -- ---- the job
-
--- A message that the sign has is activated, and its refusal explained; one that is written takes all steps.
-abbrev pub suits : Work → Step → Bool
-suits (Publishing p) step = true
-suits (Showing code) Activating = true
-suits (Showing code) Explaining = true
-suits (Showing code) step = false
 
 pub record IsJob (job : Job) : Type 0 where
   pub work : IsWork job.work
   pub step : suits job.work job.step ≡ true
   pub polls : job.polls < most_polls
-
--- a step whose request a tick sends
-abbrev pub is_sent_by_ticks : Step → Bool
-is_sent_by_ticks Polling = true
-is_sent_by_ticks Activating = true
-is_sent_by_ticks step = false
 
 -- The request that waits is that of its job's step, under the number before the next one.
 pub record IsRequestOf (settings : SettingsModel) (next : ℕ) (job : Job) (pending : Pending) : Type 0 where
@@ -63,11 +50,6 @@ IsOutcome outcome = Unit {0}
 pub record IsEntry (entry : Entry) : Type 0 where
   pub code : IsActivation entry.code
   pub outcome : IsOutcome entry.outcome
-
--- the numbers of entries rise, from least on, and are below next
-abbrev pub Rise : ℕ → ℕ → List Entry → Type 0
-Rise least next [] = least ≤ next
-Rise least next (entry ∷ ledger) = (least ≤ entry.number) × Rise (entry.number + 1) next ledger
 
 abbrev pub is_settled : Entry → Type 0
 is_settled entry = is_waiting entry.outcome ≡ false

@@ -4,6 +4,8 @@
 #[cfg(test)]
 mod cases;
 #[cfg(test)]
+mod restored;
+#[cfg(test)]
 mod saved;
 #[cfg(test)]
 mod scripts;

@@ -1,0 +1,154 @@
+//! A central system in the state that a text says.
+
+ghost use Rattle.std.specs.Prelude.{◌≡◌, ◌+◌, ◌==◌, IfOk, IfErr, OnOk, count_by, not};
+ghost use Rattle.std.specs.Str.{byte};
+ghost use Rattle.dms_codes.specs.Limits.{has_community_size};
+ghost use Rattle.dms_centre.specs.CodeView.{settings_model};
+ghost use Rattle.dms_centre_state.specs.CentreText.{text_of_state};
+ghost use Rattle.dms_centre_state.specs.Reached.{IsReached};
+ghost use Rattle.dms_centre_restored.specs.Restored.{GoesOn, IsRestored, IsLineFaultOf, IsToldOf, is_of_settings};
+
+use crate::job_lines::{JobLines, job_lines};
+use crate::ledger_lines::{put_last, put_ledger, put_with_job};
+use crate::lines::{ended, field, first_lines, last_line};
+use crate::refusal::{Lack, RestoreFault, StateFault, StateField, StateRefusal, Unread};
+use dms_centre::laws::centres_are_kept;
+use dms_centre::{Centre, Settings};
+use dms_centre_state::saved;
+use dms_codes::Order;
+use std::alloc::Global;
+
+/// A central system of the settings that goes on from the state which a text says, or the first thing for which there
+/// is none: with the settings, or the first line that is not as it must be. Its ledger takes memory from `alloc`.
+pub fn restored(alloc: Global, settings: Settings<'_>, text: &[u8]) -> Result<Centre, RestoreFault>
+    ensures ok { IfOk result (λ centre. IsRestored (settings_model settings.entry) text.now centre.state) }
+    ensures community { IfErr result
+        (λ fault. is_of_settings fault ≡ not (has_community_size settings.entry.community.now)) }
+    ensures line { IfErr result (IsLineFaultOf text.now) }
+{
+    let mut centre = match Centre::new(alloc, settings, first_number(text)) {
+        Ok(centre) => centre,
+        Err(fault) => return Err(RestoreFault::Settings(fault)),
+    };
+    centres_are_kept(&centre);
+    match take_up(alloc, &mut centre, text) {
+        Ok(()) => Ok(centre),
+        Err(unread) => Err(RestoreFault::State(refusal_of(text, unread))),
+    }
+}
+
+/// The number that the next request takes, where the text says one.
+fn first_number(text: &[u8]) -> u32 {
+    match first_lines(text) {
+        Ok((number, _)) => number,
+        Err(_) => 0,
+    }
+}
+
+/// Takes up the state that a text says, and compares the text of what was taken up.
+fn take_up(alloc: Global, centre: &mut Centre, text: &[u8]) -> Result<(), Unread>
+    requires { IsReached centre.old.state }
+    ensures reached { OnOk result (GoesOn centre.old.state centre.new.state) }
+    ensures text { OnOk result (text_of_state centre.new.state ≡ text.now) }
+{
+    let (_, rest) = first_lines(text)?;
+    put_lines(alloc, centre, rest)?;
+    compare(alloc, centre, text)
+}
+
+/// Takes up what stands behind the first two lines.
+fn put_lines(alloc: Global, centre: &mut Centre, text: &[u8]) -> Result<(), Unread>
+    requires { IsReached centre.old.state }
+    ensures { OnOk result (GoesOn centre.old.state centre.new.state) }
+{
+    let order = centre.order();
+    let next = centre.next_number();
+    let rest = put_last_line(centre, text)?;
+    let (job, rest) = job_lines(alloc, order, next, rest)?;
+    let rest = put_job_and_ledger(centre, order, job.as_ref(), rest)?;
+    last_line(rest)
+}
+
+fn put_job_and_ledger<'a>(
+    centre: &mut Centre,
+    order: Order,
+    job: Option<&JobLines>,
+    text: &'a [u8],
+) -> Result<&'a [u8], Unread>
+    requires { IsReached centre.old.state }
+    ensures { OnOk result (GoesOn centre.old.state centre.new.state) }
+{
+    match job {
+        Some(job) => put_with_job(centre, order, job, text),
+        None => put_ledger(centre, order, text),
+    }
+}
+
+/// Takes up how the last job ended.
+fn put_last_line<'a>(centre: &mut Centre, text: &'a [u8]) -> Result<&'a [u8], Unread>
+    requires { IsReached centre.old.state }
+    ensures { OnOk result (GoesOn centre.old.state centre.new.state) }
+{
+    let field = field(b"last ", StateField::Last, text)?;
+    let Some(ended) = ended(field.value) else {
+        return Err(Unread::Lacks(field.lack));
+    };
+    put_last(centre, ended, field.lack)?;
+    Ok(field.rest)
+}
+
+/// Compares the text of a central system's state with a text.
+fn compare(alloc: Global, centre: &Centre, text: &[u8]) -> Result<(), Unread>
+    ensures { OnOk result (text_of_state centre.now.state ≡ text.now) }
+{
+    let written = saved(alloc, centre)?;
+    if written.as_slice() == text {
+        Ok(())
+    } else {
+        let same = same_octets(written.as_slice(), text);
+        Err(Unread::Lacks(Lack {
+            wanted: StateField::Spelling,
+            left: text.len().saturating_sub(same),
+        }))
+    }
+}
+
+/// How many octets are the same before the first that differs.
+fn same_octets(one: &[u8], other: &[u8]) -> usize {
+    let most = one.len().min(other.len());
+    for index in 0..most {
+        if one[index] != other[index] {
+            return index;
+        }
+    }
+    most
+}
+
+/// What is told of a text that is not taken up.
+fn refusal_of(text: &[u8], unread: Unread) -> StateRefusal
+    ensures { IsToldOf text.now result }
+{
+    match unread {
+        Unread::Memory => StateRefusal::Memory,
+        Unread::Lacks(lack) => {
+            let place = text.len().saturating_sub(lack.left);
+            StateRefusal::Fault(StateFault {
+                line: line_after(&text[..place]),
+                wanted: lack.wanted,
+            })
+        }
+    }
+}
+
+/// The line after a text that ends with its line.
+fn line_after(text: &[u8]) -> usize
+    ensures { result ≡ count_by (λ octet. octet == byte "\n") text.now + 1 }
+{
+    let mut line = 1;
+    for octet in text {
+        if *octet == b'\n' {
+            line += 1;
+        }
+    }
+    line
+}
