@@ -1,5 +1,5 @@
 -- A sign that was restored of a text has that text.
-use Rattle.std.proofs.Common.{◌≡◌, ℕ, zero, suc, ◌+◌, ◌-◌, ◌≤◌, ◌<◌, ◌==◌, Bool, true, false, cond, List, [], ◌∷◌, ◌++◌, length, set, replicate, slice_get, slice_set, Option, Some, None, Result, Ok, Err, refl, ap, sym, subst, ◌∙◌, arith, append_assoc, append-nil}
+use Rattle.std.proofs.Common.{◌≡◌, ℕ, zero, suc, ◌+◌, ◌-◌, ◌≤◌, ◌<◌, ◌==◌, Bool, true, false, cond, List, [], ◌∷◌, ◌++◌, length, set, replicate, slice_get, slice_set, length-set, Option, Some, None, Result, Ok, Err, refl, ap, sym, subst, ◌∙◌, arith, append_assoc, append-nil}
 use Rattle.std.specs.Prelude.{option_map, option_and_then, unwrap_or, All}
 use Rattle.std.specs.Option.{option_or}
 use Rattle.std.proofs.lemmas.Option.{slice_get_within}
@@ -15,6 +15,7 @@ use Rattle.dms_table.specs.SavedRows.{put_over, place_fault, may_put, value_faul
 use Rattle.dms_sign.specs.State.{ConfigModel, SignState, start}
 use Rattle.dms_sign.specs.Construction.{CanBeMade}
 use Rattle.dms_sign.specs.declared.config.Config.{Config}
+use Rattle.dms_sign.specs.declared.sign.restoring.SignParts.{SignParts}
 use Rattle.dms_sign.specs.Restoring.{with_table, with_parts, parts_fault}
 use Rattle.dms_sign_state.specs.declared.field.Stored.{Stored}
 use Rattle.dms_sign_state.specs.declared.field.Stored.TheVariants.{Changeable, Volatile}
@@ -23,6 +24,7 @@ use Rattle.dms_sign_state.specs.Fields.{UsedRow, PutModel, FieldsModel, AreField
 use Rattle.dms_sign_state.specs.FieldsText.{text_of_fields}
 use Rattle.dms_sign_state.specs.StateText.{used_row, used_rows, put_fields, fields_of, text_of_state}
 use Rattle.dms_sign_restored.specs.Restored.{row_of, shown_of, parts_of, stored_id, and_then, unless_misfit, row_misfit, part_misfit, with_row, with_rows, with_rest, with_fields, made, IsPut, IsRestored}
+use Rattle.dms_sign_restored.specs.Alike.{AreMadeAlike}
 
 -- ---- rows that are not used
 
@@ -90,7 +92,7 @@ unmapped : {A B : Type 0} (f : A → B) (o : Option A) → option_map f o ≡ No
 unmapped f None e = refl
 unmapped f (Some x) e = absurd (cc)
 
-ok_is : (s after : SignState) (r : Result SignState Misfit) → r ≡ Ok s → r ≡ Ok after → s ≡ after
+pub ok_is : (s after : SignState) (r : Result SignState Misfit) → r ≡ Ok s → r ≡ Ok after → s ≡ after
 ok_is s after r one other = cc
 
 unless_ok : (s after : SignState) (o : Option Misfit) → unless_misfit s o ≡ Ok after → (o ≡ None) × (s ≡ after)
@@ -168,6 +170,7 @@ record ArePut (stored : Stored) (used : List UsedRow) (s after : SignState) : Ty
   rows : List RowModel
   is : after ≡ having stored s rows
   used_now : used_rows 1 rows ≡ used_rows 1 (rows_in stored s.table) ++ used
+  count : length rows ≡ length (rows_in stored s.table)
 
 record Both (r : Result SignState Misfit) (next : SignState → Result SignState Misfit) (after : SignState) : Type 0 where
   mid : SignState
@@ -193,7 +196,7 @@ had_again Volatile s rows more = refl
 rows_are_put : (stored : Stored) (line least most : ℕ) (used : List UsedRow) (s after : SignState) → 1 ≤ least → AreUsedRows least most used
     → UnusedFrom (least - 1) (rows_in stored s.table) → with_rows stored line used s ≡ Ok after → ArePut stored used s after
 rows_are_put stored line least most [] s after first are free e =
-    record { rows = rows_in stored s.table; is = sym (ok_is s after (Ok s) refl e) ∙ same_rows stored s; used_now = sym (append-nil (used_rows 1 (rows_in stored s.table))) }
+    record { rows = rows_in stored s.table; is = sym (ok_is s after (Ok s) refl e) ∙ same_rows stored s; used_now = sym (append-nil (used_rows 1 (rows_in stored s.table))); count = refl }
 rows_are_put stored line least most (row ∷ used) s after first are free e =
     let both = both_ok (with_row stored line row s) (with_rows stored (line + 1) used) after e in
     let one = row_is_put stored line row s both.mid both.first in
@@ -212,6 +215,7 @@ rows_are_put stored line least most (row ∷ used) s after first are free e =
           others.used_now ∙ ap (λ rows. used_rows 1 rows ++ used) (rows_had stored s now)
           ∙ ap (λ front. front ++ used) (used_behind 1 (row.number - 1) row.number rows (row_of row) are.0.1.0 one.within (omega (arith, first, are.0.0.0)) from)
           ∙ append_assoc (used_rows 1 rows) (row ∷ []) used;
+      count = others.count ∙ ap length (rows_had stored s now) ∙ length-set rows (row.number - 1) (row_of row);
     }
 
 -- ---- the whole
@@ -264,12 +268,49 @@ fields_again ids f s after are changeable volatile e =
     ∙ put_again order f.shown_at_power_loss (ids order f.shown_at_power_loss.source are.kept.1.0.0 (all_bytes f.shown_at_power_loss.source are.kept.1.0.1)))
     (ap (λ (s : SignState). s.reports) (sym fits.1)) (ap (λ (s : SignState). s.powered) (sym fits.1))
 
+alike_by : (s after mid : SignState) (parts : SignParts) (one other : List RowModel) → mid ≡ having Volatile (having Changeable s one) other → with_parts mid parts ≡ after
+    → length one ≡ length s.table.changeable → length other ≡ length s.table.volatile → AreMadeAlike after s
+alike_by s after mid parts one other by is changeable volatile =
+    let all : with_parts (having Volatile (having Changeable s one) other) parts ≡ after = ap (λ (s : SignState). with_parts s parts) (sym by) ∙ is in
+    subst (λ (after : SignState). AreMadeAlike after s) all
+    (record { config = refl; permanent = refl; changeable = changeable; volatile = volatile; services = refl; order = refl })
+
+-- what is put leaves what a sign is made with
+alike_again : (f : FieldsModel) (s after : SignState) → AreFields f → UnusedFrom 0 s.table.changeable → UnusedFrom 0 s.table.volatile
+    → with_fields f s ≡ Ok after → AreMadeAlike after s
+unfolding with_fields
+alike_again f s after are changeable volatile e =
+    let first = both_ok (with_rows Changeable 2 f.changeable s) _ after e in
+    let second = both_ok (with_rows Volatile (2 + length f.changeable) f.volatile first.mid) (with_rest f) after first.second in
+    let one = rows_are_put Changeable 2 1 64 f.changeable s first.mid (omega arith) are.changeable changeable first.first in
+    let left : UnusedFrom 0 first.mid.table.volatile = subst (λ (s : SignState). UnusedFrom 0 s.table.volatile) (sym one.is) volatile in
+    let other = rows_are_put Volatile (2 + length f.changeable) 1 16 f.volatile first.mid second.mid (omega arith) are.volatile left second.first in
+    let parts = parts_of second.mid.table.order f in
+    let fits = unless_ok (with_parts second.mid parts) after (option_map (part_misfit f) (parts_fault second.mid parts)) second.second in
+    alike_by s after second.mid parts one.rows other.rows (other.is ∙ ap (λ s. having Volatile s other.rows) one.is) fits.1 one.count
+    (other.count ∙ ap (λ (s : SignState). length s.table.volatile) one.is)
+
 text_of_unused : AreOctetsOfIds → (sign : SignState) (text : List ℕ) (s : SignState) → UnusedFrom 0 sign.table.changeable → UnusedFrom 0 sign.table.volatile
     → IsPut sign text s → text_of_state s ≡ text
 unfolding text_of_state
 text_of_unused ids sign text s changeable volatile is =
     ap text_of_fields (fields_again ids is.fields sign s is.said.0 changeable volatile is.taken_up)
     ∙ sym is.said.1
+
+-- what is put in a sign with no row used, by a text
+pub record IsPutBy (fields : FieldsModel) (sign s : SignState) : Type 0 where
+  pub fields_now : fields_of s ≡ fields
+  pub alike : AreMadeAlike s sign
+
+put_by : AreOctetsOfIds → (sign : SignState) (text : List ℕ) (s : SignState) → UnusedFrom 0 sign.table.changeable → UnusedFrom 0 sign.table.volatile
+    → (is : IsPut sign text s) → IsPutBy is.fields sign s
+put_by ids sign text s changeable volatile is = record {
+  fields_now = fields_again ids is.fields sign s is.said.0 changeable volatile is.taken_up;
+  alike = alike_again is.fields sign s is.said.0 changeable volatile is.taken_up;
+}
+
+pub restored_by : AreOctetsOfIds → (config : Config) (text : List ℕ) (s : SignState) → (is : IsRestored config text s) → IsPutBy is.state.fields (made config) s
+restored_by ids config text s is = put_by ids (made config) text s (at_first config.stock.changeable) (at_first config.stock.volatile) is.state
 
 pub text_again : AreOctetsOfIds → (config : Config) (text : List ℕ) (s : SignState) → IsRestored config text s → text_of_state s ≡ text
 text_again ids config text s is = text_of_unused ids (made config) text s (at_first config.stock.changeable) (at_first config.stock.volatile) is.state
@@ -281,3 +322,8 @@ pub text_of_put : AreOctetsOfIds → (config : ConfigModel) (table : TableModel)
     → text_of_state s ≡ text
 text_of_put ids config table text s can is =
     text_of_unused ids (start config table) text s (unused_rows table.changeable can.changeable_unused) (unused_rows table.volatile can.volatile_unused) is
+
+pub put_into : AreOctetsOfIds → (config : ConfigModel) (table : TableModel) (text : List ℕ) (s : SignState) → CanBeMade config table → (is : IsPut (start config table) text s)
+    → IsPutBy is.fields (start config table) s
+put_into ids config table text s can is =
+    put_by ids (start config table) text s (unused_rows table.changeable can.changeable_unused) (unused_rows table.volatile can.volatile_unused) is

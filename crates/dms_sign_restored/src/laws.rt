@@ -6,9 +6,14 @@ ghost use Rattle.dms_sign.specs.declared.config.Config.{Config};
 ghost use Rattle.dms_sign.specs.Construction.{CanBeMade};
 ghost use Rattle.dms_sign.specs.State.{ConfigModel, SignState, start};
 ghost use Rattle.dms_sign_state.specs.StateText.{text_of_state};
-ghost use Rattle.dms_sign_restored.specs.Restored.{IsPut, IsRestored};
+ghost use Rattle.dms_sign_restored.specs.Restored.{made, IsPut, IsRestored};
+ghost use Rattle.dms_sign_restored.specs.Alike.{AreMadeAlike};
 
 use dms_codes::laws::ids_are_their_octets;
+use dms_sign::Sign;
+use dms_sign::laws::signs_are_kept;
+use dms_sign_state::laws::texts_tell_states_apart;
+use dms_table::laws::unused_rows_are_empty;
 
 /// A sign that is restored of a text has this text, and so has one that is put in its state as it was made.
 pub fn restored_signs_have_their_text()
@@ -17,5 +22,34 @@ pub fn restored_signs_have_their_text()
     ensures put { (config : ConfigModel) (table : TableModel) (text : List ℕ) (s : SignState) → CanBeMade config table
         → IsPut (start config table) text s → text_of_state s ≡ text }
 {
+    ids_are_their_octets();
+}
+
+/// A text is the state of one sign at most: two signs that are restored of it by one configuration are one, and so are
+/// two in whose states one sign was put by it.
+pub fn a_text_restores_one_sign()
+    ensures restored { (config : Config) (text : List ℕ) (one other : SignState) → IsRestored config text one
+        → IsRestored config text other → one ≡ other }
+    ensures put { (sign : SignState) (text : List ℕ) (one other : SignState) → IsPut sign text one
+        → IsPut sign text other → one ≡ other }
+{
+    texts_tell_states_apart();
+}
+
+/// What is restored of a saved sign is that sign, whatever came to it before: a sign that is restored of its text, or
+/// put in its state as it was made, by the configuration that the saved one was made with. So every further call
+/// answers the same.
+pub fn a_saved_sign_is_restored_as_itself(saved: &Sign, again: &Sign)
+    ensures restored { (config : Config) → AreMadeAlike (made config) saved.now
+        → IsRestored config (text_of_state saved.now) again.now → again.now ≡ saved.now }
+    ensures put { (config : ConfigModel) (table : TableModel) → CanBeMade config table
+        → AreMadeAlike (start config table) saved.now
+        → IsPut (start config table) (text_of_state saved.now) again.now → again.now ≡ saved.now }
+{
+    signs_are_kept(saved);
+    signs_are_kept(again);
+    unused_rows_are_empty(saved.table());
+    unused_rows_are_empty(again.table());
+    texts_tell_states_apart();
     ids_are_their_octets();
 }
