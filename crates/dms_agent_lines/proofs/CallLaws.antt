@@ -1,9 +1,9 @@
 -- The call of a line is the one that the line spells, and the answer is the one of the call.
-use Rattle.std.proofs.Common.{◌≡◌, ℕ, ◌<◌, List, [], ◌∷◌, ◌++◌, length, Some, None, option_map, refl, sym, ap, subst, ◌∙◌, arith}
+use Rattle.std.proofs.Common.{◌≡◌, ℕ, ◌<◌, List, [], ◌∷◌, ◌++◌, length, Option, Some, None, option_map, refl, sym, ap, subst, ◌∙◌, arith}
 use Rattle.std.specs.Prelude.{codes}
 use Rattle.std.proofs.lemmas.Option.{same_Some, none-some}
 use Rattle.dms_text.specs.Words.{words_of}
-use Rattle.dms_text.specs.Reading.{word_at}
+use Rattle.dms_text.specs.Reading.{word_at, ◌>>=◌}
 use Rattle.dms_text.proofs.WordLaws.{begun, goes_on, word_found, word_only, decimal_found, decimal_only}
 use Rattle.dms_codes.proofs.Options.{mapped_some}
 use Rattle.dms_text_forms.specs.Fields.{SpellsOne}
@@ -16,9 +16,12 @@ use Rattle.dms_agent.specs.declared.agent.Agent.{Agent}
 use Rattle.dms_sign_lines.specs.Answer as sign
 use Rattle.dms_agent_lines.specs.AgentCall.{AgentCall, NewObject, receive, publish, withdraw, show_fonts, tell}
 use Rattle.dms_agent_lines.specs.AgentLine.{SpellsAccess, SpellsObject, SpellsCallWords, SpellsAgentCall, SpellsNoAgentCall}
-use Rattle.dms_agent_lines.specs.AgentReading.{number_access_at, octets_access_at, access_after, written_access_at, access_at, object_at, withdraw_at, keyword_of, call_after, call_of}
-use Rattle.dms_agent_lines.specs.AgentAnswer.{answer_text, after_line, call_text, after_call, text_if, after_if}
+use Rattle.dms_agent_lines.specs.AgentReading.{number_access_at, octets_access_at, access_after, written_access_at, access_at, object_at, withdraw_at, keyword_of, keyword_in, call_after, call_of}
+use Rattle.dms_agent_lines.specs.AgentForm.{cause_after, cause_at, call_cause, bad_line_text}
+use Rattle.dms_agent_lines.specs.AgentAnswer.{answer_text, after_line, call_text, after_call, text_without, after_without, text_if, after_if}
 use Rattle.dms_agent_lines.specs.ObjectFields.{SpellsName}
+use Rattle.dms_agent_lines.specs.declared.cause.CallCause.{CallCause}
+use Rattle.dms_agent_lines.specs.declared.cause.CallCause.TheVariants as causes
 use Rattle.dms_agent_lines.specs.declared.keywords.AgentKeyword.{AgentKeyword}
 use Rattle.dms_agent_lines.specs.declared.keywords.AgentKeyword.TheVariants as key
 use Rattle.dms_agent_lines.proofs.ObjectWordLaws.{name_found, name_only, name_some, integer_found, integer_only}
@@ -40,7 +43,7 @@ keyword_only : (keyword : AgentKeyword) → keyword_of (keyword_text keyword) �
 unfolding keyword_of
 keyword_only keyword = grind arith
 
-keyword_found : (word : List ℕ) (keyword : AgentKeyword) → keyword_of word ≡ Some keyword → word ≡ keyword_text keyword
+pub keyword_found : (word : List ℕ) (keyword : AgentKeyword) → keyword_of word ≡ Some keyword → word ≡ keyword_text keyword
 unfolding keyword_of
 keyword_found word keyword e =
     by_text keyword_text word key.Datagram keyword _ e λ e.
@@ -218,19 +221,57 @@ call_only line tell spelled = line_read key.Objects line [] spelled
 pub one_call : (line : List ℕ) (one other : AgentCall) → SpellsAgentCall one line → SpellsAgentCall other line → one ≡ other
 one_call line one other this that = same_Some _ _ (sym (call_only line one this) ∙ call_only line other that)
 
-none_read : (line : List ℕ) → SpellsNoAgentCall line → call_of line ≡ None
+pub none_read : (line : List ℕ) → SpellsNoAgentCall line → call_of line ≡ None
 none_read line none = nothing_found (call_of line) (λ call e. none call (call_found line call e))
 
 -- ---- answers
 
+-- a line that begins with no word of a call
+not_own : (line : List ℕ) → keyword_in line ≡ None → (call_of line ≡ None) × (call_cause line ≡ Some causes.Keyword)
+unfolding keyword_in call_of
+not_own line e = by_word (word_at (words_of line)) e
+  where
+    by_word : (found : Option (List ℕ × List (List ℕ))) → (found >>= (λ found. keyword_of found.0)) ≡ None
+        → ((found >>= (λ found. keyword_of found.0 >>= (λ keyword. call_after keyword found.1))) ≡ None) × (cause_at found ≡ Some causes.Keyword)
+    by_word None e = (refl, refl)
+    by_word (Some found) e = (ap (λ keyword. keyword >>= (λ keyword. call_after keyword found.1)) e, ap (cause_after found.1) e)
+
+own_text : (a : Agent) (line : List ℕ) (cause : CallCause) → (cause ≡ causes.Keyword → ⊥) → text_without a line cause ≡ bad_line_text cause
+own_text a line causes.Keyword other = absurd (other refl)
+own_text a line causes.Name other = refl
+own_text a line causes.Value other = refl
+own_text a line causes.Access other = refl
+own_text a line (causes.Word fault) other = refl
+
+own_after : (a : Agent) (line : List ℕ) (cause : CallCause) → (cause ≡ causes.Keyword → ⊥) → after_without a line cause ≡ a
+own_after a line causes.Keyword other = absurd (other refl)
+own_after a line causes.Name other = refl
+own_after a line causes.Value other = refl
+own_after a line causes.Access other = refl
+own_after a line (causes.Word fault) other = refl
+
+text_by : (a : Agent) (line : List ℕ) (call : Option AgentCall) → call_of line ≡ call → answer_text a line ≡ text_if a line call (call_cause line)
+text_by a line call is = ap (λ call. text_if a line call (call_cause line)) is
+
+after_by : (a : Agent) (line : List ℕ) (call : Option AgentCall) → call_of line ≡ call → after_line a line ≡ after_if a line call (call_cause line)
+after_by a line call is = ap (λ call. after_if a line call (call_cause line)) is
+
 pub text_of_call : (a : Agent) (line : List ℕ) (call : AgentCall) → SpellsAgentCall call line → answer_text a line ≡ call_text a call
-text_of_call a line call spelled = ap (text_if a line) (call_only line call spelled)
+text_of_call a line call spelled = text_by a line (Some call) (call_only line call spelled)
 
 pub after_the_call : (a : Agent) (line : List ℕ) (call : AgentCall) → SpellsAgentCall call line → after_line a line ≡ after_call a call
-after_the_call a line call spelled = ap (after_if a line) (call_only line call spelled)
+after_the_call a line call spelled = after_by a line (Some call) (call_only line call spelled)
 
-pub text_of_the_sign : (a : Agent) (line : List ℕ) → SpellsNoAgentCall line → answer_text a line ≡ sign.answer_text a.sign line
-text_of_the_sign a line none = ap (text_if a line) (none_read line none)
+pub text_of_the_sign : (a : Agent) (line : List ℕ) → keyword_in line ≡ None → answer_text a line ≡ sign.answer_text a.sign line
+text_of_the_sign a line e = let is = not_own line e in text_by a line None is.0 ∙ ap (text_if a line None) is.1
 
-pub after_the_sign : (a : Agent) (line : List ℕ) → SpellsNoAgentCall line → after_line a line ≡ record a { sign = sign.after_line a.sign line }
-after_the_sign a line none = ap (after_if a line) (none_read line none)
+pub after_the_sign : (a : Agent) (line : List ℕ) → keyword_in line ≡ None → after_line a line ≡ record a { sign = sign.after_line a.sign line }
+after_the_sign a line e = let is = not_own line e in after_by a line None is.0 ∙ ap (after_if a line None) is.1
+
+pub text_of_bad_line : (a : Agent) (line : List ℕ) (cause : CallCause) → SpellsNoAgentCall line → call_cause line ≡ Some cause → (cause ≡ causes.Keyword → ⊥)
+    → answer_text a line ≡ bad_line_text cause
+text_of_bad_line a line cause none is other = text_by a line None (none_read line none) ∙ ap (text_if a line None) is ∙ own_text a line cause other
+
+pub after_bad_line : (a : Agent) (line : List ℕ) (cause : CallCause) → SpellsNoAgentCall line → call_cause line ≡ Some cause → (cause ≡ causes.Keyword → ⊥)
+    → after_line a line ≡ a
+after_bad_line a line cause none is other = after_by a line None (none_read line none) ∙ ap (after_if a line None) is ∙ own_after a line cause other

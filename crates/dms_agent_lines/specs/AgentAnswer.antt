@@ -13,11 +13,14 @@ use Rattle.dms_agent.specs.declared.agent.Agent.{Agent}
 use Rattle.dms_agent.specs.Values.{own_value, is_bare, showing_fonts}
 use Rattle.dms_agent.specs.Received.{AgentReceived, agent_received}
 use Rattle.dms_text_forms.specs.LineText.{ended}
-use Rattle.dms_text_streams.specs.Conversation.{ok_line}
+use Rattle.dms_text_streams.specs.Conversation.{bad_line, ok_line}
 use Rattle.dms_text_values.specs.ValueText.{value_text}
 use Rattle.dms_sign_lines.specs.Answer as sign
 use Rattle.dms_agent_lines.specs.AgentCall.{AgentCall, NewObject, receive, publish, withdraw, show_fonts, tell}
+use Rattle.dms_agent_lines.specs.AgentForm.{call_cause, bad_line_text}
 use Rattle.dms_agent_lines.specs.AgentReading.{call_of}
+use Rattle.dms_agent_lines.specs.declared.cause.CallCause.{CallCause}
+use Rattle.dms_agent_lines.specs.declared.cause.CallCause.TheVariants as causes
 
 -- ---- parts of answers
 
@@ -94,20 +97,34 @@ after_call a (withdraw name) = after_withdraw a name
 after_call a show_fonts = showing_fonts a
 after_call a tell = record a { device = map told a.device }
 
+-- ---- lines that are no call
+
+-- one that begins with none of these words is the sign's; of another it is told why it is no call
+abbrev pub text_without : Agent → List ℕ → CallCause → List ℕ
+text_without a line causes.Keyword = sign.answer_text a.sign line
+text_without a line cause = bad_line_text cause
+
+abbrev pub after_without : Agent → List ℕ → CallCause → Agent
+after_without a line causes.Keyword = record a { sign = sign.after_line a.sign line }
+after_without a line cause = a
+
 -- ---- lines
 
-abbrev pub text_if : Agent → List ℕ → Option AgentCall → List ℕ
-text_if a line None = sign.answer_text a.sign line
-text_if a line (Some call) = call_text a call
+-- a line is a call, or has a cause (`each_line_is_a_call_or_has_a_cause`): the last case never comes
+abbrev pub text_if : Agent → List ℕ → Option AgentCall → Option CallCause → List ℕ
+text_if a line (Some call) cause = call_text a call
+text_if a line None (Some cause) = text_without a line cause
+text_if a line None None = bad_line
 
-abbrev pub after_if : Agent → List ℕ → Option AgentCall → Agent
-after_if a line None = record a { sign = sign.after_line a.sign line }
-after_if a line (Some call) = after_call a call
+abbrev pub after_if : Agent → List ℕ → Option AgentCall → Option CallCause → Agent
+after_if a line (Some call) cause = after_call a call
+after_if a line None (Some cause) = after_without a line cause
+after_if a line None None = a
 
--- the answer to a line; one that is none of these is the sign's
+-- the answer to a line
 abbrev pub answer_text : Agent → List ℕ → List ℕ
-answer_text a line = text_if a line (call_of line)
+answer_text a line = text_if a line (call_of line) (call_cause line)
 
 -- the sign and the objects after a line
 abbrev pub after_line : Agent → List ℕ → Agent
-after_line a line = after_if a line (call_of line)
+after_line a line = after_if a line (call_of line) (call_cause line)

@@ -70,6 +70,12 @@ keyword_of word =
     else if same_octets word (codes "objects") then Some key.Objects
     else None
 
+-- the keyword of a line
+unfoldable pub keyword_in : List ℕ → Option AgentKeyword
+keyword_in line = do
+  found ← word_at (words_of line)
+  keyword_of found.0
+
 -- what stands after a keyword
 abbrev pub call_after : AgentKeyword → List (List ℕ) → Option AgentCall
 call_after key.Datagram words = option_map receive (last_octets_at words)

@@ -1,12 +1,13 @@
 -- Lines that concern the sign alone (this profile).
 use Rattle.std.specs.Prelude.{Option, Some, None, ⊤}
-use Rattle.dms_agent_lines.specs.AgentCall.{AgentCall, receive, publish, withdraw, show_fonts, tell}
+use Rattle.dms_agent_lines.specs.declared.keywords.AgentKeyword.{AgentKeyword}
+use Rattle.dms_agent_lines.specs.declared.keywords.AgentKeyword.TheVariants as key
 
--- the line neither publishes nor withdraws, nor lets fonts be read, nor asks what was set
-abbrev pub IsOfSign : Option AgentCall → Type 0
+-- the word with which a line begins neither publishes nor withdraws, nor lets fonts be read, nor asks what was set
+abbrev pub IsOfSign : Option AgentKeyword → Type 0
 IsOfSign None = ⊤
-IsOfSign (Some (receive octets)) = ⊤
-IsOfSign (Some (publish object)) = ⊥
-IsOfSign (Some (withdraw name)) = ⊥
-IsOfSign (Some show_fonts) = ⊥
-IsOfSign (Some tell) = ⊥
+IsOfSign (Some key.Datagram) = ⊤
+IsOfSign (Some key.Object) = ⊥
+IsOfSign (Some key.NoObject) = ⊥
+IsOfSign (Some key.Fonts) = ⊥
+IsOfSign (Some key.Objects) = ⊥

@@ -3,6 +3,7 @@ pub mod AgentCall
 pub mod ObjectFields
 pub mod ValueLine
 pub mod AgentLine
+pub mod AgentForm
 pub mod AgentAnswer
 pub mod Alone
 -- reading from the beginning, which the calls say of themselves; `answers_are_those_of_calls` joins it to the lines

@@ -12,11 +12,13 @@ ghost use Rattle.dms_agent.specs.Received.{agent_received};
 ghost use Rattle.dms_text_streams.specs.Conversation.{ok_line};
 ghost use Rattle.dms_text_values.specs.ValueText.{value_text};
 ghost use Rattle.dms_agent_lines.specs.CallView.{call_model};
+ghost use Rattle.dms_agent_lines.specs.AgentForm.{bad_line_text};
 ghost use Rattle.dms_agent_lines.specs.AgentAnswer.{answer_text, after_line, call_text, after_call, received_text};
 ghost use Rattle.dms_agent_lines.specs.AgentAnswer.{publish_text, after_publish, withdraw_text, after_withdraw};
 ghost use Rattle.dms_agent_lines.specs.AgentAnswer.{fonts_text, refused, set_line, set_lines};
 
 use crate::agent_call::{AgentCall, ObjectWords};
+use crate::cause::CallCause;
 use crate::reading::call;
 use dms_agent::{Agent, PublishFault};
 use dms_device::{Access, Device, Object, ObjectFault};
@@ -39,16 +41,29 @@ use std::io::Write;
 /// objects                    firmware is told which objects a manager set: a line `set NAME VALUE` for each, and `ok`
 /// ```
 ///
-/// Any other line is the sign's (`dms_sign_lines::answer`), and so is one of these words in no such form. Out of memory
-/// nothing changes.
+/// A line that begins with none of these words is the sign's (`dms_sign_lines::answer`). One that does, and has no such
+/// form, is answered `bad line` and why, as `bad line word 3: a value is wanted, as INTEGER 7`, and changes nothing.
+/// Out of memory nothing changes either.
 pub fn answer(alloc: Global, agent: &mut Agent, line: &[u8]) -> Result<Vec<u8>, AllocError>
     ensures text { IfOk result (λ text. text.items ≡ answer_text agent.old line.now) }
     ensures after { OnOk result (agent.new ≡ after_line agent.old line.now) }
     ensures memory { OnErr result (agent.new ≡ agent.old) }
 {
     match call(alloc, line)? {
-        Some(call) => carry_out(alloc, agent, &call),
-        None => dms_sign_lines::answer(alloc, agent.sign_mut(), line),
+        Ok(call) => carry_out(alloc, agent, &call),
+        Err(CallCause::Keyword) => dms_sign_lines::answer(alloc, agent.sign_mut(), line),
+        Err(cause) => bad_line(alloc, cause),
+    }
+}
+
+/// The line that says why a line is no call.
+fn bad_line(alloc: Global, cause: CallCause) -> Result<Vec<u8>, AllocError>
+    ensures { IfOk result (λ text. text.items ≡ bad_line_text cause) }
+{
+    let mut text = Vec::new(alloc);
+    match writeln!(text, "bad line {cause}") {
+        Ok(()) => Ok(text),
+        Err(_) => Err(AllocError),
     }
 }
 

@@ -1,15 +1,18 @@
 //! Laws on the lines to a sign and the objects beside it, each the contract of a function that does nothing.
 
-ghost use Rattle.std.specs.Prelude.{◌≡◌, ℕ, List};
+ghost use Rattle.std.specs.Prelude.{◌≡◌, ℕ, List, IsSome, Some, None};
 ghost use Rattle.dms_sign.specs.State.{SignState};
 ghost use Rattle.dms_agent.specs.declared.agent.Agent.{Agent};
 ghost use Rattle.dms_agent.specs.Promises.{alone};
 ghost use Rattle.dms_sign_lines.specs.Answer as sign;
 ghost use Rattle.dms_agent_lines.specs.AgentCall.{AgentCall};
 ghost use Rattle.dms_agent_lines.specs.AgentLine.{SpellsAgentCall, SpellsNoAgentCall};
-ghost use Rattle.dms_agent_lines.specs.AgentReading.{call_of};
+ghost use Rattle.dms_agent_lines.specs.AgentForm.{call_cause, bad_line_text};
+ghost use Rattle.dms_agent_lines.specs.AgentReading.{keyword_in};
 ghost use Rattle.dms_agent_lines.specs.AgentAnswer.{answer_text, after_line, call_text, after_call};
 ghost use Rattle.dms_agent_lines.specs.Alone.{IsOfSign};
+ghost use Rattle.dms_agent_lines.specs.declared.cause.CallCause.{CallCause};
+ghost use Rattle.dms_agent_lines.specs.declared.cause.CallCause.TheVariants.{Keyword};
 
 /// A line spells at most one call.
 #[tactic(auto, using(crate::proofs::CallLaws::one_call))]
@@ -18,25 +21,35 @@ pub fn a_line_spells_at_most_one_call()
         → call ≡ other }
 {}
 
-/// The answer to a line, and what it leaves, are those of the call that the line spells; a line that spells none is the
-/// sign's.
+/// A line that spells no call has a cause, and one that spells a call has none.
+pub fn each_line_is_a_call_or_has_a_cause()
+    ensures cause { (line : List ℕ) → SpellsNoAgentCall line → IsSome (call_cause line) }
+    ensures call { (line : List ℕ) (call : AgentCall) → SpellsAgentCall call line → call_cause line ≡ None }
+{}
+
+/// The answer to a line, and what it leaves, are those of the call that the line spells. A line that begins with no
+/// word of a call is the sign's; another one that spells none is a bad line, is told why, and changes nothing.
 pub fn answers_are_those_of_calls()
     ensures text { (a : Agent) (line : List ℕ) (call : AgentCall) → SpellsAgentCall call line
         → answer_text a line ≡ call_text a call }
     ensures after { (a : Agent) (line : List ℕ) (call : AgentCall) → SpellsAgentCall call line
         → after_line a line ≡ after_call a call }
-    ensures of_the_sign { (a : Agent) (line : List ℕ) → SpellsNoAgentCall line
+    ensures of_the_sign { (a : Agent) (line : List ℕ) → keyword_in line ≡ None
         → answer_text a line ≡ sign.answer_text a.sign line }
-    ensures beside { (a : Agent) (line : List ℕ) → SpellsNoAgentCall line
+    ensures beside { (a : Agent) (line : List ℕ) → keyword_in line ≡ None
         → after_line a line ≡ record a { sign = sign.after_line a.sign line } }
+    ensures bad_line { (a : Agent) (line : List ℕ) (cause : CallCause) → SpellsNoAgentCall line
+        → call_cause line ≡ Some cause → (cause ≡ Keyword → ⊥) → answer_text a line ≡ bad_line_text cause }
+    ensures unchanged { (a : Agent) (line : List ℕ) (cause : CallCause) → SpellsNoAgentCall line
+        → call_cause line ≡ Some cause → (cause ≡ Keyword → ⊥) → after_line a line ≡ a }
 {}
 
-/// Where nothing is published and fonts cannot be read, the answer to a line that neither publishes nor withdraws, nor
-/// lets fonts be read, nor asks what was set is the sign's, octet for octet, and what is left is the sign that its own
-/// line leaves.
+/// Where nothing is published and fonts cannot be read, the answer to a line of which the first word neither publishes
+/// nor withdraws, nor lets fonts be read, nor asks what was set is the sign's, octet for octet, also where the line is
+/// a bad one, and what is left is the sign that its own line leaves.
 pub fn alone_it_is_the_sign()
-    ensures text { (s : SignState) (line : List ℕ) → IsOfSign (call_of line)
+    ensures text { (s : SignState) (line : List ℕ) → IsOfSign (keyword_in line)
         → answer_text (alone s) line ≡ sign.answer_text s line }
-    ensures after { (s : SignState) (line : List ℕ) → IsOfSign (call_of line)
+    ensures after { (s : SignState) (line : List ℕ) → IsOfSign (keyword_in line)
         → after_line (alone s) line ≡ alone (sign.after_line s line) }
 {}

@@ -12,6 +12,7 @@
 
 mod agent_call;
 mod answering;
+mod cause;
 mod keywords;
 pub mod laws;
 mod live;

@@ -1,60 +1,94 @@
 //! The call that a line spells.
 
-ghost use Rattle.std.specs.Prelude.{◌≡◌, IfOk, OnErr, IsSome, option_map};
+ghost use Rattle.std.specs.Prelude.{◌≡◌, [], true, false, IfOk, IfErr, OnErr, IsSome, option_map};
+ghost use Rattle.std.specs.Result.{result_ok, result_err};
+ghost use Rattle.dms_text.specs.Reading.{word_at, is_end};
+ghost use Rattle.dms_text_forms.specs.FieldsReading.{last_octets_at};
+ghost use Rattle.dms_text_forms.specs.Form.{fault_from};
+ghost use Rattle.dms_agent_lines.specs.AgentCall.{receive};
+ghost use Rattle.dms_agent_lines.specs.AgentForm.{object_cause, withdraw_cause, words_cause, call_cause};
 ghost use Rattle.dms_agent_lines.specs.AgentReading.{call_of, access_at, written_access_at};
 ghost use Rattle.dms_agent_lines.specs.AgentReading.{number_access_at, octets_access_at};
 ghost use Rattle.dms_agent_lines.specs.AgentReading.{object_at, withdraw_at};
 ghost use Rattle.dms_agent_lines.specs.CallView.{call_model};
+ghost use Rattle.dms_agent_lines.specs.declared.cause.CallCause.TheVariants.{Word};
+ghost use Rattle.dms_agent_lines.specs.declared.keywords.AgentKeyword.TheVariants.{Datagram};
 
 use crate::agent_call::{AgentCall, ObjectWords};
+use crate::cause::CallCause;
 use crate::keywords::AgentKeyword;
 use dms_device::Access;
 use dms_text::{Words, are_same};
-use dms_text_forms::fields::{last_octets, two_octets};
-use dms_text_streams::alone;
+use dms_text_forms::fields::two_octets;
+use dms_text_forms::{LineWords, WordName};
 use dms_text_values::{NameRead, integer, name, value};
 use std::alloc::{AllocError, Global};
 
-/// The call that a line spells, or none. Memory is asked for by a datagram alone, and not where its line is at fault.
+/// The call that a line spells, or why it spells none. Memory is asked for by a datagram alone, and not where its line
+/// is at fault.
 #[tactic(auto, unfolding(crate::specs::AgentReading::call_of))]
-pub(crate) fn call(alloc: Global, line: &[u8]) -> Result<Option<AgentCall<'_>>, AllocError>
-    ensures read { IfOk result (λ found. option_map call_model found ≡ call_of line.now) }
+pub(crate) fn call(
+    alloc: Global,
+    line: &[u8],
+) -> Result<Result<AgentCall<'_>, CallCause>, AllocError>
+    ensures read { IfOk result (λ read. option_map call_model (result_ok read) ≡ call_of line.now) }
+    ensures cause { IfOk result (λ read. result_err read ≡ call_cause line.now) }
     ensures spelled { OnErr result (IsSome (call_of line.now)) }
 {
     let Some((word, words)) = Words::of(line).next_word() else {
-        return Ok(None);
+        return Ok(Err(CallCause::Keyword));
     };
     let Some(keyword) = AgentKeyword::of(word) else {
-        return Ok(None);
+        return Ok(Err(CallCause::Keyword));
     };
     match keyword {
-        AgentKeyword::Datagram => match last_octets(alloc, words)? {
-            Some(octets) => Ok(Some(AgentCall::Receive(octets))),
-            None => Ok(None),
-        },
+        AgentKeyword::Datagram => datagram(alloc, words),
         AgentKeyword::Object => match object(words) {
-            Some(object) => Ok(Some(AgentCall::Publish(object))),
-            None => Ok(None),
+            Ok(object) => Ok(Ok(AgentCall::Publish(object))),
+            Err(cause) => Ok(Err(cause)),
         },
         AgentKeyword::NoObject => match withdrawn(words) {
-            Some(name) => Ok(Some(AgentCall::Withdraw(name))),
-            None => Ok(None),
+            Ok(name) => Ok(Ok(AgentCall::Withdraw(name))),
+            Err(cause) => Ok(Err(cause)),
         },
-        AgentKeyword::Fonts => Ok(alone(words, AgentCall::ShowFonts)),
-        AgentKeyword::Objects => Ok(alone(words, AgentCall::Tell)),
+        AgentKeyword::Fonts => match end(2, words) {
+            Ok(()) => Ok(Ok(AgentCall::ShowFonts)),
+            Err(cause) => Ok(Err(cause)),
+        },
+        AgentKeyword::Objects => match end(2, words) {
+            Ok(()) => Ok(Ok(AgentCall::Tell)),
+            Err(cause) => Ok(Err(cause)),
+        },
     }
 }
 
-/// An object: its name, its value and its access.
-#[tactic(auto, unfolding(crate::specs::AgentReading::object_at))]
-fn object(words: Words<'_>) -> Option<ObjectWords<'_>>
-    ensures { result ≡ object_at words.entry }
+/// The octets of a datagram, and nothing after them.
+fn datagram(alloc: Global, words: Words<'_>) -> Result<Result<AgentCall<'_>, CallCause>, AllocError>
+    ensures read { IfOk result (λ read. option_map call_model (result_ok read)
+        ≡ option_map receive (last_octets_at words.entry)) }
+    ensures cause { IfOk result (λ read. result_err read ≡ words_cause Datagram words.entry) }
+    ensures spelled { OnErr result (IsSome (last_octets_at words.entry)) }
 {
-    let (word, words) = words.next_word()?;
-    let name = name(word)?;
-    let (value, words) = value(words)?;
-    let access = access(words)?;
-    Some(ObjectWords {
+    let words = LineWords { place: 2, words };
+    match words.last_octets(alloc, WordName::Datagram)? {
+        Ok(octets) => Ok(Ok(AgentCall::Receive(octets))),
+        Err(fault) => Ok(Err(CallCause::Word(fault))),
+    }
+}
+
+/// An object: its name, its value and its access, or the first of these that is not there.
+#[tactic(auto, unfolding(crate::specs::AgentReading::object_at))]
+fn object(words: Words<'_>) -> Result<ObjectWords<'_>, CallCause>
+    ensures read { result_ok result ≡ object_at words.entry }
+    ensures cause { result_err result ≡ object_cause (word_at words.entry) }
+{
+    let (word, words) = words.next_word().ok_or(CallCause::Name)?;
+    let name = name(word).ok_or(CallCause::Name)?;
+    let Some((value, words)) = value(words) else {
+        return Err(CallCause::Value);
+    };
+    let access = access(words).ok_or(CallCause::Access)?;
+    Ok(ObjectWords {
         name,
         value,
         access,
@@ -63,12 +97,26 @@ fn object(words: Words<'_>) -> Option<ObjectWords<'_>>
 
 /// A name, and nothing after it.
 #[tactic(auto, unfolding(crate::specs::AgentReading::withdraw_at))]
-fn withdrawn(words: Words<'_>) -> Option<NameRead>
-    ensures { result ≡ withdraw_at words.entry }
+fn withdrawn(words: Words<'_>) -> Result<NameRead, CallCause>
+    ensures read { result_ok result ≡ withdraw_at words.entry }
+    ensures cause { result_err result ≡ withdraw_cause (word_at words.entry) }
 {
-    let (word, rest) = words.next_word()?;
-    let name = name(word)?;
-    if rest.is_empty() { Some(name) } else { None }
+    let (word, words) = words.next_word().ok_or(CallCause::Name)?;
+    let name = name(word).ok_or(CallCause::Name)?;
+    end(3, words)?;
+    Ok(name)
+}
+
+/// No words are left; the first that is would stand in this place.
+fn end(place: usize, words: Words<'_>) -> Result<(), CallCause>
+    ensures ended { IfOk result (λ _. is_end words.entry ≡ true) }
+    ensures more { IfErr result (λ _. is_end words.entry ≡ false) }
+    ensures cause { result_err result ≡ option_map Word (fault_from place [] words.entry) }
+{
+    match (LineWords { place, words }).end() {
+        Ok(()) => Ok(()),
+        Err(fault) => Err(CallCause::Word(fault)),
+    }
 }
 
 /// What a manager may write, to the end of the line.

@@ -94,7 +94,7 @@ fn objects_are_refused(rt: HostRuntime) -> Result<(), Fail> {
 /// Fonts stand before objects.
 static FONTS: [(&str, &str); 9] = [
     ("fonts", "ok\n"),
-    ("fonts 1", "bad line\n"),
+    ("fonts 1", "bad line word 2: no more words are wanted\n"),
     (
         "object 1.3.6.1.4.1.1206.4.2.3.3.1.0 INTEGER 9",
         "refused the sign has an object of this name\n",
@@ -114,16 +114,50 @@ fn fonts_stand_before_objects(rt: HostRuntime) -> Result<(), Fail> {
     Ok(())
 }
 
-/// Lines that are none.
-static BAD: [(&str, &str); 8] = [
-    ("object 1.3", "bad line\n"),
-    ("object 1.3 INTEGER 7 number 0", "bad line\n"),
-    ("object 1.3 INTEGER 7 numbers 0 1", "bad line\n"),
-    ("object 1.40 NULL", "bad line\n"),
-    ("object 1.3 OCTET STRING - octets 0 65536", "bad line\n"),
-    ("no-object 1.3 ", "bad line\n"),
-    ("objects ", "bad line\n"),
-    ("datagram 0", "bad line\n"),
+const NO_NAME: &str = "bad line word 2: the name of an object is wanted, as 1.3.6.1\n";
+
+const NO_VALUE: &str = "bad line word 3: a value is wanted, as INTEGER 7\n";
+
+const NO_ACCESS: &str =
+    "bad line after the value an access is wanted, as number 0 7, or the end of the line\n";
+
+/// Lines that are none, and why.
+static BAD: [(&str, &str); 17] = [
+    ("object", NO_NAME),
+    ("object 1.40 NULL", NO_NAME),
+    ("object  1.3 NULL", NO_NAME),
+    ("object 1.3", NO_VALUE),
+    ("object 1.3 Integer 7", NO_VALUE),
+    ("object 1.3 INTEGER 7 ", NO_ACCESS),
+    ("object 1.3 INTEGER 7 number 0", NO_ACCESS),
+    ("object 1.3 INTEGER 7 numbers 0 1", NO_ACCESS),
+    ("object 1.3 OCTET STRING - octets 0 65536", NO_ACCESS),
+    ("no-object", NO_NAME),
+    ("no-object 3.1", NO_NAME),
+    (
+        "no-object 1.3 ",
+        "bad line word 3: two spaces, or a space at an end of the line\n",
+    ),
+    (
+        "no-object 1.3 1",
+        "bad line word 3: no more words are wanted\n",
+    ),
+    (
+        "objects ",
+        "bad line word 2: two spaces, or a space at an end of the line\n",
+    ),
+    (
+        "datagram 0",
+        "bad line word 2: a datagram in hexadecimal is wanted\n",
+    ),
+    (
+        "ticks",
+        "bad line word 2: the line ends where a number from 0 to 4294967295 is wanted\n",
+    ),
+    (
+        "Object 1.3 NULL",
+        "bad line no call begins with this word\n",
+    ),
 ];
 
 #[test]

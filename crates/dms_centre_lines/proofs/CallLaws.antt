@@ -1,98 +1,113 @@
 -- The call that is read of a line is the one that the line spells.
-use Rattle.std.proofs.Common.{◌≡◌, ℕ, List, ◌∷◌, Option, Some, None, option_map, refl, sym, ap, subst, ◌∙◌, []}
+use Rattle.std.proofs.Common.{◌≡◌, ℕ, ◌<◌, List, [], ◌∷◌, length, Option, Some, None, option_map, refl, sym, ap, subst, ◌∙◌, arith}
 use Rattle.std.specs.Prelude.{codes}
 use Rattle.std.proofs.lemmas.Option.{same_Some, none-some}
 use Rattle.dms_text.specs.Words.{words_of}
-use Rattle.dms_text.specs.Octets.{SpellsOctets}
 use Rattle.dms_text.specs.Reading.{word_at, keyword_at}
-use Rattle.dms_text.proofs.WordLaws.{begun, word_found, keyword_found}
+use Rattle.dms_text.proofs.WordLaws.{begun, goes_on, word_found, word_only, keyword_found}
 use Rattle.dms_codes.specs.declared.codes.Order.{Order}
 use Rattle.dms_codes.proofs.Options.{mapped_some}
-use Rattle.dms_centre_jobs.specs.Commands.{CommandModel, Publish, Blank, Activate}
-use Rattle.dms_text_forms.specs.Fields.{SpellsOne}
-use Rattle.dms_text_forms.specs.FieldsReading.{last_octets_at}
-use Rattle.dms_text_forms.proofs.WordReading.{by_keyword, last_found}
+use Rattle.dms_text_forms.proofs.WordReading.{by_text, last_found}
 use Rattle.dms_text_forms.proofs.FieldLaws.{last_octets_found, last_octets_only}
-use Rattle.dms_centre_text.specs.CommandLine.{SpellsCommand}
-use Rattle.dms_centre_text.specs.CommandReading.{command_of}
-use Rattle.dms_centre_text.proofs.CommandLaws.{command_found, command_only}
+use Rattle.dms_centre_text.specs.CommandReading.{command_word}
+use Rattle.dms_centre_text.specs.declared.command_word.CommandWord.{CommandWord}
+use Rattle.dms_centre_text.proofs.CommandLaws.{command_text, command_some, command_word_found, command_after_found, is_read}
 use Rattle.dms_text_streams.proofs.CallReading.{bare_found, nothing_found}
 use Rattle.dms_centre_lines.specs.Calls.{CentreCall, command, datagram, tick, restart, status, status_last, save}
-use Rattle.dms_centre_lines.specs.CallReading.{last_alone_at, status_after, call_after, plain_call_at, or_command, call_of}
+use Rattle.dms_centre_lines.specs.CallReading.{own_keyword, if_command, keyword_of, last_alone_at, status_after, call_after, call_of}
 use Rattle.dms_centre_lines.specs.SpelledCalls.{SpellsCallWords, SpellsCentreCall, SpellsNoCall}
+use Rattle.dms_centre_lines.specs.declared.keyword.CentreKeyword.{CentreKeyword}
+use Rattle.dms_centre_lines.specs.declared.keyword.CentreKeyword.TheVariants as key
+
+-- ---- keywords
+
+abbrev keyword_text : CentreKeyword → List ℕ
+keyword_text (key.Command asked) = command_text asked
+keyword_text key.Datagram = codes "datagram"
+keyword_text key.Tick = codes "tick"
+keyword_text key.Restart = codes "restart"
+keyword_text key.Status = codes "status"
+keyword_text key.Save = codes "save"
+
+keyword_some : (keyword : CentreKeyword) → 0 < length (keyword_text keyword)
+keyword_some (key.Command asked) = command_some asked
+keyword_some _ = omega arith
+
+keyword_only : (keyword : CentreKeyword) → keyword_of (keyword_text keyword) ≡ Some keyword
+unfolding keyword_of command_word
+keyword_only keyword = grind arith
+
+own_found : (word : List ℕ) (keyword : CentreKeyword) → own_keyword word ≡ Some keyword → word ≡ keyword_text keyword
+own_found word keyword e =
+    by_text keyword_text word key.Datagram keyword _ e λ e.
+    by_text keyword_text word key.Tick keyword _ e λ e.
+    by_text keyword_text word key.Restart keyword _ e λ e.
+    by_text keyword_text word key.Status keyword _ e λ e.
+    by_text keyword_text word key.Save keyword _ e λ e.
+    absurd (none-some keyword e)
+
+word_is_keyword : (word : List ℕ) (keyword : CentreKeyword) → keyword_of word ≡ Some keyword → word ≡ keyword_text keyword
+unfolding keyword_of
+word_is_keyword word keyword e = by_command word keyword (command_word word) refl e
+  where
+    by_command : (word : List ℕ) (keyword : CentreKeyword) (asked : Option CommandWord) → command_word word ≡ asked → if_command asked word ≡ Some keyword → word ≡ keyword_text keyword
+    by_command word keyword (Some asked) is e = command_word_found word asked is ∙ ap keyword_text (same_Some _ _ e)
+    by_command word keyword None is e = own_found word keyword e
 
 -- ---- what is read is spelled
 
-datagram_found : (order : Order) (word : List ℕ) (call : CentreCall) (words : List (List ℕ)) → word ≡ codes "datagram"
-    → option_map datagram (last_octets_at words) ≡ Some call → SpellsCallWords order call (word ∷ words)
-datagram_found order word call words is e =
-    let made = mapped_some datagram _ call e in
-    subst (λ call. SpellsCallWords order call (word ∷ words)) made.2
-    (subst (λ w. SpellsOne (codes "datagram") (SpellsOctets made.0) (w ∷ words)) (sym is) (last_octets_found (codes "datagram") words made.0 made.1))
-
-status_found : (order : Order) (word : List ℕ) (call : CentreCall) (words : List (List ℕ)) → word ≡ codes "status" → status_after words ≡ Some call
-    → SpellsCallWords order call (word ∷ words)
+status_found : (order : Order) (call : CentreCall) (words : List (List ℕ)) → status_after words ≡ Some call → SpellsCallWords order call (codes "status" ∷ words)
 unfolding last_alone_at
-status_found order word call [] is e =
-    subst (λ call. SpellsCallWords order call (word ∷ [])) (same_Some status call e) (ap (λ word. word ∷ []) is)
-status_found order word call (next ∷ words) is e =
+status_found order call [] e = subst (λ call. SpellsCallWords order call (codes "status" ∷ [])) (same_Some status call e) refl
+status_found order call (next ∷ words) e =
     let read = begun _ _ _ e in
     let ends = last_found status_last read.0 call read.2 in
-    subst (λ call. SpellsCallWords order call (word ∷ next ∷ words)) ends.1
-    (ap (λ words. word ∷ words) (keyword_found (codes "last") (next ∷ words) read.0 read.1 ∙ ap (λ rest. codes "last" ∷ rest) ends.0)
-    ∙ ap (λ word. word ∷ codes "last" ∷ []) is)
+    subst (λ call. SpellsCallWords order call (codes "status" ∷ next ∷ words)) ends.1
+    (ap (λ words. codes "status" ∷ words) (keyword_found (codes "last") (next ∷ words) read.0 read.1 ∙ ap (λ rest. codes "last" ∷ rest) ends.0))
 
-after_found : (order : Order) (word : List ℕ) (words : List (List ℕ)) (call : CentreCall) → call_after word words ≡ Some call
-    → SpellsCallWords order call (word ∷ words)
-after_found order word words call e =
-    by_keyword word (codes "datagram") _ _ call e (datagram_found order word call words) λ e.
-    by_keyword word (codes "tick") _ _ call e (λ is read. bare_found (SpellsCallWords order) (codes "tick") word tick call words is read refl) λ e.
-    by_keyword word (codes "restart") _ _ call e (λ is read. bare_found (SpellsCallWords order) (codes "restart") word restart call words is read refl) λ e.
-    by_keyword word (codes "status") _ _ call e (status_found order word call words) λ e.
-    by_keyword word (codes "save") _ _ call e (λ is read. bare_found (SpellsCallWords order) (codes "save") word save call words is read refl) λ e.
-    absurd (none-some call e)
-
-plain_found : (order : Order) (words : List (List ℕ)) (call : CentreCall) → plain_call_at words ≡ Some call → SpellsCallWords order call words
-unfolding plain_call_at
-plain_found order words call e =
-    let read = begun _ _ _ e in
-    subst (λ words. SpellsCallWords order call words) (sym (word_found words read.0 read.1).0) (after_found order read.0.0 read.0.1 call read.2)
-
-found_in : (order : Order) (line : List ℕ) (call : CentreCall) (plain : Option CentreCall) (spelled : Option CommandModel)
-    → plain_call_at (words_of line) ≡ plain → command_of order line ≡ spelled → or_command plain spelled ≡ Some call → SpellsCentreCall order call line
-found_in order line call (Some own) spelled is read e = plain_found order (words_of line) call (is ∙ e)
-found_in order line call None (Some asked) is read e =
-    subst (λ call. SpellsCallWords order call (words_of line)) (same_Some _ _ e) (command_found order line asked read)
-found_in order line call None None is read e = absurd (let none : None ≡ Some call = e in cc)
+after_found : (order : Order) (keyword : CentreKeyword) (words : List (List ℕ)) (call : CentreCall) → call_after order keyword words ≡ Some call
+    → SpellsCallWords order call (keyword_text keyword ∷ words)
+after_found order (key.Command asked) words call e =
+    let made = mapped_some _ _ _ e in subst (λ call. SpellsCallWords order call (command_text asked ∷ words)) made.2 (command_after_found order asked words made.0 made.1)
+after_found order key.Datagram words call e =
+    let made = mapped_some _ _ _ e in subst (λ call. SpellsCallWords order call (codes "datagram" ∷ words)) made.2 (last_octets_found (codes "datagram") words made.0 made.1)
+after_found order key.Tick words call e = bare_found (SpellsCallWords order) (codes "tick") (codes "tick") tick call words refl e refl
+after_found order key.Restart words call e = bare_found (SpellsCallWords order) (codes "restart") (codes "restart") restart call words refl e refl
+after_found order key.Status words call e = status_found order call words e
+after_found order key.Save words call e = bare_found (SpellsCallWords order) (codes "save") (codes "save") save call words refl e refl
 
 pub call_found : (order : Order) (line : List ℕ) (call : CentreCall) → call_of order line ≡ Some call → SpellsCentreCall order call line
 unfolding call_of
-call_found order line call e = found_in order line call _ _ refl refl e
+call_found order line call e =
+    let read = begun _ _ _ e in
+    let keyword = begun _ _ _ read.2 in
+    let words : words_of line ≡ keyword_text keyword.0 ∷ read.0.1 =
+    (word_found (words_of line) read.0 read.1).0 ∙ ap (λ word. word ∷ read.0.1) (word_is_keyword read.0.0 keyword.0 keyword.1) in
+    subst (SpellsCallWords order call) (sym words) (after_found order keyword.0 read.0.1 call keyword.2)
 
 -- ---- what is spelled is read
 
-no_plain : (order : Order) (asked : CommandModel) (words : List (List ℕ)) → SpellsCommand order asked words → plain_call_at words ≡ None
-unfolding plain_call_at word_at
-no_plain order (Publish publication) words spelled = ap plain_call_at spelled.words_are
-no_plain order (Blank number minutes priority address) words spelled = ap plain_call_at spelled.words_are
-no_plain order (Activate code) words spelled = ap plain_call_at spelled.words_are
-
-plain_only : (order : Order) (line : List ℕ) (call : CentreCall) → plain_call_at (words_of line) ≡ Some call → call_of order line ≡ Some call
+line_read : (order : Order) (keyword : CentreKeyword) (line : List ℕ) (words : List (List ℕ)) → words_of line ≡ keyword_text keyword ∷ words
+    → call_of order line ≡ call_after order keyword words
 unfolding call_of
-plain_only order line call e = ap (λ plain. or_command plain (command_of order line)) e
+line_read order keyword line words e =
+    goes_on _ _ _ (ap word_at e ∙ word_only (keyword_text keyword) words (keyword_some keyword)) ∙ goes_on _ _ _ (keyword_only keyword)
+
+last_read : (order : Order) → call_after order key.Status (codes "last" ∷ []) ≡ Some status_last
+unfolding last_alone_at keyword_at word_at
+last_read order = refl
 
 pub call_only : (order : Order) (line : List ℕ) (call : CentreCall) → SpellsCentreCall order call line → call_of order line ≡ Some call
-unfolding call_of plain_call_at word_at last_alone_at keyword_at
 call_only order line (command asked) spelled =
-    ap (λ plain. or_command plain (command_of order line)) (no_plain order asked (words_of line) spelled)
-    ∙ ap (or_command None) (command_only order line asked spelled)
+    let is = is_read order asked (words_of line) spelled in
+    line_read order (key.Command is.keyword) line is.rest is.words_are ∙ ap (option_map command) is.read
 call_only order line (datagram octets) spelled =
-    plain_only order line (datagram octets) (ap plain_call_at spelled.words_are ∙ ap (option_map datagram) (last_octets_only octets spelled.word spelled.spelled))
-call_only order line tick spelled = plain_only order line tick (ap plain_call_at spelled)
-call_only order line restart spelled = plain_only order line restart (ap plain_call_at spelled)
-call_only order line status spelled = plain_only order line status (ap plain_call_at spelled)
-call_only order line status_last spelled = plain_only order line status_last (ap plain_call_at spelled)
-call_only order line save spelled = plain_only order line save (ap plain_call_at spelled)
+    line_read order key.Datagram line _ spelled.words_are ∙ ap (option_map datagram) (last_octets_only octets spelled.word spelled.spelled)
+call_only order line tick spelled = line_read order key.Tick line [] spelled
+call_only order line restart spelled = line_read order key.Restart line [] spelled
+call_only order line status spelled = line_read order key.Status line [] spelled
+call_only order line status_last spelled = line_read order key.Status line (codes "last" ∷ []) spelled ∙ last_read order
+call_only order line save spelled = line_read order key.Save line [] spelled
 
 -- ---- one call a line
 

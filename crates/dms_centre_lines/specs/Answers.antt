@@ -17,7 +17,9 @@ use Rattle.dms_centre_state.specs.CentreText.{text_of_state}
 use Rattle.dms_text_streams.specs.Conversation.{bad_line, ok_line}
 use Rattle.dms_centre_lines.specs.BadValue.{value_text, bad_value}
 use Rattle.dms_centre_lines.specs.Calls.{CentreCall, command, datagram, tick, restart, status, status_last, save}
+use Rattle.dms_centre_lines.specs.CallForm.{call_cause, bad_line_text}
 use Rattle.dms_centre_lines.specs.CallReading.{call_of}
+use Rattle.dms_centre_lines.specs.declared.cause.CallCause.{CallCause}
 
 -- ---- lines
 
@@ -69,15 +71,20 @@ last_lines state = job_line (is_busy state.phase) ++ last_line state.last ++ ok_
 
 -- ---- the answer to a line
 
-abbrev pub call_answer : CentreState → Option CentreCall → List ℕ
-call_answer state None = bad_line
-call_answer state (Some (command asked)) = command_line state asked (refusal_of state asked)
-call_answer state (Some (datagram octets)) = sent_line (received state octets).sent
-call_answer state (Some tick) = sent_line (ticked state).sent
-call_answer state (Some restart) = ok_line
-call_answer state (Some status) = status_lines state
-call_answer state (Some status_last) = last_lines state
-call_answer state (Some save) = text_of_state state ++ ok_line
+abbrev pub call_text : CentreState → CentreCall → List ℕ
+call_text state (command asked) = command_line state asked (refusal_of state asked)
+call_text state (datagram octets) = sent_line (received state octets).sent
+call_text state tick = sent_line (ticked state).sent
+call_text state restart = ok_line
+call_text state status = status_lines state
+call_text state status_last = last_lines state
+call_text state save = text_of_state state ++ ok_line
+
+-- the answer to a call, or why a line is none; one of the two there always is (`each_line_is_a_call_or_has_a_cause`)
+abbrev pub call_answer : CentreState → Option CentreCall → Option CallCause → List ℕ
+call_answer state (Some call) cause = call_text state call
+call_answer state None (Some cause) = bad_line_text cause
+call_answer state None None = bad_line
 
 -- the central system after it
 abbrev pub after_call : CentreState → Option CentreCall → CentreState
@@ -90,8 +97,9 @@ after_call state (Some status) = state
 after_call state (Some status_last) = state
 after_call state (Some save) = state
 
+-- one that is no call is a bad line, and is told why
 abbrev pub answer_text : CentreState → List ℕ → List ℕ
-answer_text state line = call_answer state (call_of state.settings.order line)
+answer_text state line = call_answer state (call_of state.settings.order line) (call_cause line)
 
 abbrev pub after_line : CentreState → List ℕ → CentreState
 after_line state line = after_call state (call_of state.settings.order line)

@@ -1,24 +1,21 @@
 //! A line to a central system, and its answer.
 
-ghost use Rattle.std.specs.Prelude.{◌≡◌, ◌++◌, IfOk, OnOk, OnErr, Some, None};
+ghost use Rattle.std.specs.Prelude.{◌≡◌, ◌++◌, IfOk, OnOk, OnErr, Some};
 ghost use Rattle.dms_centre_jobs.specs.CodeView.{command_model};
 ghost use Rattle.dms_centre.specs.Commands.{commanded, refusal_of};
 ghost use Rattle.dms_centre.specs.Inputs.{received, ticked, restarted};
-ghost use Rattle.dms_centre_text.specs.CommandReading.{command_of};
 ghost use Rattle.dms_centre_state.specs.CentreText.{text_of_state};
 ghost use Rattle.dms_text_streams.specs.Conversation.{ok_line};
-ghost use Rattle.dms_centre_lines.specs.Answers.{answer_text, after_line, call_answer, after_call, command_line};
+ghost use Rattle.dms_centre_lines.specs.Answers.{answer_text, after_line, call_text, after_call, command_line};
 ghost use Rattle.dms_centre_lines.specs.Answers.{sent_line};
-ghost use Rattle.dms_centre_lines.specs.CallReading.{or_command};
 ghost use Rattle.dms_centre_lines.specs.CodeView.{call_model};
 
-use crate::reading::{PlainCall, plain_call};
+use crate::reading::{CentreCall, call};
 use crate::status::{status, status_last};
-use crate::text::{put_sent, refused, room};
+use crate::text::{bad_line, put_sent, refused, room};
 use dms_centre::{Centre, Command};
 use dms_centre_state::saved;
-use dms_centre_text::read_command;
-use dms_text_streams::{bad_line, ok_line};
+use dms_text_streams::ok_line;
 use dms_wire::Out;
 use std::alloc::{AllocError, Global};
 
@@ -33,49 +30,36 @@ use std::alloc::{AllocError, Global};
 /// - `status`: `busy` or `idle`, `last` and how the last job ended, the ledger's lines of a report, and `ok`.
 /// - `status last`: the same without the ledger's lines.
 /// - `save`: the text of its state, and `ok`.
-/// - Any other line is a `bad line`, and changes nothing.
+/// - Any other line is answered `bad line` and why it is none of these, as `bad line word 2: no more words are wanted`,
+///   and changes nothing.
 ///
 /// Where it runs out of memory, nothing has changed: what an answer needs is reserved before the central system is
 /// called.
-#[tactic(auto, unfolding(crate::specs::CallReading::call_of))]
 pub fn answer(alloc: Global, centre: &mut Centre, line: &[u8]) -> Result<Vec<u8>, AllocError>
     ensures text { IfOk result (λ text. text.items ≡ answer_text centre.old.state line.now) }
     ensures state { OnOk result (centre.new.state ≡ after_line centre.old.state line.now) }
     ensures unchanged { OnErr result (centre.new.state ≡ centre.old.state) }
 {
-    match plain_call(alloc, line)? {
-        Some(call) => answer_call(alloc, centre, call),
-        None => answer_command(alloc, centre, line),
+    match call(alloc, centre.order(), line)? {
+        Ok(call) => carry_out(alloc, centre, &call),
+        Err(cause) => bad_line(alloc, cause),
     }
 }
 
-/// A call that is no command.
-fn answer_call(alloc: Global, centre: &mut Centre, call: PlainCall) -> Result<Vec<u8>, AllocError>
-    ensures text { IfOk result (λ text. text.items ≡ call_answer centre.old.state (Some (call_model call))) }
-    ensures state { OnOk result (centre.new.state ≡ after_call centre.old.state (Some (call_model call))) }
+/// Carries out a call, and gives its answer.
+fn carry_out(alloc: Global, centre: &mut Centre, call: &CentreCall) -> Result<Vec<u8>, AllocError>
+    ensures text { IfOk result (λ text. text.items ≡ call_text centre.old.state (call_model call.now)) }
+    ensures state { OnOk result (centre.new.state ≡ after_call centre.old.state (Some (call_model call.now))) }
     ensures unchanged { OnErr result (centre.new.state ≡ centre.old.state) }
 {
     match call {
-        PlainCall::Datagram(octets) => receive(alloc, centre, octets.as_slice()),
-        PlainCall::Tick => tick(alloc, centre),
-        PlainCall::Restart => restart(alloc, centre),
-        PlainCall::Status => status(alloc, centre),
-        PlainCall::StatusLast => status_last(alloc, centre),
-        PlainCall::Save => save(alloc, centre),
-    }
-}
-
-/// A line that is a command, or a bad line.
-fn answer_command(alloc: Global, centre: &mut Centre, line: &[u8]) -> Result<Vec<u8>, AllocError>
-    ensures text { IfOk result (λ text. text.items
-        ≡ call_answer centre.old.state (or_command None (command_of centre.old.state.settings.order line.now))) }
-    ensures state { OnOk result (centre.new.state
-        ≡ after_call centre.old.state (or_command None (command_of centre.old.state.settings.order line.now))) }
-    ensures unchanged { OnErr result (centre.new.state ≡ centre.old.state) }
-{
-    match read_command(alloc, centre.order(), line)? {
-        Ok(asked) => give(alloc, centre, asked.lent()),
-        Err(_) => bad_line(alloc),
+        CentreCall::Command(asked) => give(alloc, centre, asked.lent()),
+        CentreCall::Datagram(octets) => receive(alloc, centre, octets.as_slice()),
+        CentreCall::Tick => tick(alloc, centre),
+        CentreCall::Restart => restart(alloc, centre),
+        CentreCall::Status => status(alloc, centre),
+        CentreCall::StatusLast => status_last(alloc, centre),
+        CentreCall::Save => save(alloc, centre),
     }
 }
 

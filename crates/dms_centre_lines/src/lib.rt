@@ -15,6 +15,8 @@
 
 mod answering;
 mod bad_value;
+mod cause;
+mod keyword;
 pub mod laws;
 mod live;
 mod reading;

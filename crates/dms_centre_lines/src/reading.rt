@@ -1,18 +1,27 @@
-//! The lines that are no commands.
+//! The call that a line spells.
 
-ghost use Rattle.std.specs.Prelude.{◌≡◌, true, IfOk, OnErr, option_map};
-ghost use Rattle.dms_text.specs.Words.{words_of};
-ghost use Rattle.dms_centre_lines.specs.CallReading.{status_after, plain_call_at, has_octets};
+ghost use Rattle.std.specs.Prelude.{◌≡◌, [], true, IfOk, OnErr, option_map};
+ghost use Rattle.std.specs.Result.{result_ok, result_err};
+ghost use Rattle.dms_text_forms.specs.FieldsReading.{if_last, last_octets_at};
+ghost use Rattle.dms_centre_lines.specs.Calls.{datagram};
+ghost use Rattle.dms_centre_lines.specs.CallForm.{word_cause, status_cause, words_cause, call_cause};
+ghost use Rattle.dms_centre_lines.specs.CallReading.{status_after, call_after, call_of, has_octets};
 ghost use Rattle.dms_centre_lines.specs.CodeView.{call_model};
+ghost use Rattle.dms_centre_lines.specs.declared.keyword.CentreKeyword.TheVariants as keys;
 
-use dms_text::{Words, are_same};
-use dms_text_forms::fields::last_octets;
-use dms_text_streams::alone;
+use crate::cause::CallCause;
+use crate::keyword::CentreKeyword;
+use dms_centre_text::{CommandWord, OwnedCommand, command_after};
+use dms_codes::Order;
+use dms_text::Words;
+use dms_text_forms::{LineWords, WordName};
 use std::alloc::{AllocError, Global};
 
-/// What a line asks of a central system, but for an operator's commands.
+/// What a line asks of a central system.
 #[derive(Drop)]
-pub(crate) enum PlainCall {
+pub(crate) enum CentreCall {
+    /// An operator gives it a command.
+    Command(OwnedCommand),
     /// A datagram reached it.
     Datagram(Vec<u8>),
     /// Its clock ticks.
@@ -27,38 +36,108 @@ pub(crate) enum PlainCall {
     Save,
 }
 
-/// The call that a line spells, or none where it spells none; a command is none. Memory is asked for by a datagram
-/// alone, and not where its line is at fault.
-#[tactic(auto, unfolding(crate::specs::CallReading::plain_call_at), using(crate::proofs::CallMemory::of_datagram))]
-pub(crate) fn plain_call(alloc: Global, line: &[u8]) -> Result<Option<PlainCall>, AllocError>
-    ensures read { IfOk result (λ found. option_map call_model found ≡ plain_call_at (words_of line.now)) }
-    ensures spelled { OnErr result (has_octets (plain_call_at (words_of line.now)) ≡ true) }
+/// The call that a line spells, or why it spells none. A code is in this order. Memory is asked for by a message and by
+/// a datagram alone, and not where their line is at fault.
+#[tactic(auto, unfolding(crate::specs::CallReading::call_of))]
+pub(crate) fn call(
+    alloc: Global,
+    order: Order,
+    line: &[u8],
+) -> Result<Result<CentreCall, CallCause>, AllocError>
+    ensures read { IfOk result (λ read. option_map call_model (result_ok read) ≡ call_of order line.now) }
+    ensures cause { IfOk result (λ read. result_err read ≡ call_cause line.now) }
+    ensures spelled { OnErr result (has_octets (call_of order line.now) ≡ true) }
 {
     let Some((word, words)) = Words::of(line).next_word() else {
-        return Ok(None);
+        return Ok(Err(CallCause::Keyword));
     };
-    if are_same(word, b"datagram") {
-        Ok(last_octets(alloc, words)?.map(PlainCall::Datagram))
-    } else if are_same(word, b"tick") {
-        Ok(alone(words, PlainCall::Tick))
-    } else if are_same(word, b"restart") {
-        Ok(alone(words, PlainCall::Restart))
-    } else if are_same(word, b"status") {
-        Ok(status(words))
-    } else if are_same(word, b"save") {
-        Ok(alone(words, PlainCall::Save))
-    } else {
-        Ok(None)
+    match CentreKeyword::of(word) {
+        Some(keyword) => call_after(alloc, order, keyword, words),
+        None => Ok(Err(CallCause::Keyword)),
+    }
+}
+
+/// The call that begins with this word and goes on with these, or what is wrong with them.
+fn call_after(
+    alloc: Global,
+    order: Order,
+    keyword: CentreKeyword,
+    words: Words<'_>,
+) -> Result<Result<CentreCall, CallCause>, AllocError>
+    ensures read { IfOk result (λ read. option_map call_model (result_ok read)
+        ≡ call_after order keyword words.entry) }
+    ensures cause { IfOk result (λ read. result_err read ≡ words_cause keyword words.entry) }
+    ensures spelled { OnErr result (has_octets (call_after order keyword words.entry) ≡ true) }
+{
+    match keyword {
+        CentreKeyword::Command(asked) => command(alloc, order, asked, words),
+        CentreKeyword::Datagram => datagram(alloc, words),
+        CentreKeyword::Tick => Ok(alone(words, CentreCall::Tick)),
+        CentreKeyword::Restart => Ok(alone(words, CentreCall::Restart)),
+        CentreKeyword::Status => Ok(status(words)),
+        CentreKeyword::Save => Ok(alone(words, CentreCall::Save)),
+    }
+}
+
+/// A command of the operator.
+#[tactic(auto, using(crate::proofs::CallMemory::octets_kept))]
+fn command(
+    alloc: Global,
+    order: Order,
+    asked: CommandWord,
+    words: Words<'_>,
+) -> Result<Result<CentreCall, CallCause>, AllocError>
+    ensures read { IfOk result (λ read. option_map call_model (result_ok read)
+        ≡ call_after order (keys.Command asked) words.entry) }
+    ensures cause { IfOk result (λ read. result_err read ≡ words_cause (keys.Command asked) words.entry) }
+    ensures spelled { OnErr result (has_octets (call_after order (keys.Command asked) words.entry) ≡ true) }
+{
+    match command_after(alloc, order, asked, LineWords { place: 2, words })? {
+        Ok(asked) => Ok(Ok(CentreCall::Command(asked))),
+        Err(fault) => Ok(Err(CallCause::Word(fault))),
+    }
+}
+
+/// The octets of a datagram, and nothing after them.
+#[tactic(auto, using(crate::proofs::CallMemory::octets_kept))]
+fn datagram(alloc: Global, words: Words<'_>) -> Result<Result<CentreCall, CallCause>, AllocError>
+    ensures read { IfOk result (λ read. option_map call_model (result_ok read)
+        ≡ option_map datagram (last_octets_at words.entry)) }
+    ensures cause { IfOk result (λ read. result_err read ≡ words_cause keys.Datagram words.entry) }
+    ensures spelled { OnErr result (has_octets (option_map datagram (last_octets_at words.entry)) ≡ true) }
+{
+    let words = LineWords { place: 2, words };
+    match words.last_octets(alloc, WordName::Datagram)? {
+        Ok(octets) => Ok(Ok(CentreCall::Datagram(octets))),
+        Err(fault) => Ok(Err(CallCause::Word(fault))),
     }
 }
 
 /// What stands after `status`: nothing, or `last` alone.
 #[tactic(auto, unfolding(crate::specs::CallReading::last_alone_at))]
-fn status(words: Words<'_>) -> Option<PlainCall>
-    ensures { option_map call_model result ≡ status_after words.entry }
+fn status(words: Words<'_>) -> Result<CentreCall, CallCause>
+    ensures read { option_map call_model (result_ok result) ≡ status_after words.entry }
+    ensures cause { result_err result ≡ status_cause words.entry }
 {
     if words.is_empty() {
-        return Some(PlainCall::Status);
+        return Ok(CentreCall::Status);
     }
-    alone(words.keyword(b"last")?, PlainCall::StatusLast)
+    let Some(words) = words.keyword(b"last") else {
+        return Err(CallCause::Last);
+    };
+    match (LineWords { place: 3, words }).end() {
+        Ok(()) => Ok(CentreCall::StatusLast),
+        Err(fault) => Err(CallCause::Word(fault)),
+    }
+}
+
+/// The call, where no words are left.
+fn alone(words: Words<'_>, call: CentreCall) -> Result<CentreCall, CallCause>
+    ensures call { result_ok result ≡ if_last call words.entry }
+    ensures cause { result_err result ≡ word_cause [] words.entry }
+{
+    match (LineWords { place: 2, words }).end() {
+        Ok(()) => Ok(call),
+        Err(fault) => Err(CallCause::Word(fault)),
+    }
 }

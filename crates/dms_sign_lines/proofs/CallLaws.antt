@@ -9,12 +9,13 @@ use Rattle.dms_codes.proofs.Options.{mapped_some}
 use Rattle.dms_sign.specs.State.{SignState}
 use Rattle.dms_text_forms.proofs.WordReading.{by_text}
 use Rattle.dms_text_forms.proofs.FieldLaws.{last_number_found, last_number_only, last_octets_found, last_octets_only}
-use Rattle.dms_text_streams.specs.Conversation.{bad_line}
 use Rattle.dms_text_streams.proofs.CallReading.{bare_found, nothing_found}
 use Rattle.dms_sign_lines.specs.SignCall.{SignCall, datagram, tick, ticks, heard, power_lost, power_back, show, state, save}
 use Rattle.dms_sign_lines.specs.SignLine.{SpellsCallWords, SpellsSignCall, SpellsNoSignCall}
 use Rattle.dms_sign_lines.specs.SignReading.{keyword_of, call_after, call_of}
+use Rattle.dms_sign_lines.specs.SignForm.{call_cause, bad_line_text}
 use Rattle.dms_sign_lines.specs.Answer.{answer_text, after_line, call_text, after_call, text_if, after_if}
+use Rattle.dms_sign_lines.specs.declared.cause.CallCause.{CallCause}
 use Rattle.dms_sign_lines.specs.declared.keyword.SignKeyword.{SignKeyword}
 use Rattle.dms_sign_lines.specs.declared.keyword.SignKeyword.TheVariants as key
 
@@ -104,19 +105,20 @@ call_only line save spelled = line_read key.Save line [] spelled
 pub one_call : (line : List ℕ) (one other : SignCall) → SpellsSignCall one line → SpellsSignCall other line → one ≡ other
 one_call line one other this that = same_Some _ _ (sym (call_only line one this) ∙ call_only line other that)
 
-none_read : (line : List ℕ) → SpellsNoSignCall line → call_of line ≡ None
+pub none_read : (line : List ℕ) → SpellsNoSignCall line → call_of line ≡ None
 none_read line none = nothing_found (call_of line) (λ call e. none call (call_found line call e))
 
 -- ---- answers
 
 pub text_of_call : (s : SignState) (line : List ℕ) (call : SignCall) → SpellsSignCall call line → answer_text s line ≡ call_text s call
-text_of_call s line call spelled = ap (text_if s) (call_only line call spelled)
+text_of_call s line call spelled = ap (λ found. text_if s found (call_cause line)) (call_only line call spelled)
 
 pub after_the_call : (s : SignState) (line : List ℕ) (call : SignCall) → SpellsSignCall call line → after_line s line ≡ after_call s call
 after_the_call s line call spelled = ap (after_if s) (call_only line call spelled)
 
-pub text_of_bad_line : (s : SignState) (line : List ℕ) → SpellsNoSignCall line → answer_text s line ≡ bad_line
-text_of_bad_line s line none = ap (text_if s) (none_read line none)
+pub text_of_bad_line : (s : SignState) (line : List ℕ) (cause : CallCause) → SpellsNoSignCall line → call_cause line ≡ Some cause
+    → answer_text s line ≡ bad_line_text cause
+text_of_bad_line s line cause none is = ap (λ found. text_if s found (call_cause line)) (none_read line none) ∙ ap (text_if s None) is
 
 pub after_bad_line : (s : SignState) (line : List ℕ) → SpellsNoSignCall line → after_line s line ≡ s
 after_bad_line s line none = ap (after_if s) (none_read line none)

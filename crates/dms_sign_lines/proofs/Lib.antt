@@ -1,4 +1,5 @@
 pub mod GoodTexts
 pub mod CallLaws
+pub mod Causes
 pub mod Seconds
 pub mod Gets

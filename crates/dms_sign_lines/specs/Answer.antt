@@ -20,7 +20,9 @@ use Rattle.dms_face_pages.specs.PageText.{pages_text}
 use Rattle.dms_text_streams.specs.Conversation.{bad_line, ok_line}
 use Rattle.dms_sign_lines.specs.SignCall.{SignCall, datagram, tick, ticks, heard, power_lost, power_back}
 use Rattle.dms_sign_lines.specs.SignCall.{show, state, save}
+use Rattle.dms_sign_lines.specs.SignForm.{call_cause, bad_line_text}
 use Rattle.dms_sign_lines.specs.SignReading.{call_of}
+use Rattle.dms_sign_lines.specs.declared.cause.CallCause.{CallCause}
 
 -- ---- what comes of a datagram
 
@@ -87,17 +89,19 @@ after_call s save = s
 
 -- ---- lines
 
-abbrev pub text_if : SignState → Option SignCall → List ℕ
-text_if s None = bad_line
-text_if s (Some call) = call_text s call
+-- the answer to a call, or why a line is none; one of the two there always is (`each_line_is_a_call_or_has_a_cause`)
+abbrev pub text_if : SignState → Option SignCall → Option CallCause → List ℕ
+text_if s (Some call) cause = call_text s call
+text_if s None (Some cause) = bad_line_text cause
+text_if s None None = bad_line
 
 abbrev pub after_if : SignState → Option SignCall → SignState
 after_if s None = s
 after_if s (Some call) = after_call s call
 
--- the answer to a line; one that is no call is a bad line
+-- the answer to a line; one that is no call is a bad line, and is told why
 abbrev pub answer_text : SignState → List ℕ → List ℕ
-answer_text s line = text_if s (call_of line)
+answer_text s line = text_if s (call_of line) (call_cause line)
 
 -- the sign after a line; a bad line changes nothing
 abbrev pub after_line : SignState → List ℕ → SignState

@@ -1,8 +1,9 @@
 -- What the words of a line to a live sign are to be, and why a line is no call (this profile).
-use Rattle.std.specs.Prelude.{ℕ, List, [], ◌∷◌, codes, Option, Some, None, option_map}
+use Rattle.std.specs.Prelude.{ℕ, List, [], ◌∷◌, ◌++◌, codes, Option, Some, None, option_map}
 use Rattle.dms_text.specs.Words.{words_of}
 use Rattle.dms_text.specs.Reading.{word_at}
 use Rattle.dms_text_forms.specs.Form.{fault_from}
+use Rattle.dms_text_forms.specs.LineText.{ended}
 use Rattle.dms_text_forms.specs.Texts.{fault_text}
 use Rattle.dms_text_forms.specs.declared.vocabulary.WordName.TheVariants as names
 use Rattle.dms_text_forms.specs.declared.wanted.Wanted.{Wanted}
@@ -41,3 +42,7 @@ call_cause line = cause_at (word_at (words_of line))
 abbrev pub call_cause_text : CallCause → List ℕ
 call_cause_text causes.Keyword = codes "no call begins with this word"
 call_cause_text (causes.Word fault) = fault_text fault
+
+-- the answer to a line that is no call: why it is none
+abbrev pub bad_line_text : CallCause → List ℕ
+bad_line_text cause = ended (codes "bad line " ++ call_cause_text cause)

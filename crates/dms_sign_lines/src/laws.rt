@@ -1,6 +1,6 @@
 //! Laws on the lines to a live sign, each the contract of a function that does nothing.
 
-ghost use Rattle.std.specs.Prelude.{◌≡◌, ℕ, List, codes, fold, replicate, IsTrue, Some, None, Ok};
+ghost use Rattle.std.specs.Prelude.{◌≡◌, ℕ, List, codes, fold, replicate, IsTrue, IsSome, Some, None, Ok};
 ghost use Rattle.dms_wire.specs.Message.{SnmpMessage};
 ghost use Rattle.dms_wire.specs.MessageOf.{message_of};
 ghost use Rattle.dms_face.specs.Face.{is_face};
@@ -10,9 +10,10 @@ ghost use Rattle.dms_table.specs.Rows.{TableModel};
 ghost use Rattle.dms_sign.specs.State.{ConfigModel, SignState, start};
 ghost use Rattle.dms_sign.specs.Reply.{received};
 ghost use Rattle.dms_sign.specs.Promises.{is_get};
-ghost use Rattle.dms_text_streams.specs.Conversation.{bad_line};
 ghost use Rattle.dms_sign_lines.specs.SignCall.{SignCall, datagram, ticks};
+ghost use Rattle.dms_sign_lines.specs.SignForm.{call_cause, bad_line_text};
 ghost use Rattle.dms_sign_lines.specs.SignLine.{SpellsSignCall, SpellsNoSignCall};
+ghost use Rattle.dms_sign_lines.specs.declared.cause.CallCause.{CallCause};
 ghost use Rattle.dms_sign_lines.specs.Answer.{answer_text, after_line, call_text, after_call, shown_pages};
 ghost use Rattle.dms_sign_lines.specs.GoodTexts.{ShowsGoodTexts};
 
@@ -23,14 +24,22 @@ pub fn a_line_spells_at_most_one_call()
         → call ≡ other }
 {}
 
-/// The answer to a line, and the sign after it, are those of the call that the line spells; a line that spells none is
-/// a bad line, and changes nothing.
+/// A line that spells no call has a cause, and one that spells a call has none.
+#[tactic(auto, using(crate::proofs::Causes::cause_of_no_call, crate::proofs::Causes::no_cause_of_call))]
+pub fn each_line_is_a_call_or_has_a_cause()
+    ensures cause { (line : List ℕ) → SpellsNoSignCall line → IsSome (call_cause line) }
+    ensures call { (line : List ℕ) (call : SignCall) → SpellsSignCall call line → call_cause line ≡ None }
+{}
+
+/// The answer to a line, and the sign after it, are those of the call that the line spells; one that spells none is a
+/// bad line, is told why, and changes nothing.
 pub fn answers_are_those_of_calls()
     ensures text { (s : SignState) (line : List ℕ) (call : SignCall) → SpellsSignCall call line
         → answer_text s line ≡ call_text s call }
     ensures after { (s : SignState) (line : List ℕ) (call : SignCall) → SpellsSignCall call line
         → after_line s line ≡ after_call s call }
-    ensures bad_line { (s : SignState) (line : List ℕ) → SpellsNoSignCall line → answer_text s line ≡ bad_line }
+    ensures bad_line { (s : SignState) (line : List ℕ) (cause : CallCause) → SpellsNoSignCall line
+        → call_cause line ≡ Some cause → answer_text s line ≡ bad_line_text cause }
     ensures unchanged { (s : SignState) (line : List ℕ) → SpellsNoSignCall line → after_line s line ≡ s }
 {}
 

@@ -48,13 +48,13 @@ fn has_answer(alloc: Global, setup: &mut Setup, line: &str, wanted: &str) -> boo
     }
 }
 
-/// A line that spells no call is a bad line, and changes nothing.
+/// A line that spells no call is a bad line, is told why, and changes nothing.
 #[test]
 fn nothing_changes(rt: HostRuntime) -> Result<(), Fail> {
     let mut setup = bench(rt.alloc())?;
     setup.sign.power_lost();
-    for line in cases::BAD_LINES {
-        let bad = has_answer(rt.alloc(), &mut setup, line, "bad line\n");
+    for (line, answer) in cases::BAD_LINES {
+        let bad = has_answer(rt.alloc(), &mut setup, line, answer);
         let same = has_answer(rt.alloc(), &mut setup, "state", cases::STATE_WITHOUT_POWER);
         assert_eq!(rt; (bad, same), (true, true), "of {line:?}");
     }
@@ -141,7 +141,7 @@ fn answer_or_out_of_memory(rt: HostRuntime) -> Result<(), Fail> {
             8,
             "shown 2 1 7502 mode 8 priority 100 remaining 65535 text 42\nok\n",
         ),
-        ("tock", 8, "bad line\n"),
+        ("tock", 8, "bad line no call begins with this word\n"),
     ] {
         let checked = check_answer(rt.alloc(), &mut setup, line, mode, wanted);
         assert_eq!(rt; checked, Ok(()), "of {line}");

@@ -225,48 +225,134 @@ ok
 ";
 
 /// Lines that are none.
-pub const BAD_LINES: &str = "publish
-Publish 3 1 41 - 0 0 200 65535 255 192.0.2.1
-publish 256 1 41 - 0 0 200 65535 255 192.0.2.1
-publish 3 1 41 - 0 0 200 65535 255 192.0.2.1 0
-publish 3 1 4g - 0 0 200 65535 255 192.0.2.1
-blank
-blank 65536 65535 255 192.0.2.1
-blank 1 65535 255 192.0.2
-activate
-activate ffffff0300019a66c00002
-activate -
-datagram
-datagram 0
-datagram 0g
-datagram 00 00
-datagram - -
-Datagram -
-tick 1
-tick -
-tock
-Tick
-restart 0
-restarts
-status 1
-status last 1
-status last last
-status Last
-status first
-last
-save 1
-saves
-state
-show
-power-lost
-sign-tick
-centre-tick
-centre-restart
-to-sign 0
-to-centre 0
-power-back 0
-forge-sign 00
-forge-centre 00
-bench
-end
-# tick";
+pub const BAD_LINES: [(&str, &str); 53] = [
+    (
+        "publish",
+        "bad line word 2: the line ends where a number from 0 to 255 is wanted\n",
+    ),
+    (
+        "Publish 3 1 41 - 0 0 200 65535 255 192.0.2.1",
+        "bad line no call begins with this word\n",
+    ),
+    (
+        "publish 256 1 41 - 0 0 200 65535 255 192.0.2.1",
+        "bad line word 2: a number from 0 to 255 is wanted\n",
+    ),
+    (
+        "publish 3 1 41 - 0 0 200 65535 255 192.0.2.1 0",
+        "bad line word 12: no more words are wanted\n",
+    ),
+    (
+        "publish 3 1 4g - 0 0 200 65535 255 192.0.2.1",
+        "bad line word 4: a text in hexadecimal is wanted\n",
+    ),
+    (
+        "blank",
+        "bad line word 2: the line ends where a number from 0 to 65535 is wanted\n",
+    ),
+    (
+        "blank 65536 65535 255 192.0.2.1",
+        "bad line word 2: a number from 0 to 65535 is wanted\n",
+    ),
+    (
+        "blank 1 65535 255 192.0.2",
+        "bad line word 5: an address, as 192.0.2.1, is wanted\n",
+    ),
+    (
+        "activate",
+        "bad line word 2: the line ends where a code of 24 hexadecimal digits is wanted\n",
+    ),
+    // a code with an octet too few
+    (
+        "activate ffffff0300019a66c00002",
+        "bad line word 2: a code of 24 hexadecimal digits is wanted\n",
+    ),
+    (
+        "activate -",
+        "bad line word 2: a code of 24 hexadecimal digits is wanted\n",
+    ),
+    (
+        "datagram",
+        "bad line word 2: the line ends where a datagram in hexadecimal is wanted\n",
+    ),
+    (
+        "datagram 0",
+        "bad line word 2: a datagram in hexadecimal is wanted\n",
+    ),
+    (
+        "datagram 0g",
+        "bad line word 2: a datagram in hexadecimal is wanted\n",
+    ),
+    (
+        "datagram 00 00",
+        "bad line word 3: no more words are wanted\n",
+    ),
+    (
+        "datagram - -",
+        "bad line word 3: no more words are wanted\n",
+    ),
+    ("Datagram -", "bad line no call begins with this word\n"),
+    ("tick 1", "bad line word 2: no more words are wanted\n"),
+    ("tick -", "bad line word 2: no more words are wanted\n"),
+    ("tock", "bad line no call begins with this word\n"),
+    ("Tick", "bad line no call begins with this word\n"),
+    ("restart 0", "bad line word 2: no more words are wanted\n"),
+    ("restarts", "bad line no call begins with this word\n"),
+    (
+        "status 1",
+        "bad line word 2: the word last, or the end of the line, is wanted\n",
+    ),
+    (
+        "status last 1",
+        "bad line word 3: no more words are wanted\n",
+    ),
+    (
+        "status last last",
+        "bad line word 3: no more words are wanted\n",
+    ),
+    (
+        "status Last",
+        "bad line word 2: the word last, or the end of the line, is wanted\n",
+    ),
+    (
+        "status first",
+        "bad line word 2: the word last, or the end of the line, is wanted\n",
+    ),
+    ("last", "bad line no call begins with this word\n"),
+    ("save 1", "bad line word 2: no more words are wanted\n"),
+    ("saves", "bad line no call begins with this word\n"),
+    ("state", "bad line no call begins with this word\n"),
+    ("show", "bad line no call begins with this word\n"),
+    ("power-lost", "bad line no call begins with this word\n"),
+    ("sign-tick", "bad line no call begins with this word\n"),
+    ("centre-tick", "bad line no call begins with this word\n"),
+    ("centre-restart", "bad line no call begins with this word\n"),
+    ("to-sign 0", "bad line no call begins with this word\n"),
+    ("to-centre 0", "bad line no call begins with this word\n"),
+    ("power-back 0", "bad line no call begins with this word\n"),
+    ("forge-sign 00", "bad line no call begins with this word\n"),
+    (
+        "forge-centre 00",
+        "bad line no call begins with this word\n",
+    ),
+    ("bench", "bad line no call begins with this word\n"),
+    ("end", "bad line no call begins with this word\n"),
+    ("# tick", "bad line no call begins with this word\n"),
+    ("", "bad line no call begins with this word\n"),
+    (" ", "bad line no call begins with this word\n"),
+    (
+        "tick ",
+        "bad line word 2: two spaces, or a space at an end of the line\n",
+    ),
+    (" tick", "bad line no call begins with this word\n"),
+    ("tick\r", "bad line no call begins with this word\n"),
+    ("status\n", "bad line no call begins with this word\n"),
+    (
+        "status ",
+        "bad line word 2: the word last, or the end of the line, is wanted\n",
+    ),
+    (
+        "status last ",
+        "bad line word 3: two spaces, or a space at an end of the line\n",
+    ),
+];

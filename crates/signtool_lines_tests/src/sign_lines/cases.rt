@@ -167,7 +167,7 @@ powered 0
 end
 ok
 > save 1
-bad line
+bad line word 2: no more words are wanted
 ";
 
 /// Seconds by one line: a message for two minutes, and a silence of one minute, which `heard` begins again.
@@ -314,70 +314,121 @@ pub const STATE_WITHOUT_POWER: &str = "shown 7 1 0000 mode 13 priority 1 remaini
 ok
 ";
 
-/// Lines that spell no call.
-pub const BAD_LINES: [&str; 32] = [
+/// Lines that spell no call, each with its answer.
+pub const BAD_LINES: [(&str, &str); 32] = [
     // no word
-    "",
+    ("", "bad line no call begins with this word\n"),
     // no datagram
-    "datagram",
+    (
+        "datagram",
+        "bad line word 2: the line ends where a datagram in hexadecimal is wanted\n",
+    ),
     // a capital letter
-    "Datagram 00",
+    ("Datagram 00", "bad line no call begins with this word\n"),
     // an odd number of digits
-    "datagram 0",
+    (
+        "datagram 0",
+        "bad line word 2: a datagram in hexadecimal is wanted\n",
+    ),
     // a letter that is no digit
-    "datagram 0g",
+    (
+        "datagram 0g",
+        "bad line word 2: a datagram in hexadecimal is wanted\n",
+    ),
     // two datagrams
-    "datagram 00 00",
+    (
+        "datagram 00 00",
+        "bad line word 3: no more words are wanted\n",
+    ),
     // a blank at the end
-    "datagram - ",
+    (
+        "datagram - ",
+        "bad line word 3: two spaces, or a space at an end of the line\n",
+    ),
     // another word
-    "datagrams -",
+    ("datagrams -", "bad line no call begins with this word\n"),
     // seconds after a tick
-    "tick 1",
+    ("tick 1", "bad line word 2: no more words are wanted\n"),
     // no number of seconds
-    "ticks",
+    (
+        "ticks",
+        "bad line word 2: the line ends where a number from 0 to 4294967295 is wanted\n",
+    ),
     // a number below 0
-    "ticks -1",
+    (
+        "ticks -1",
+        "bad line word 2: a number from 0 to 4294967295 is wanted\n",
+    ),
     // a number above the range
-    "ticks 4294967296",
+    (
+        "ticks 4294967296",
+        "bad line word 2: a number from 0 to 4294967295 is wanted\n",
+    ),
     // two numbers
-    "ticks 1 1",
+    ("ticks 1 1", "bad line word 3: no more words are wanted\n"),
     // a word after `heard`
-    "heard 1",
+    ("heard 1", "bad line word 2: no more words are wanted\n"),
     // a blank at the end
-    "tick ",
+    (
+        "tick ",
+        "bad line word 2: two spaces, or a space at an end of the line\n",
+    ),
     // a carriage return
-    "tick\r",
+    ("tick\r", "bad line no call begins with this word\n"),
     // a blank before the word
-    " tick",
+    (" tick", "bad line no call begins with this word\n"),
     // another word
-    "tock",
+    ("tock", "bad line no call begins with this word\n"),
     // a word after `power-lost`
-    "power-lost 1",
+    (
+        "power-lost 1",
+        "bad line word 2: no more words are wanted\n",
+    ),
     // no number of seconds
-    "power-back",
+    (
+        "power-back",
+        "bad line word 2: the line ends where a number from 0 to 4294967295 is wanted\n",
+    ),
     // a blank at the end
-    "power-back ",
+    (
+        "power-back ",
+        "bad line word 2: two spaces, or a space at an end of the line\n",
+    ),
     // a number below 0
-    "power-back -1",
+    (
+        "power-back -1",
+        "bad line word 2: a number from 0 to 4294967295 is wanted\n",
+    ),
     // a sign before the number
-    "power-back +1",
+    (
+        "power-back +1",
+        "bad line word 2: a number from 0 to 4294967295 is wanted\n",
+    ),
     // a number above the range
-    "power-back 4294967296",
+    (
+        "power-back 4294967296",
+        "bad line word 2: a number from 0 to 4294967295 is wanted\n",
+    ),
     // more than ten digits
-    "power-back 00000000007",
+    (
+        "power-back 00000000007",
+        "bad line word 2: a number from 0 to 4294967295 is wanted\n",
+    ),
     // two numbers
-    "power-back 7 7",
+    (
+        "power-back 7 7",
+        "bad line word 3: no more words are wanted\n",
+    ),
     // an underscore
-    "power_back 7",
+    ("power_back 7", "bad line no call begins with this word\n"),
     // a word after `show`
-    "show 1",
+    ("show 1", "bad line word 2: no more words are wanted\n"),
     // a dash
-    "show-",
+    ("show-", "bad line no call begins with this word\n"),
     // a word after `state`
-    "state 1",
+    ("state 1", "bad line word 2: no more words are wanted\n"),
     // an answer
-    "ok",
+    ("ok", "bad line no call begins with this word\n"),
     // another answer
-    "bad line",
+    ("bad line", "bad line no call begins with this word\n"),
 ];

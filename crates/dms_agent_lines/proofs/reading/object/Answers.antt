@@ -2,4 +2,4 @@ use Rattle.dms_agent_lines.proofs.ValueLaws.{read_sent}
 use Rattle.dms_agent_lines.proofs.reading.object.Goals as goal
 
 pub invariant_of-result : goal.invariant_of-result
-invariant_of-result c = read_sent _ _ _ c.in_ok-value.ensures
+invariant_of-result c = read_sent _ _ _ c.in-Some.ensures

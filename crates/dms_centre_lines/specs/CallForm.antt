@@ -1,0 +1,65 @@
+-- What the words of a line to a central system are to be, and why a line is no call (this profile).
+use Rattle.std.specs.Prelude.{ℕ, if◌then◌else◌, List, [], ◌∷◌, ◌++◌, codes, Option, Some, None, option_map}
+use Rattle.dms_text.specs.Words.{words_of}
+use Rattle.dms_text.specs.Reading.{word_at, keyword_at, is_end}
+use Rattle.dms_text_forms.specs.Form.{fault_from}
+use Rattle.dms_text_forms.specs.LineText.{ended}
+use Rattle.dms_text_forms.specs.Texts.{fault_text}
+use Rattle.dms_text_forms.specs.declared.vocabulary.WordName.TheVariants as names
+use Rattle.dms_text_forms.specs.declared.wanted.Wanted.{Wanted}
+use Rattle.dms_text_forms.specs.declared.wanted.Wanted.TheVariants as wanted
+use Rattle.dms_centre_text.specs.CommandForm as commands
+use Rattle.dms_centre_lines.specs.CallReading.{keyword_of}
+use Rattle.dms_centre_lines.specs.declared.cause.CallCause.{CallCause}
+use Rattle.dms_centre_lines.specs.declared.cause.CallCause.TheVariants as causes
+use Rattle.dms_centre_lines.specs.declared.keyword.CentreKeyword.{CentreKeyword}
+use Rattle.dms_centre_lines.specs.declared.keyword.CentreKeyword.TheVariants as key
+
+-- ---- words
+
+-- the first word after the keyword that is not what is wanted there
+abbrev pub word_cause : List Wanted → List (List ℕ) → Option CallCause
+word_cause form words = option_map causes.Word (fault_from 2 form words)
+
+-- what is wrong with the words after `status`, where some are: the first is not `last`, or one stands after it
+abbrev pub last_cause : Option (List (List ℕ)) → Option CallCause
+last_cause None = Some causes.Last
+last_cause (Some rest) = option_map causes.Word (fault_from 3 [] rest)
+
+abbrev pub status_cause : List (List ℕ) → Option CallCause
+status_cause words = if is_end words then None else last_cause (keyword_at (codes "last") words)
+
+-- what is wrong with the words after a keyword
+abbrev pub words_cause : CentreKeyword → List (List ℕ) → Option CallCause
+words_cause (key.Command asked) words = word_cause (commands.form_after asked) words
+words_cause key.Datagram words = word_cause (wanted.Octets names.Datagram ∷ []) words
+words_cause key.Tick words = word_cause [] words
+words_cause key.Restart words = word_cause [] words
+words_cause key.Status words = status_cause words
+words_cause key.Save words = word_cause [] words
+
+-- ---- lines
+
+-- the keyword is the first word of its line
+abbrev pub cause_after : List (List ℕ) → Option CentreKeyword → Option CallCause
+cause_after words None = Some causes.Keyword
+cause_after words (Some keyword) = words_cause keyword words
+
+abbrev pub cause_at : Option (List ℕ × List (List ℕ)) → Option CallCause
+cause_at None = Some causes.Keyword
+cause_at (Some found) = cause_after found.1 (keyword_of found.0)
+
+-- the line begins with no word of a call, or the first word that is not what is wanted there
+abbrev pub call_cause : List ℕ → Option CallCause
+call_cause line = cause_at (word_at (words_of line))
+
+-- ---- texts
+
+abbrev pub call_cause_text : CallCause → List ℕ
+call_cause_text causes.Keyword = codes "no call begins with this word"
+call_cause_text causes.Last = codes "word 2: the word last, or the end of the line, is wanted"
+call_cause_text (causes.Word fault) = fault_text fault
+
+-- the answer to a line that is no call: why it is none
+abbrev pub bad_line_text : CallCause → List ℕ
+bad_line_text cause = ended (codes "bad line " ++ call_cause_text cause)
