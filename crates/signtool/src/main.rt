@@ -118,7 +118,7 @@
 //!
 //! `sign [--sign]` and `centre [--sign]` are a sign and a central system that other programs speak to, a line each way:
 //! `tick`, `show`, `status`, `datagram HEX` and the like. Each line is answered before the next one is read, and a line
-//! that asks for nothing that they know is answered `bad line`. `printf 'status\ntick\n' | signtool centre`:
+//! that asks for nothing that they know is answered `bad line` and why. `printf 'status\ntick\n' | signtool centre`:
 //!
 //! ```text
 //! idle

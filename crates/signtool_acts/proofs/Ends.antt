@@ -57,7 +57,7 @@ of_call (calls.Code words) input P Q so printed = so _ printed
 of_call (calls.Activation words) input P Q so printed = so _ printed
 of_call calls.Replay input P Q so printed = of_script input P Q so printed
 of_call (calls.Sign sign state) input P Q so printed = tt
-of_call (calls.Centre sign) input P Q so printed = tt
+of_call (calls.Centre sign state) input P Q so printed = tt
 
 -- ---- the end of the program
 

@@ -114,4 +114,4 @@ CarriesOut (calls.Activation words) input Printed =
     Printed (activation_answer words (address_of words.terms.address.now))
 CarriesOut calls.Replay input Printed = OfScript input Printed
 CarriesOut (calls.Sign sign state) input Printed = ⊤
-CarriesOut (calls.Centre sign) input Printed = ⊤
+CarriesOut (calls.Centre sign state) input Printed = ⊤

@@ -25,18 +25,23 @@ ghost use Rattle.signtool_acts.specs.CallAnswers.{reply_answer, answer_to, Carri
 ghost use Rattle.signtool_acts.specs.CallAnswers.{IsRefused};
 ghost use Rattle.dms_text_streams.specs.Lines.{left};
 ghost use Rattle.signtool_acts.specs.RestoredBefore.{BeginsIn};
+ghost use Rattle.signtool_acts.specs.RestoredCentre.{CentreBegins};
 ghost use Rattle.signtool_acts.specs.CallAnswers.{OfSign, OfDigits, OfScript};
 
 use crate::centre::live_centre;
 use crate::inputs::{described_before, described_whole, replayed};
 use crate::refusal::Refusal;
 use crate::restored::{RestoreRefusal, restored_before};
+use crate::restored_centre::{CentreRefusal, centre_restored_before};
 use dms_agent::Agent;
 use dms_agent_lines::LiveAgent;
+use dms_centre_lines::LiveCentre;
 use dms_replay::{ReplayFault, address, bench};
 use dms_sign::{Receipt, Sign};
 use dms_sign_text::Setup;
-use dms_text_streams::{ConversationFault, Counted, Failed, Input, Party, Sink, Source, converse};
+use dms_text_streams::{
+    ConversationFault, Counted, Failed, Input, InputFault, Party, Sink, Source, converse,
+};
 use dms_wire::Out;
 use hex::FromHexError;
 use signtool_calls::{Call, Drawing, Form, SignWanted, StateWanted};
@@ -123,7 +128,7 @@ pub fn carry_out<R: Read, W: Sink, E: Write>(
         }
         Call::Replay => print_report(alloc, reader, writer, errors),
         Call::Sign { sign, state } => be_sign(alloc, (sign, state), reader, writer, errors),
-        Call::Centre { sign } => be_centre(alloc, sign, reader, writer, errors),
+        Call::Centre { sign, state } => be_centre(alloc, (sign, state), reader, writer, errors),
     }
 }
 
@@ -168,10 +173,11 @@ fn sign_in<S: Source>(
     }
 }
 
-/// Answers the lines to a sign's central system that the standard input has, or has after the sign's description.
+/// Answers the lines to a sign's central system that the standard input has, or has after the sign's description and
+/// the central system's state.
 fn be_centre<R: Read, W: Sink, E: Write>(
     alloc: Global,
-    wanted: SignWanted,
+    (wanted, state): (SignWanted, StateWanted),
     reader: &mut R,
     writer: &mut W,
     errors: &mut E,
@@ -183,9 +189,27 @@ fn be_centre<R: Read, W: Sink, E: Write>(
         Ok(setup) => setup,
         Err(refusal) => return refusal.refuse(alloc, writer, errors),
     };
-    match live_centre(alloc, &setup) {
+    match centre_in(alloc, state, &setup, &mut input) {
         Ok(centre) => talk(alloc, centre, &mut input, writer, errors),
-        Err(_) => print_memory(writer, errors),
+        Err(refusal) => refusal.refuse(alloc, writer, errors),
+    }
+}
+
+/// The central system as it is made, or in the state that the input says before the conversation.
+fn centre_in<S: Source>(
+    alloc: Global,
+    state: StateWanted,
+    setup: &Setup,
+    input: &mut Input<S>,
+) -> Result<LiveCentre, CentreRefusal>
+    ensures centre { IfOk result
+        (λ s. CentreBegins state (left S.remaining input.old) setup.now s (left S.remaining input.new)) }
+{
+    match state {
+        StateWanted::New => live_centre(alloc, setup).or(Err(CentreRefusal::Input(
+            InputFault::Memory,
+        ))),
+        StateWanted::Restored => centre_restored_before(alloc, setup, input),
     }
 }
 

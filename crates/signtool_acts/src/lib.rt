@@ -17,6 +17,7 @@ mod inputs;
 pub mod laws;
 mod refusal;
 mod restored;
+mod restored_centre;
 mod unseen;
 
 pub use act::act_saying;
@@ -25,5 +26,6 @@ pub use dms_text_streams::Counted;
 pub use inputs::{described_before, described_whole, replayed};
 pub use refusal::Refusal;
 pub use restored::{RestoreRefusal, restored_before};
+pub use restored_centre::{CentreRefusal, centre_restored_before};
 pub use signtool_print::ExitStatus;
 pub use unseen::Unseen;

@@ -98,7 +98,7 @@ fn say_state<E: Write>(refusal: &StateRefusal, errors: &mut E) -> io::Result<()>
 }
 
 /// Prints which line of a state is refused: none where memory ran out.
-fn print_line<W: Sink, E: Write>(
+pub(crate) fn print_line<W: Sink, E: Write>(
     alloc: Global,
     line: Option<usize>,
     writer: &mut W,

@@ -51,6 +51,7 @@ pub enum Call<'a> {
     /// The answers of a sign's central system to the lines on the standard input, each before the next line is read.
     Centre {
         sign: SignWanted,
+        state: StateWanted,
     },
 }
 
@@ -63,7 +64,7 @@ pub enum SignWanted {
     Described,
 }
 
-/// In which state a sign begins a conversation.
+/// In which state a sign, or its central system, begins a conversation.
 #[derive(Clone, Copy, Debug, PartialEq, Eq)]
 pub enum StateWanted {
     /// As it is made.

@@ -125,6 +125,7 @@ fn call_without_numbers<'a>(name: &str, words: &ArgMatches<'a>) -> Option<Call<'
         }),
         "centre" => Some(Call::Centre {
             sign: sign_wanted(words),
+            state: state_wanted(words),
         }),
         _ => None,
     }
@@ -177,7 +178,7 @@ fn sign_wanted(words: &ArgMatches<'_>) -> SignWanted {
     }
 }
 
-/// In which state the words of a subcommand want a sign to begin.
+/// In which state the words of a subcommand want a sign, or its central system, to begin.
 fn state_wanted(words: &ArgMatches<'_>) -> StateWanted {
     if words.get_flag("restore") {
         StateWanted::Restored

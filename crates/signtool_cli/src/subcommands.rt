@@ -104,7 +104,7 @@ const SUBCOMMANDS: [Subcommand; 10] = [
     Subcommand {
         name: "centre",
         about: "Is a sign's central system: answers each line of the standard input, as `publish ..` or `tick`",
-        words: &[Word::Flag(Flag::Sign)],
+        words: &[Word::Flag(Flag::Sign), Word::Flag(Flag::Restore)],
     },
 ];
 

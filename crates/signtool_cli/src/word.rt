@@ -29,7 +29,7 @@ pub(crate) enum WantedWord {
 pub(crate) enum Flag {
     /// The sign is the one that the standard input describes.
     Sign,
-    /// The sign begins in the state that the standard input says.
+    /// The sign, or its central system, begins in the state that the standard input says.
     Restore,
     Json,
     Svg,

@@ -217,31 +217,36 @@ fn reads_the_command_line(rt: HostRuntime) -> Result<(), Fail> {
         return Err("no check".into());
     };
     assert!(rt; text == "A" && sign == SignWanted::Described && form == Form::Lines);
-    let Some(Call::Centre { sign }) = call_of(rt.alloc(), &["signtool", "centre"]) else {
-        return Err("no centre".into());
-    };
-    assert!(rt; sign == SignWanted::Bench);
     Ok(())
 }
 
-/// A sign is described or not, and begins in a state or not.
+/// A sign, and its central system, is described or not, and begins in a state or not.
 #[test]
-fn a_sign_begins_in_a_state(rt: HostRuntime) -> Result<(), Fail> {
-    for (line, wanted) in [
-        ("sign", (SignWanted::Bench, StateWanted::New)),
-        ("sign --sign", (SignWanted::Described, StateWanted::New)),
-        ("sign --restore", (SignWanted::Bench, StateWanted::Restored)),
+fn an_end_begins_in_a_state(rt: HostRuntime) -> Result<(), Fail> {
+    for (words, sign, state) in [
+        ("", SignWanted::Bench, StateWanted::New),
+        (" --sign", SignWanted::Described, StateWanted::New),
+        (" --restore", SignWanted::Bench, StateWanted::Restored),
         (
-            "sign --restore --sign",
-            (SignWanted::Described, StateWanted::Restored),
+            " --restore --sign",
+            SignWanted::Described,
+            StateWanted::Restored,
         ),
     ] {
-        let words = words_of(rt.alloc(), line)?;
-        let found = match call_of(rt.alloc(), &words) {
+        let line = format!(in rt.alloc(); "sign{words}")?;
+        let words_of_sign = words_of(rt.alloc(), line.as_str())?;
+        let found = match call_of(rt.alloc(), &words_of_sign) {
             Some(Call::Sign { sign, state }) => Some((sign, state)),
             _ => None,
         };
-        assert!(rt; found == Some(wanted), "for {line}");
+        assert!(rt; found == Some((sign, state)), "for {line}");
+        let line = format!(in rt.alloc(); "centre{words}")?;
+        let words_of_centre = words_of(rt.alloc(), line.as_str())?;
+        let found = match call_of(rt.alloc(), &words_of_centre) {
+            Some(Call::Centre { sign, state }) => Some((sign, state)),
+            _ => None,
+        };
+        assert!(rt; found == Some((sign, state)), "for {line}");
     }
     Ok(())
 }
@@ -277,6 +282,43 @@ fn a_conversation_goes_on_from_a_state(rt: HostRuntime) -> Result<(), Fail> {
 fn a_refused_state_is_told(rt: HostRuntime) {
     for (state, printed, said) in cases::NO_STATES {
         let found = told_on_input(rt.alloc(), "sign --restore", state, printed, said);
+        assert_eq!(rt; found, Some((1, true, true)), "for {state}");
+    }
+}
+
+/// A central system goes on where it was saved: what waits goes out again when its tick comes, and is answered once.
+#[test]
+fn a_centre_goes_on_from_a_state(rt: HostRuntime) -> Result<(), Fail> {
+    let state = cases::WAITING;
+    let asked = format!(in rt.alloc(); "{state}save\nrestart\nstatus\n")?;
+    let ledger =
+        "ledger 1 ffffff0700010000c0000201 accepted\nledger 2 ffffff0700020000c0000201 unknown\n";
+    let how = "idle\nlast failed at step 7: the central system was restarted\n";
+    let printed = format!(in rt.alloc(); "{state}ok\nok\n{how}{ledger}ok\n")?;
+    let found = called(
+        rt.alloc(),
+        "centre --restore",
+        asked.as_str(),
+        printed.as_str(),
+    );
+    assert_eq!(rt; found, Some((0, true)));
+    let described = format!(in rt.alloc(); "{}{state}save\n", cases::SMALL_SIGN)?;
+    let printed = format!(in rt.alloc(); "{state}ok\n")?;
+    let found = called(
+        rt.alloc(),
+        "centre --sign --restore",
+        described.as_str(),
+        printed.as_str(),
+    );
+    assert_eq!(rt; found, Some((0, true)));
+    Ok(())
+}
+
+/// The line of a central system's state that is refused is told, and why.
+#[test]
+fn a_refused_state_of_a_centre_is_told(rt: HostRuntime) {
+    for (state, printed, said) in cases::NO_CENTRES {
+        let found = told_on_input(rt.alloc(), "centre --restore", state, printed, said);
         assert_eq!(rt; found, Some((1, true, true)), "for {state}");
     }
 }

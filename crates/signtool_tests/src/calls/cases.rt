@@ -66,6 +66,57 @@ powered 0
 end
 ";
 
+/// A central system's state that has shown a blank, and waits for the reply to another one.
+pub const WAITING: &str = "\
+state 1 centre
+next 3
+last accepted
+awaits
+sends 2
+ticks 1
+step 7
+polls 0
+activate ffffff0700020000c0000201
+ledger 1 ffffff0700010000c0000201 accepted
+ledger 2 ffffff0700020000c0000201 waiting
+end
+";
+
+/// States that no central system is in: what is printed, and what is said.
+pub static NO_CENTRES: [(&str, &str, &str); 4] = [
+    // nothing
+    (
+        "",
+        "state line 1\n",
+        "state line 1: state 1 centre wanted\n",
+    ),
+    // a sign's
+    (
+        "state 1 sign\nend\n",
+        "state line 1\n",
+        "state line 1: state 1 centre wanted\n",
+    ),
+    // its second line is its last
+    (
+        "state 1 centre\nend\ntick\n",
+        "state line 2\n",
+        "state line 2: next and a number to 4294967295 wanted\n",
+    ),
+    // an entry that has the next number
+    (
+        "\
+state 1 centre
+next 3
+last accepted
+idle
+ledger 3 ffffff0700010000c0000201 accepted
+end
+",
+        "state line 5\n",
+        "state line 5: ledger and an entry of a number from 0 to 2 wanted\n",
+    ),
+];
+
 /// States that the bench sign is not in: what is printed, and what is said.
 pub static NO_STATES: [(&str, &str, &str); 5] = [
     // nothing
@@ -233,13 +284,20 @@ const TO_BENCH_AGAIN: Call<'static> = Call::Sign {
 /// A conversation with a central system that has the bench sign's settings.
 const TO_CENTRE: Call<'static> = Call::Centre {
     sign: SignWanted::Bench,
+    state: StateWanted::New,
+};
+
+/// The same in the state that is handed to it.
+const TO_CENTRE_AGAIN: Call<'static> = Call::Centre {
+    sign: SignWanted::Bench,
+    state: StateWanted::Restored,
 };
 
 /// Calls that read the whole standard input before anything is printed.
 pub const READ_FIRST: [Call<'static>; 4] = [CHECKED, DRAWN, ANSWERED, Call::Replay];
 
 /// Calls that read a description, and then a line at a time.
-pub const READ_BY_LINES: [Call<'static>; 3] = [
+pub const READ_BY_LINES: [Call<'static>; 4] = [
     Call::Sign {
         sign: SignWanted::Described,
         state: StateWanted::New,
@@ -250,6 +308,11 @@ pub const READ_BY_LINES: [Call<'static>; 3] = [
     },
     Call::Centre {
         sign: SignWanted::Described,
+        state: StateWanted::New,
+    },
+    Call::Centre {
+        sign: SignWanted::Described,
+        state: StateWanted::Restored,
     },
 ];
 
@@ -312,14 +375,14 @@ restart",
 idle
 last none
 ok
-bad line
+bad line no call begins with this word
 ok
 ",
     ),
 ];
 
 /// Calls in which memory may be refused: the standard input, what is printed where it is not, and the status.
-pub const ALLOCATING: [(Call<'static>, &str, &str, u8); 9] = [
+pub const ALLOCATING: [(Call<'static>, &str, &str, u8); 10] = [
     // a text is checked
     (CHECKED, SMALL_SIGN, "ok pages 1\n", 0),
     // its page is drawn
@@ -383,6 +446,8 @@ shown 7 1 0000 mode 10 priority 1 remaining 65535 text -
     (TO_CENTRE, "tick", "ok\n", 0),
     // a sign begins without power
     (TO_BENCH_AGAIN, WITHOUT_POWER, "", 0),
+    // a central system begins while a request of it waits
+    (TO_CENTRE_AGAIN, WAITING, "", 0),
 ];
 
 /// Datagrams to the bench sign in hexadecimal, what `answer` prints of each, and its status.
@@ -663,8 +728,8 @@ datagram -",
 ok
 shown 7 1 0000 mode 10 priority 1 remaining 65535 text -
 ok
-bad line
-bad line
+bad line no call begins with this word
+bad line word 2: the line ends where a number from 0 to 4294967295 is wanted
 reply 301802010004067075626c6963a20b0201010201000201003000
 dropped
 ",
@@ -688,7 +753,7 @@ page 1 on 10 off 0 back 0
 ok
 ok
 ok
-bad line
+bad line no call begins with this word
 ",
         0,
     ),
@@ -721,10 +786,10 @@ ok
         "centre --sign",
         SMALL_TALK,
         "\
-bad line
-bad line
-bad line
-bad line
+bad line no call begins with this word
+bad line no call begins with this word
+bad line no call begins with this word
+bad line no call begins with this word
 ",
         0,
     ),
@@ -985,7 +1050,7 @@ the standard input is empty: < FILE gives it one
 ];
 
 /// Words that are no call.
-pub static NO_CALLS: [&str; 21] = [
+pub static NO_CALLS: [&str; 20] = [
     // `replay` takes no word
     "replay A",
     // no call is named
@@ -1016,8 +1081,6 @@ pub static NO_CALLS: [&str; 21] = [
     "help",
     // a conversation reads its lines from the standard input
     "sign tick",
-    // a central system has no state that is read
-    "centre --restore",
     // no checksum
     "activation 3 1",
     // no memory has the type 1
