@@ -11,6 +11,7 @@ use dms_codes::{Activation, Order};
 use dms_sign::Sign;
 pub use dms_sign_text::put_shown;
 use dms_world::World;
+use itoa::Buffer;
 use std::alloc::{AllocError, Global};
 use std::io::Write;
 
@@ -62,9 +63,12 @@ fn put_accepted(
 ) -> Result<(), AllocError>
     ensures { OnOk result (report.new.items ≡ report.old.items ++ accepted_line order (number, code.now)) }
 {
-    write!(report, "accepted {number} ").or(Err(AllocError))?;
+    report.extend_from_slice(b"accepted ")?;
+    report.extend_from_slice(Buffer::new().format(number).as_bytes())?;
+    report.push(b' ')?;
     put_code(report, order, code)?;
-    writeln!(report).or(Err(AllocError))
+    report.push(b'\n')?;
+    Ok(())
 }
 
 fn put_all_accepted(
