@@ -1,12 +1,14 @@
-"""Why a description or a script is refused: the line, and the program's words for what is wrong with it."""
+"""Why a description or a script is refused: the line, and the program's words for what is wrong with it. And why a line
+to a live end is none of its calls."""
 
 from dataclasses import dataclass
 
-from . import forms, layout, text
+from . import forms, layout, published, text
 from .description import Row
 
 Cause = tuple[int, str]
 NO_END = "the text ends before its line `end`"
+_NO_LAST = "word 2: the word last, or the end of the line, is wanted"
 FAULTS = {
     3: "unsupported tag",
     4: "unsupported tag value",
@@ -66,12 +68,40 @@ def _with_unseen(cause: Cause | None, kept: list[tuple[int, bytes]]) -> Cause | 
     return cause
 
 
+def _of_line(kind: str, known: dict[bytes, list[forms.Wanted]], line: bytes) -> str | None:
+    """Why a line is none of a kind, of which each begins with a word that is known."""
+    word = line.split(b" ")[0]
+    if word not in known:
+        return f"no {kind} begins with this word"
+    return forms.fault([forms.word(word.decode()), *known[word]], line)
+
+
 def _of_event(line: bytes) -> str | None:
     """Why a line is no event."""
-    word = line.split(b" ")[0]
-    if word not in forms.EVENTS:
-        return "no event begins with this word"
-    return forms.fault([forms.word(word.decode()), *forms.EVENTS[word]], line)
+    return _of_line("event", forms.EVENTS, line)
+
+
+def of_agent_call(line: bytes) -> str | None:
+    """Why a line is no call of a live sign that has objects beside its own."""
+    words = line.split(b" ")
+    try:
+        if words[0] == b"object":
+            published.published(words[1:])
+            return None
+        if words[0] == b"no-object":
+            published.named_by(words[1:])
+    except ValueError as fault:
+        return str(fault)
+    known = forms.FIRMWARE_CALLS if words[0] in forms.FIRMWARE_CALLS else forms.SIGN_CALLS
+    return _of_line("call", known, line)
+
+
+def of_centre_call(line: bytes) -> str | None:
+    """Why a line is no call of a live centre. What stands behind `status` is nothing, or `last` alone."""
+    words = line.split(b" ")
+    if words[0] == b"status" and len(words) > 1:
+        return forms.fault(forms.STATUS_LAST, line) if words[1] == b"last" else _NO_LAST
+    return _of_line("call", forms.CENTRE_CALLS, line)
 
 
 def first(kept: list[tuple[int, bytes]], after: int) -> tuple[Cause | None, int]:

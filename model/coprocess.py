@@ -1,10 +1,10 @@
 """The model of model as a co-process, one line in and its answer out: a stand-in for `signtool sign` and `signtool
 centre`.
 
-    model/signtool sign [--sign] [--restore]       model/signtool centre [--sign]
+    model/signtool sign [--sign] [--restore]       model/signtool centre [--sign] [--restore]
 
 With --sign a description comes first, up to its line `end`; else the sign is the bench sign. With --restore the sign
-goes on from a state, which comes next, up to its line `end`.
+or the centre goes on from a state, which comes next, up to its line `end`.
 """
 
 import argparse
@@ -12,11 +12,13 @@ import functools
 import os
 import sys
 from collections.abc import Callable, Iterable
+from typing import TypeVar
 
-from . import layout, published, text
+from . import causes, layout, published, text
 from .agent import Agent
 from .description import Description
 from .restored import restore
+from .restored_centre import restored
 from .saved import saved
 from .saved_centre import saved as saved_centre
 from .state_text import Refused
@@ -37,6 +39,28 @@ def _print_lines(*lines: str) -> None:
         os._exit(1)
 
 
+_End = TypeVar("_End")
+_Answer = Callable[[_End, list[bytes]], list[str]]
+
+
+def _telling(cause: Callable[[bytes], str | None]) -> Callable[[_Answer[_End]], _Answer[_End]]:
+    """Has an end that refuses a line with a ValueError answer why it does."""
+
+    def of_end(answer: _Answer[_End]) -> _Answer[_End]:
+        @functools.wraps(answer)
+        def told(end: _End, words: list[bytes]) -> list[str]:
+            try:
+                if b"" in words:
+                    raise ValueError
+                return answer(end, words)
+            except ValueError:
+                return [f"bad line {cause(b' '.join(words))}"]
+
+        return told
+
+    return of_end
+
+
 def _firmware_answer(agent: Agent, words: list[bytes]) -> list[str] | None:
     """The lines that answer a line about objects beside a sign's; None where it is none."""
     keyword = words[0]
@@ -54,6 +78,7 @@ def _firmware_answer(agent: Agent, words: list[bytes]) -> list[str] | None:
     return None
 
 
+@_telling(causes.of_agent_call)
 def sign_answer(agent: Agent, words: list[bytes]) -> list[str]:
     """The lines that answer a line to a sign."""
     keyword, sign = words[0], agent.sign
@@ -92,6 +117,7 @@ def sign_answer(agent: Agent, words: list[bytes]) -> list[str]:
     return ["ok"]
 
 
+@_telling(causes.of_centre_call)
 def centre_answer(world: text.World, words: list[bytes]) -> list[str]:
     """The lines that answer a line to a centre."""
     centre, keyword = world.centre, words[0].decode("latin-1")
@@ -122,14 +148,8 @@ def centre_answer(world: text.World, words: list[bytes]) -> list[str]:
 
 
 def answered(answer: Callable[[list[bytes]], list[str]], line: bytes) -> list[str]:
-    """The lines that answer a line, of an end that answers words."""
-    try:
-        words = line.split(b" ")
-        if b"" in words or len(line) > _MOST_LINE:
-            raise ValueError
-        return answer(words)
-    except ValueError:
-        return ["bad line"]
+    """The lines that answer a line, of an end that answers words. One that is too long is not looked at."""
+    return ["bad line"] if len(line) > _MOST_LINE else answer(line.split(b" "))
 
 
 def up_to_end(lines: Iterable[bytes]) -> bytes:
@@ -153,36 +173,49 @@ def _described(has_description: bool) -> Description:
     sys.exit(1)
 
 
-def _agent(described: Description, has_state: bool) -> Agent:
-    """The sign, where a state leaves it, if one comes; one that is refused is the end."""
-    agent = Agent(described)
-    state = up_to_end(sys.stdin.buffer) if has_state else None
-    if state is not None and len(state) > text.MOST_INPUT:
+def _state() -> bytes:
+    """The text of a state; one that is too long is the end."""
+    state = up_to_end(sys.stdin.buffer)
+    if len(state) > text.MOST_INPUT:
         _print_lines("too long")
         sys.exit(1)
+    return state
+
+
+def _agent(described: Description, has_state: bool) -> Agent:
+    """The sign, where a state leaves it, if one comes."""
+    agent = Agent(described)
+    if has_state:
+        restore(agent.sign.state, _state())
+    return agent
+
+
+def _world(described: Description, has_state: bool) -> text.World:
+    """The same of the centre."""
+    world = text.World(described)
+    if has_state:
+        world.centre = restored(described.writer, described.swapped, _state())
+    return world
+
+
+def _answering(end: str, described: Description, has_state: bool) -> Callable[[list[bytes]], list[str]]:
+    """What answers the words of a line; a state that is refused is the end."""
     try:
-        if state is not None:
-            restore(agent.sign.state, state)
+        if end == "sign":
+            return functools.partial(sign_answer, _agent(described, has_state))
+        return functools.partial(centre_answer, _world(described, has_state))
     except Refused as refused:
         _print_lines(f"state line {refused.line}")
         sys.exit(f"state {refused}")
-    return agent
 
 
 def main() -> int:
     parser = argparse.ArgumentParser(description=__doc__, formatter_class=argparse.RawDescriptionHelpFormatter)
     parser.add_argument("end", choices=("sign", "centre"), help="which end answers")
     parser.add_argument("--sign", action="store_true", help="a description comes first")
-    parser.add_argument("--restore", action="store_true", help="then a sign's state comes")
+    parser.add_argument("--restore", action="store_true", help="then a state comes")
     asked = parser.parse_args()
-    if asked.restore and asked.end == "centre":
-        parser.error("--restore is of a sign")
-    described = _described(asked.sign)
-    answer: Callable[[list[bytes]], list[str]]
-    if asked.end == "sign":
-        answer = functools.partial(sign_answer, _agent(described, asked.restore))
-    else:
-        answer = functools.partial(centre_answer, text.World(described))
+    answer = _answering(asked.end, _described(asked.sign), asked.restore)
     for line in map(without_newline, sys.stdin.buffer):
         _print_lines(*answered(answer, line))
     return 0

@@ -8,7 +8,7 @@ from . import text
 
 
 @dataclass(frozen=True)
-class _Wanted:
+class Wanted:
     """What a word is to be: in words, and whether one is."""
 
     words: str
@@ -28,32 +28,32 @@ def _is_read(read: Callable[[bytes], object]) -> Callable[[bytes], bool]:
     return takes
 
 
-def word(known: str) -> _Wanted:
+def word(known: str) -> Wanted:
     """This word."""
-    return _Wanted(f"the word {known}", lambda found: found == known.encode())
+    return Wanted(f"the word {known}", lambda found: found == known.encode())
 
 
-def number(least: int, most: int, digits: int = 5) -> _Wanted:
-    return _Wanted(f"a number from {least} to {most}", _is_read(lambda found: text.number(found, least, most, digits)))
+def number(least: int, most: int, digits: int = 5) -> Wanted:
+    return Wanted(f"a number from {least} to {most}", _is_read(lambda found: text.number(found, least, most, digits)))
 
 
-def octets(name: str) -> _Wanted:
-    return _Wanted(f"{name} in hexadecimal", _is_read(text.octets))
+def octets(name: str) -> Wanted:
+    return Wanted(f"{name} in hexadecimal", _is_read(text.octets))
 
 
-def hexadecimal(name: str, digits: int) -> _Wanted:
+def hexadecimal(name: str, digits: int) -> Wanted:
     """Just so many digits."""
-    return _Wanted(name, lambda found: re.fullmatch(rb"[0-9a-fA-F]{%d}" % digits, found))
+    return Wanted(name, lambda found: re.fullmatch(rb"[0-9a-fA-F]{%d}" % digits, found))
 
 
-def _any_word(name: str) -> _Wanted:
-    return _Wanted(name, lambda found: True)
+def _any_word(name: str) -> Wanted:
+    return Wanted(name, lambda found: True)
 
 
 _SIZE, _OCTET, LONG = number(0, 65535), number(0, 255), number(0, 2**32 - 1, 10)
 _SWITCH = number(0, 1)
-_ORDER = _Wanted("high or swapped", lambda found: found in (b"high", b"swapped"))
-ADDRESS = _Wanted("an address, as 192.0.2.1,", _is_read(text.address))
+_ORDER = Wanted("high or swapped", lambda found: found in (b"high", b"swapped"))
+ADDRESS = Wanted("an address, as 192.0.2.1,", _is_read(text.address))
 _CODE = hexadecimal("a code of 24 hexadecimal digits", 24)
 VERSION = hexadecimal("a version of four hexadecimal digits", 4)
 TEXT, OWNER, _PICTURE, _DATAGRAM = map(octets, ("a text", "an owner", "a picture", "a datagram"))
@@ -74,7 +74,7 @@ FONT = [
 ]
 GLYPH = [word("glyph"), number(1, 65535), number(1, 32), _PICTURE]
 END = [word("end")]
-EVENTS: dict[bytes, list[_Wanted]] = {
+EVENTS: dict[bytes, list[Wanted]] = {
     b"publish": [_OCTET, _SIZE, TEXT, OWNER, _OCTET, _OCTET, _OCTET, _SIZE, _OCTET, ADDRESS],
     b"blank": [_SIZE, _SIZE, _OCTET, ADDRESS],
     b"activate": [_CODE],
@@ -88,9 +88,26 @@ EVENTS: dict[bytes, list[_Wanted]] = {
     b"forge-sign": [_DATAGRAM],
     b"forge-centre": [_DATAGRAM],
 }
+FIRMWARE_CALLS: dict[bytes, list[Wanted]] = {
+    b"no-object": [_any_word("a name")],
+    b"fonts": [],
+    b"objects": [],
+}
+SIGN_CALLS: dict[bytes, list[Wanted]] = {
+    b"datagram": [_DATAGRAM],
+    b"ticks": [LONG],
+    b"power-back": [LONG],
+    **{keyword: [] for keyword in (b"tick", b"heard", b"power-lost", b"show", b"state", b"save")},
+}
+CENTRE_CALLS: dict[bytes, list[Wanted]] = {
+    **{keyword: EVENTS[keyword] for keyword in (b"publish", b"blank", b"activate")},
+    b"datagram": [_DATAGRAM],
+    **{keyword: [] for keyword in (b"tick", b"restart", b"status", b"save")},
+}
+STATUS_LAST = [word("status"), word("last")]
 
 
-def fault(form: list[_Wanted], line: bytes) -> str | None:
+def fault(form: list[Wanted], line: bytes) -> str | None:
     """What is wrong with the first word of a line that is not what its form wants."""
     found = line.split(b" ")
     for place, wanted in enumerate(form):

@@ -5,6 +5,7 @@ import re
 from . import text, wire
 from .device import Access, Object
 
+_NO_ACCESS = "after the value an access is wanted, as number 0 7, or the end of the line"
 _LEAST, _MOST = -(2**31), 2**32 - 1
 _COUNTED = {b"Counter": wire.COUNTER, b"Gauge": wire.GAUGE, b"TimeTicks": wire.TICKS}
 _WORDS = {
@@ -72,12 +73,24 @@ def _access(words: list[bytes]) -> Access | None:
 
 
 def published(words: list[bytes]) -> Object:
-    """The object of a line's words behind the first; raises ValueError."""
+    """The object of a line's words behind the first; raises ValueError, which says what is not there."""
+    named = named_by(words)
     try:
         value, rest = _value(words[1:])
-    except IndexError:
-        raise ValueError from None
-    return Object(name(words[0]), value, _access(rest))
+    except (ValueError, IndexError):
+        raise ValueError("word 3: a value is wanted, as INTEGER 7") from None
+    try:
+        return Object(named, value, _access(rest))
+    except ValueError:
+        raise ValueError(_NO_ACCESS) from None
+
+
+def named_by(words: list[bytes]) -> wire.Name:
+    """The name that a line's words behind the first begin with; raises ValueError, which says that there is none."""
+    try:
+        return name(words[0])
+    except (ValueError, IndexError):
+        raise ValueError("word 2: the name of an object is wanted, as 1.3.6.1") from None
 
 
 def dotted(numbers: wire.Name) -> str:

@@ -23,7 +23,7 @@ _KINDS = [GET, GET, GET_NEXT, GET_NEXT, SET, SET, SET]
 
 def knows(process: CoProcess, line: str) -> bool:
     """Whether a live sign knows a line about objects, which it is handed: `objects`, or `fonts`."""
-    return process.send(line) != ["bad line"]
+    return not process.send(line)[0].startswith("bad line")
 
 
 def has_fonts(process: CoProcess, size: int) -> bool:

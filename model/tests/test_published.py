@@ -10,6 +10,9 @@ from model.agent import Agent
 OWN = "refused the sign has an object of this name"
 UNFIT = "refused the value is not one that its access takes"
 NONE = "refused there is no object of this name"
+NO_NAME = "bad line word 2: the name of an object is wanted, as 1.3.6.1"
+NO_VALUE = "bad line word 3: a value is wanted, as INTEGER 7"
+NO_ACCESS = "bad line after the value an access is wanted, as number 0 7, or the end of the line"
 LONGEST = ".".join(["1", "3"] + ["4294967295"] * 126)
 
 
@@ -54,41 +57,41 @@ def answers(*lines: str) -> list[list[str]]:
         ("1.3.6.1.4.1.1206.4.2.3.2.3.0 INTEGER 14 number 0 1", UNFIT),
         ("1.3.6.1.4.1.1206.4.2.3.5.8.1.9.7.255 NULL", OWN),
         ("1.3.6.1.4.1.1206.4.2.3.2.3 NULL", "ok"),
-        ("1.3", "bad line"),
-        ("", "bad line"),
-        ("1 NULL", "bad line"),
-        ("1. NULL", "bad line"),
-        (".1.3 NULL", "bad line"),
-        ("3.1 NULL", "bad line"),
-        ("1.40 NULL", "bad line"),
-        ("0.40 NULL", "bad line"),
-        ("2.4294967216 NULL", "bad line"),
-        ("1.3.4294967296 NULL", "bad line"),
-        ("1.3.00000000001 NULL", "bad line"),
-        (f"{LONGEST}.1 NULL", "bad line"),
-        ("1.3 NULL -", "bad line"),
-        ("1.3 INTEGER", "bad line"),
-        ("1.3 INTEGER +1", "bad line"),
-        ("1.3 INTEGER --1", "bad line"),
-        ("1.3 INTEGER 4294967296", "bad line"),
-        ("1.3 INTEGER -2147483649", "bad line"),
-        ("1.3 INTEGER 00000000001", "bad line"),
-        ("1.3 integer 1", "bad line"),
-        ("1.3 OCTET 41", "bad line"),
-        ("1.3 STRING 41", "bad line"),
-        ("1.3 OCTET STRING 4", "bad line"),
-        ("1.3 OCTET STRING", "bad line"),
-        ("1.3 OBJECT IDENTIFIER 3.1", "bad line"),
-        ("1.3 IpAddress 192.0.2", "bad line"),
-        ("1.3 IpAddress 192.0.2.256", "bad line"),
-        ("1.3 Counter -1", "bad line"),
-        ("1.3 Counter 4294967296", "bad line"),
-        ("1.3 INTEGER 3 number 4", "bad line"),
-        ("1.3 INTEGER 3 number 3 3 3", "bad line"),
-        ("1.3 INTEGER 3 number 0 4294967296", "bad line"),
-        ("1.3 OCTET STRING - octets 0 65536", "bad line"),
-        ("1.3 OCTET STRING - octets -1 9", "bad line"),
-        ("1.3 INTEGER 3 Number 0 9", "bad line"),
+        ("1.3", NO_VALUE),
+        ("", NO_NAME),
+        ("1 NULL", NO_NAME),
+        ("1. NULL", NO_NAME),
+        (".1.3 NULL", NO_NAME),
+        ("3.1 NULL", NO_NAME),
+        ("1.40 NULL", NO_NAME),
+        ("0.40 NULL", NO_NAME),
+        ("2.4294967216 NULL", NO_NAME),
+        ("1.3.4294967296 NULL", NO_NAME),
+        ("1.3.00000000001 NULL", NO_NAME),
+        (f"{LONGEST}.1 NULL", NO_NAME),
+        ("1.3 NULL -", NO_ACCESS),
+        ("1.3 INTEGER", NO_VALUE),
+        ("1.3 INTEGER +1", NO_VALUE),
+        ("1.3 INTEGER --1", NO_VALUE),
+        ("1.3 INTEGER 4294967296", NO_VALUE),
+        ("1.3 INTEGER -2147483649", NO_VALUE),
+        ("1.3 INTEGER 00000000001", NO_VALUE),
+        ("1.3 integer 1", NO_VALUE),
+        ("1.3 OCTET 41", NO_VALUE),
+        ("1.3 STRING 41", NO_VALUE),
+        ("1.3 OCTET STRING 4", NO_VALUE),
+        ("1.3 OCTET STRING", NO_VALUE),
+        ("1.3 OBJECT IDENTIFIER 3.1", NO_VALUE),
+        ("1.3 IpAddress 192.0.2", NO_VALUE),
+        ("1.3 IpAddress 192.0.2.256", NO_VALUE),
+        ("1.3 Counter -1", NO_VALUE),
+        ("1.3 Counter 4294967296", NO_VALUE),
+        ("1.3 INTEGER 3 number 4", NO_ACCESS),
+        ("1.3 INTEGER 3 number 3 3 3", NO_ACCESS),
+        ("1.3 INTEGER 3 number 0 4294967296", NO_ACCESS),
+        ("1.3 OCTET STRING - octets 0 65536", NO_ACCESS),
+        ("1.3 OCTET STRING - octets -1 9", NO_ACCESS),
+        ("1.3 INTEGER 3 Number 0 9", NO_ACCESS),
     ],
 )
 def test_object(words: str, wanted: str) -> None:
@@ -103,8 +106,8 @@ def test_what_is_withdrawn_is_gone() -> None:
         ["ok"],
         ["ok"],
         [NONE],
-        ["bad line"],
-        ["bad line"],
+        [NO_NAME],
+        [NO_NAME],
     ]
 
 
@@ -124,7 +127,7 @@ def test_what_was_set_is_printed_as_it_is_published() -> None:
         ["set 1.3.6.1.2.1.1.4.0 OCTET STRING 0a", "set 1.3.6.1.2.1.1.6.0 OCTET STRING 0a", "ok"],
         ["ok"],
         ["set 1.3.6.1.2.1.1.6.0 OCTET STRING 0a", "ok"],
-        ["bad line"],
+        ["bad line word 2: no more words are wanted"],
     ]
 
 
@@ -136,7 +139,7 @@ def test_fonts_stand_before_objects() -> None:
         ["refused objects are published already"],
         ["ok"],
         ["ok"],
-        ["bad line"],
+        ["bad line word 2: no more words are wanted"],
     ]
 
 

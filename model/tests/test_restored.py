@@ -150,5 +150,4 @@ def test_a_process_refuses_a_state() -> None:
     )
     assert of_process(b"save\n", "sign", "--restore")[:2] == (1, b"state line 1\n")
     assert of_process(b"", "sign", "--sign", "--restore")[:2] == (1, b"line 1\n")
-    assert of_process(b"", "centre", "--restore")[0] == 2
     assert of_process(b"#\n" * 524_288 + b"#", "sign", "--restore")[:2] == (1, b"too long\n")

@@ -11,6 +11,7 @@ from model.restored_centre import restored
 from model.saved_centre import saved
 from model.state_text import Refused
 
+from .test_restored import of_process
 from .test_saved_centre import TEXTS
 
 STATES = sorted(name for name in TEXTS if name.endswith("_STATE"))
@@ -145,3 +146,30 @@ def test_talks_go_on_the_same() -> None:
             assert text_of(other.centre) == text_of(talk.world.centre)
             talk.hears(answer)
     assert kinds == {"idle", "awaits", "due"}
+
+
+def test_a_process_goes_on_from_a_state() -> None:
+    octets = TEXTS["FILLING_STATE"].encode()
+    wanted = (0, octets + b"ok\n", b"")
+    assert of_process(octets + b"save\n", "centre", "--restore") == wanted
+    assert of_process(text.BENCH + octets + b"save", "centre", "--sign", "--restore") == wanted
+
+
+def test_what_waited_goes_out_again() -> None:
+    sent = of_process(b"activate ffff050300019a66c0000207\ntick\ntick\nsave\n", "centre")[1].splitlines()
+    state = b"\n".join(sent[3:-1]) + b"\n"
+    again = of_process(state + b"tick\nblank 1 0 0 0.0.0.0\n", "centre", "--restore")[1].splitlines()
+    assert sent[0].startswith(b"send ") and again == [sent[0], b"refused a job is not done yet"]
+
+
+def test_a_process_refuses_a_state() -> None:
+    octets = BLANK.replace("sends 1", "sends 4").encode()
+    assert of_process(octets + b"save\n", "centre", "--restore") == (
+        1,
+        b"state line 5\n",
+        b"state line 5: sends and a number from 1 to 3 wanted\n",
+    )
+    assert of_process(b"save\n", "centre", "--restore")[:2] == (1, b"state line 1\n")
+    assert of_process(b"", "centre", "--sign", "--restore")[:2] == (1, b"line 1\n")
+    assert of_process(b"state 1 sign\nend\n", "centre", "--restore")[1] == b"state line 1\n"
+    assert of_process(b"#\n" * 524_288 + b"#", "centre", "--restore")[:2] == (1, b"too long\n")

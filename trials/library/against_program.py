@@ -81,8 +81,11 @@ def walk() -> list[str]:
 
 
 def _as_told(answer: str) -> str:
-    """An answer of the program as the library gives it: without what is accepted, and which value is out of range."""
+    """An answer of the program as the library gives it: without what is accepted, which value is out of range, and why
+    a line is none."""
     word, _, rest = answer.partition(" ")
+    if word == "bad":
+        return "bad line"
     if word == "refused":
         return answer.partition(": ")[0]
     return f"reply {rest.partition(' ')[2]}" if word == "accepted" else answer
