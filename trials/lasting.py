@@ -29,6 +29,7 @@ from wisangub.process.places import SIGNTOOL
 from .front_ends import (
     bits,
     centres,
+    centres_shortened,
     dimmed,
     disks,
     downs,
@@ -69,6 +70,7 @@ _KINDS = {
     "parts": _Kind(parts.run, is_ours=True),
     "kills": _Kind(lambda trial: kills.run(trial, 24 if trial.is_short else 1000), 11.0),
     "shortened": _Kind(shortened.run, 8.0),
+    "shortened-centres": _Kind(lambda trial: centres_shortened.run(trial, 4 if trial.is_short else 200), 8.0, True),
     "faults": _Kind(faults.run, 8.0),
     "centres": _Kind(lambda trial: centres.run(trial, 6 if trial.is_short else 200), 11.0, True),
     "files": _Kind(files.run, 6.0),
@@ -111,7 +113,7 @@ def _all_tried(trial: Trial, only: str | None) -> None:
     PACE.most = _MOST_PATIENCE if trial.is_short else PACE.most
     trial.measure()
     print(f"a front end starts in {PACE.start():.2f} s: waits of at most {PACE.patience():.0f} s", flush=True)
-    kinds = [(name, kind) for name, kind in _KINDS.items() if only in (None, name)]
+    kinds = [(name, kind) for name, kind in _KINDS.items() if only is None or name.split("-")[0] == only]
     for at, (name, kind) in enumerate(kinds):
         if kind.is_ours and not trial.is_ours(name):
             continue
@@ -133,7 +135,9 @@ def main() -> int:
     options.add_argument("--short", action="store_true", help="at most two minutes")
     options.add_argument("--seed", type=int, default=1, help="of all that is random: the same again gives the same")
     options.add_argument("--front-end", metavar="PATH", help="another sign's front end, such as examples/out/signd")
-    options.add_argument("--only", choices=sorted(_KINDS), help="one kind of trial alone")
+    options.add_argument(
+        "--only", choices=sorted({name.split("-")[0] for name in _KINDS}), help="one kind of trial alone"
+    )
     asked = options.parse_args()
     if not os.access(asked.program, os.X_OK):
         print(f"no program at {asked.program}: tools/build.py builds it", file=sys.stderr)

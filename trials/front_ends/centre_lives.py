@@ -9,6 +9,7 @@ import subprocess
 import time
 
 from model import text, wire
+from model.centre import Centre
 
 from .bench import FrontEnd, Trial
 from .follower import lines_of
@@ -25,6 +26,7 @@ class Centres:
 
     def __init__(self, trial: Trial, relay: Relay, path: pathlib.Path) -> None:
         self.trial, self.relay, self.path = trial, relay, path
+        self.words = ["--journal", str(path), "--keep", "1000M"]  # most trials read all its lines
         self.commands = self.killed = 0
         self.takes = 1.5  # seconds of a life that is not killed
         self.printed: set[str] = set()
@@ -44,8 +46,7 @@ class Centres:
             "wisangub-centre",
             "--to",
             f"127.0.0.1:{self.relay.port()}",
-            "--journal",
-            str(self.path),
+            *self.words,
             "--tick",
             "0.15",
             "--wait",
@@ -134,13 +135,23 @@ class Centres:
     def foretold(self) -> list[str]:
         """The status that the model has after the journal's lines."""
         world = text.World(text.bench())
-        centre = world.centre
         for line in lines_of(self.path.read_bytes())[1:]:
-            words = line.split(b" ")
-            if words[0] == b"datagram":
-                centre.receive(text.octets(words[1]))
-            elif words[0] == b"tick":
-                centre.tick()
-            else:
-                centre.command(text.event(words, False))
-        return ["busy" if centre.job else "idle", f"last {centre.last or 'none'}", *world.report()[3:]]
+            take(world.centre, line)
+        return status_of(world)
+
+
+def take(centre: Centre, line: bytes) -> None:
+    """What a recorded line does to the model's centre."""
+    words = line.split(b" ")
+    if words[0] == b"datagram":
+        centre.receive(text.octets(words[1]))
+    elif words[0] == b"tick":
+        centre.tick()
+    else:
+        centre.command(text.event(words, False))
+
+
+def status_of(world: text.World) -> list[str]:
+    """The status that the model's centre has."""
+    centre = world.centre
+    return ["busy" if centre.job else "idle", f"last {centre.last or 'none'}", *world.report()[3:]]

@@ -46,7 +46,7 @@ _COMMANDS = [  # what is commanded, the exit status, and what is told
     ("blank 0 65535 255 127.0.0.1", 1, "refused a value is out of its range: NUMBER"),
     ("status", 0, "last none"),
     ("tick", 1, "bad line"),
-    ("blank x", 1, "bad line"),
+    ("blank x", 1, "bad line word 2: a number from 0 to 65535 is wanted"),
     ('publish-text 3 1 "\u20ac" - 0 0 9 65535 255 127.0.0.1', 1, "bad line: TEXT: character 1, U+20AC"),
     ('publish-text 3 1 "AB" "me" 0 0 9 65535 255 127.0.0.1', 0, "last accepted"),
     ("blank 5 65535 8 127.0.0.1", 1, "last failed at step 7: the sign refused the activation for cause 3, priority"),

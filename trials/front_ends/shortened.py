@@ -36,7 +36,8 @@ _CALLS = ("rename", "link", "fsync", "open", "write")  # at each of which it is 
 _MOST_EVER = 3e6  # octets of a journal, and of the one that is written beside it
 
 
-def _number(path: pathlib.Path) -> int:
+def number(path: pathlib.Path) -> int:
+    """The number of a file that was cut off."""
     return int(path.name.rpartition("-")[2])
 
 
@@ -52,12 +53,12 @@ class _Follower(Follower):
         """What is new, file by file. The one in force is opened first, since it may be shortened meanwhile: what was
         cut off behind it is for the next time."""
         with open(self.path, "rb") as journal:
-            for path in sorted(self.kept.glob("journal.*-*"), key=_number):
+            for path in sorted(self.kept.glob("journal.*-*"), key=number):
                 if os.path.samestat(path.stat(), os.fstat(journal.fileno())):
                     break
-                if _number(path) > self.done:
+                if number(path) > self.done:
                     self.read(trial, name, path.read_bytes())
-                    self.done, self.seen, self.number = _number(path), b"", 1
+                    self.done, self.seen, self.number = number(path), b"", 1
             self.read(trial, name, journal.read())
         for octets, is_answered in self.asked[self.at :]:
             trial.holds(f"{name}: what was answered is in the journal", not is_answered, octets.hex())

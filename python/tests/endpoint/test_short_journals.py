@@ -210,7 +210,7 @@ def test_a_program_without_restore_is_refused(path: pathlib.Path, tmp_path: path
     assert status == 2 and f"status 2 ({path} has a state, which needs its option --restore)" in said
     path.unlink()
     with served("--journal", str(path), "--signtool", str(old)) as front_end:
-        front_end.hang_up(f"{path} is not shortened: another process of the sign does not go on from its state")
+        front_end.hang_up(f"{path} is not shortened: {old} has no call `sign --restore`: the journal only grows")
         count(front_end, range(1, 3))
         assert front_end.end() == 0
     assert not opened(str(path)).state()

@@ -134,7 +134,7 @@ def test_a_state_that_another_process_does_not_take_is_not_used(keeper: Keeper, 
 
 
 def test_a_program_that_cannot_say_its_state_is_left_alone(keeper: Keeper, told: list[str]) -> None:
-    shortening, trial = Shortening(1, Taken(), None, None), Sign([b"bad line"])
+    shortening, trial = Shortening(1, Taken(), None, None), Sign([b"bad line no call begins with this word"])
     shortening.turn(trial, keeper)
     assert told == [f"{keeper.journal.path} is not shortened: the program has no line `save`"]
 

@@ -181,12 +181,6 @@ def test_what_no_state_is_or_stands_elsewhere_is_refused_by_name(path: str, line
     assert os.listdir(os.path.dirname(path)) == ["journal"]
 
 
-def test_a_centres_journal_has_no_state(path: str) -> None:
-    head = Head("centre", "bench", 5)
-    pathlib.Path(path).write_bytes(records.records([head._replace(form=2).line(), b"state 1 centre", b"end"]))
-    assert "is 'state 1 centre': no centre knows this line" in refused(lambda: Journal.opened(path, head))
-
-
 CALLS = ("open", "write", "fsync", "link", "rename", "unlink")
 
 

@@ -27,7 +27,11 @@ ROWS = [
         "failed at step 7: the sign refused the activation for cause 6, messageNumber",
     ),
     ("a value out of its range", f"blank 0 65535 255 {ADDRESS}", "refused a value is out of its range: NUMBER"),
-    ("a command that is none", "blank 1", "bad line"),
+    (
+        "a command that is none",
+        "blank 1",
+        "bad line word 3: the line ends where a number from 0 to 65535 is wanted",
+    ),
     ("a line that is no command", "restart", "bad line"),
     ("two lines", f"blank 1 1 1 {ADDRESS}\ntick", "bad line"),
     (

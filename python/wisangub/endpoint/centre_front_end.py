@@ -16,6 +16,7 @@ from .files import NotKept
 from .journal import Journal
 from .log import Log
 from .questions import Questions
+from .shortening import Shortening, Synced
 from .sockets import Address, Strays, Waiting, named, received, sent
 from .texts import ended, published
 
@@ -33,7 +34,7 @@ def last_command(chunks: Iterable[list[bytes]]) -> str:
 
 class CentreFrontEnd:
     """`tick` is the time from tick to tick, `wait` how long a command may take, in seconds. `questions` are those to a
-    sign that found a row in error."""
+    sign that found a row in error. A journal is shortened where there is one."""
 
     def __init__(
         self,
@@ -44,11 +45,12 @@ class CentreFrontEnd:
         tick: float,
         wait: float,
         questions: Questions | None = None,
+        shortening: Shortening | None = None,
     ) -> None:
         self.centre, self.udp_socket, self.journal, self.log = centre, udp_socket, journal, log
         self.every, self.wait, self.mib = tick, wait, Mib.read()
         self.to: Address = udp_socket.getpeername()
-        self.waiting, self.questions = Waiting(), questions
+        self.waiting, self.questions, self.shortening = Waiting(), questions, shortening
         self.strays = Strays(udp_socket)
         self.line, self.heard = "", b""  # the last command, and the last datagram that was handed over
         self.is_busy = self.has_job()
@@ -60,6 +62,14 @@ class CentreFrontEnd:
     def has_job(self) -> bool:
         """Whether a job is under way; the ledger, which grows, is not asked for."""
         return self.centre.ask(b"status last")[0] == b"busy"
+
+    def turn(self) -> float:
+        """Between two lines the journal is shortened, where it is long or that is asked for: each line before is handed
+        over, and what goes out with it was sent. The seconds that it took, in which nothing is heard."""
+        begun = time.monotonic()
+        if self.shortening and self.journal:
+            self.shortening.turn(self.centre, Synced(self.journal))
+        return time.monotonic() - begun
 
     def hand(self, line: bytes) -> bytes:
         """Records a line, hands it over, and sends what goes out: the answer. A centre that sends is busy."""
@@ -86,6 +96,7 @@ class CentreFrontEnd:
         begun = time.monotonic()
         ends, due = begun + wait, begun + self.every
         while self.is_busy:
+            due += self.turn()
             now = time.monotonic()
             if now >= ends or self.waiting.is_stopped:
                 return False

@@ -2,19 +2,20 @@
 
 import os
 import sys
-from typing import Iterator
+from typing import Callable, Iterator
 
 from .sockets import Waiting
 
 MOST_LINE = 65_536
 
 
-def lines(waiting: Waiting) -> Iterator[str | None]:
+def lines(waiting: Waiting, between: Callable[[], object] = lambda: None) -> Iterator[str | None]:
     """Each line without spaces around it; None for one that is no UTF-8, or too long. Empty ones and comments are
-    skipped."""
+    skipped. Before each one, and after each signal, something else may be done."""
     left, has_more, is_long = b"", sys.stdin is not None, False
     file = sys.stdin.fileno() if has_more else -1
     while not waiting.is_stopped and (has_more or left or is_long):
+        between()
         if has_more and b"\n" not in left:
             if len(left) > MOST_LINE:
                 left, is_long = b"", True

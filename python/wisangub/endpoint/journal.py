@@ -198,14 +198,14 @@ class Journal:
         return number
 
     def exchange(self, state: list[bytes], keep: Callable[[], object]) -> None:
-        """Another file is in force from here on, which begins with the state in which the records left the sign; the
-        old one is kept before. Where the disk refuses it stays as it is: NotKept."""
+        """Another file is in force from here on, which begins with the state in which the records left the end; the old
+        one is kept before. Where the disk refuses it stays as it is: NotKept."""
+        if not self.is_ready:
+            self.prepare()
         if not stands(self.file, self.place, self.size):
             raise Refusal(f"{self.path}: another hand moved or changed it", 1)
-        _, last = reading.started(self.text(), self.size)
-        if last is None:
-            raise NotKept(f"{self.path}: no record of it tells the time", 1)
-        lines = [self.head.line(), *states.written(state, self.sets, last)]
+        head, behind = self.shortened(state)
+        lines = [head.line(), *behind]
         octets = records(lines)
 
         def begun(file: int) -> None:
@@ -219,9 +219,23 @@ class Journal:
             raise NotKept(str(fault), 1) from fault
         try:
             self.take(replaced(self.place, begun, keep), len(octets), len(lines) + 1)
+            self.head = head
             _sync(folder, f"the folder of {self.path}", os.fsync)
         finally:
             os.close(folder)
+
+    def shortened(self, state: list[bytes]) -> tuple[Head, list[bytes]]:
+        """The first record of a file that begins with this state, and the lines behind it. A centre's begins with the
+        number of its next request, so that nothing that is left of it says a lower one."""
+        if self.head.end == "centre":
+            first = states.next_number(state)
+            if first is None:
+                raise NotKept("the state of the centre has no line `next`", 1)
+            return self.head._replace(first=first), state
+        _, last = reading.started(self.text(), self.size)
+        if last is None:
+            raise NotKept(f"{self.path}: no record of it tells the time", 1)
+        return self.head, states.written(state, self.sets, last)
 
     def take(self, file: int, size: int, number: int) -> None:
         """Goes on in this file, of so many octets, which are on the disk; the next record has this number."""

@@ -13,6 +13,7 @@ from .states import Begun, NotWhole, OtherState
 _ANEW = "--fresh begins anew"
 _ACCEPT = "--accept-damage goes on once from there, and puts the rest aside"
 _ABOVE = "--fresh begins above all numbers that it may have used"
+_ELSEWHERE = "move it away, and begin with a --first above all numbers that were used"
 _SHORT = 1 << 22  # octets of a file whose lines are kept as it is read, so that they are not looked for again
 
 
@@ -105,19 +106,40 @@ def _compared(path: str, first: bytes | None, wanted: Head) -> Head:
 
 
 def _begun(path: str, text: Octets, head: Head) -> Begun | None:
-    """The state that a sign's journal begins with. It was whole when the file got its name: where it is not so now
-    nothing tells what the sign was."""
-    if head.form != FORM or head.end != "sign":
+    """The state that a journal begins with. It was whole when the file got its name: where it is not so now nothing
+    tells what its end was, and of a centre which numbers it used."""
+    if head.form != FORM:
         return None
     try:
-        return states.read(text)
-    except OtherState as other:
-        ours = states.FIRST.decode()
-        raise Refusal(f"{path}: it begins with {str(other)!r}, and this front end knows {ours!r} ({_ANEW})") from None
-    except NotWhole as fault:
-        raise Refusal(f"{path}: damaged at octet {fault.at}: the state there is not whole ({_ANEW})") from None
+        return states.read(text, head.end)
     except Unknown as fault:
         raise _unknown(path, head, fault) from fault
+    except (OtherState, NotWhole) as fault:
+        how = _ELSEWHERE if head.end == "centre" else _ANEW
+        raise Refusal(f"{path}: {_no_state(fault, head.end)} ({how})") from None
+
+
+def _no_state(fault: OtherState | NotWhole, end: str) -> str:
+    """Why a state is not read."""
+    if isinstance(fault, NotWhole):
+        return f"damaged at octet {fault.at}: the state there is not whole"
+    return f"it begins with {str(fault)!r}, and this front end knows {states.FIRST[end].decode()!r}"
+
+
+def number_behind(path: str, text: Octets) -> tuple[int, int] | None:
+    """Of a centre's journal that begins with a state the number of its next request, and the octets up to the records
+    behind it; None where it begins with none. One that cannot be read is refused, since nothing tells which numbers
+    were used."""
+    try:
+        begun = states.read(text, "centre")
+    except (OtherState, NotWhole) as fault:
+        raise Refusal(f"{path}: {_no_state(fault, 'centre')}: it is not put aside ({_ELSEWHERE})") from None
+    if begun is None:
+        return None
+    number = states.next_number(begun.lines)
+    if number is None:
+        raise Refusal(f"{path}: its state has no line `next`: it is not put aside ({_ELSEWHERE})")
+    return number, begun.size
 
 
 def _unknown(path: str, head: Head, fault: Unknown) -> Refusal:

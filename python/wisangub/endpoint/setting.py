@@ -4,6 +4,7 @@ journal left it."""
 from __future__ import annotations
 
 import argparse
+import mmap
 import os
 from collections.abc import Callable
 from typing import TYPE_CHECKING
@@ -16,8 +17,9 @@ from wisangub.refusal import Refusal
 
 from .files import Place, octets_aside, opened
 from .journal import Journal
-from .reading import first_of
+from .reading import first_of, number_behind
 from .records import SECTOR, SHORTEST, Head
+from .shortening import MOST, Shortening, Trial, octets_of
 
 if TYPE_CHECKING:
     from .log import Log
@@ -35,6 +37,8 @@ def options(about: str | None, command: str) -> argparse.ArgumentParser:
     parser.add_argument(
         "--journal", metavar="FILE", help="what is handed over is kept here, over the end of the process"
     )
+    parser.add_argument("--keep", metavar="SIZE", help="octets of a journal, as 500k; a longer one is shortened; 1M")
+    parser.add_argument("--archive", metavar="FOLDER", help="what is cut off a journal that is shortened is kept there")
     parser.add_argument("--fresh", action="store_true", help="puts the journal's file aside and begins anew")
     parser.add_argument("--need-journal", action="store_true", help="ends where the disk takes nothing at a start")
     parser.add_argument("--log", metavar="FILE", help="a line an event is written here; - is standard output")
@@ -47,8 +51,8 @@ def checked(asked: argparse.Namespace) -> None:
     for name in ("signtool", "sign", "objects", "journal", "keep", "archive", "log", "host", "fast"):
         if getattr(asked, name, None) == "":
             raise Refusal(f"--{name} has no name")
-    for option in ("fresh", "accept-damage", "need-journal"):
-        if getattr(asked, option.replace("-", "_"), False) and not asked.journal:
+    for option in ("fresh", "accept-damage", "need-journal", "down", "keep", "archive"):
+        if getattr(asked, option.replace("-", "_"), None) not in (None, False) and not asked.journal:
             raise Refusal(f"--{option} is of a --journal FILE")
     if asked.json and not asked.log:
         raise Refusal("--json is of a --log FILE")
@@ -80,8 +84,9 @@ def log_of(asked: argparse.Namespace) -> Log | None:
 
 def number_above(path: str, file: int, end: str, aside: int = 0) -> int | None:
     """A number above all that the centre of a journal used: each of its records sent at most one request of a new
-    number, and none is shorter than `tick`; the octets that were cut from it and lie aside count too. None of a sign's,
-    and of a file whose first record was never finished."""
+    number, and none is shorter than `tick`; the octets that were cut from it and lie aside count too. Where it begins
+    with a state that says the next number, the records are those behind it. None of a sign's, and of a file whose first
+    record was never finished."""
     text, size = os.pread(file, SECTOR, 0), os.fstat(file).st_size
     line = first_of(text)
     found = Head.of(line) if line is not None else None
@@ -94,10 +99,18 @@ def number_above(path: str, file: int, end: str, aside: int = 0) -> int | None:
         raise Refusal(f"{path} is the journal of a {found.end}: it is not put aside")
     if found is None or found.first is None:
         return None
-    above = found.first + (size + aside) // SHORTEST
+    first, begins = _behind_state(path, file, size) or (found.first, 0)
+    above = max(first, found.first) + (size - begins + aside) // SHORTEST
     if above > MOST_NUMBER:
         raise Refusal(f"{path}: no number of a request is left above those that it may have used")
     return above
+
+
+def _behind_state(path: str, file: int, size: int) -> tuple[int, int] | None:
+    """The number that the state of a centre's journal says, and the octets up to the records behind that state; None
+    where it begins with none."""
+    with mmap.mmap(file, size, access=mmap.ACCESS_READ) as text:
+        return number_behind(path, text)
 
 
 def journal_of(asked: argparse.Namespace, head: Head) -> Journal:
@@ -117,6 +130,18 @@ def journal_of(asked: argparse.Namespace, head: Head) -> Journal:
         return Journal.fresh(place, head)
     finally:
         os.close(old)
+
+
+def shortening_of(asked: argparse.Namespace, end: str, text: bytes | None, log: Log | None) -> Shortening | None:
+    """How the journal is shortened, where there is one, of an end of this description."""
+    if not asked.journal:
+        return None
+    most, archive = MOST if asked.keep is None else octets_of(asked.keep), None
+    if asked.archive is not None:
+        from .archive import Archive
+
+        archive = Archive(asked.archive)
+    return Shortening(most, Trial(asked.signtool, text, end), archive, log)
 
 
 def new(asked: argparse.Namespace, end: str, text: bytes | None, state: list[bytes] | None = None) -> CoProcess:

@@ -1,4 +1,4 @@
-"""When a sign's journal is shortened, and how: to the state that its lines came to."""
+"""When a journal is shortened, and how: to the state that its lines came to."""
 
 from __future__ import annotations
 
@@ -6,7 +6,7 @@ import re
 import signal
 import subprocess
 from collections.abc import Callable
-from typing import TYPE_CHECKING, Any
+from typing import TYPE_CHECKING, Any, NamedTuple, Protocol
 
 from wisangub.output import LOG
 from wisangub.process.coprocess import CoProcess
@@ -14,7 +14,7 @@ from wisangub.refusal import Refusal
 
 from .clock import running
 from .files import NotKept
-from .keeper import Keeper
+from .journal import Journal
 
 if TYPE_CHECKING:
     from .archive import Archive
@@ -26,6 +26,7 @@ _PATIENCE = 10.0  # seconds that another process may take to go on from a state
 _SIZE = re.compile(r"([0-9]{1,12})([kM]?)", re.ASCII)
 _TIMES = {"": 1, "k": 1000, "M": 1_000_000}
 _OK = b"ok"
+_NO_CALL = 2  # the status of a program that does not know a call
 
 
 def octets_of(word: str) -> int:
@@ -37,14 +38,15 @@ def octets_of(word: str) -> int:
 
 
 class Trial:
-    """Another process of the sign, which is handed a state before that counts."""
+    """Another process of a sign or of a centre, which is handed a state before that counts."""
 
-    def __init__(self, program: str, description: bytes | None) -> None:
-        self.call = [program, "sign", *(["--sign"] if description is not None else []), "--restore"]
-        self.description = description or b""
+    def __init__(self, program: str, description: bytes | None, end: str = "sign") -> None:
+        self.call = [program, end, *(["--sign"] if description is not None else []), "--restore"]
+        self.program, self.end, self.description = program, end, description or b""
 
     def fault(self, state: list[bytes]) -> str:
         """Why it does not go on from these lines to the same state, in words; nothing where it does."""
+        other = f"another process of the {self.end}"
         octets = b"\n".join(state) + b"\n"
         try:
             ended = subprocess.run(
@@ -55,11 +57,33 @@ class Trial:
                 check=False,
             )
         except (OSError, subprocess.TimeoutExpired) as fault:
-            return f"another process of the sign is not there: {fault}"
+            return f"{other} is not there: {fault}"
         if ended.stdout == octets + _OK + b"\n":
             return ""
+        if ended.returncode == _NO_CALL:
+            return f"{self.program} has no call `{self.end} --restore`: the journal only grows"
         said = (ended.stderr or ended.stdout[:80]).decode("latin-1").strip().splitlines()
-        return f"another process of the sign does not go on from its state{': ' + said[0] if said else ''}"
+        return f"{other} does not go on from its state{': ' + said[0] if said else ''}"
+
+
+class Kept(Protocol):
+    """A journal, and whether it has all that its end was handed."""
+
+    @property
+    def journal(self) -> Journal:
+        ...
+
+    def is_paid(self) -> bool:
+        ...
+
+
+class Synced(NamedTuple):
+    """The journal of a centre, whose records do not wait."""
+
+    journal: Journal
+
+    def is_paid(self) -> bool:
+        return self.journal.is_paid()
 
 
 class Shortening:
@@ -79,20 +103,20 @@ class Shortening:
         if callable(self.others):
             self.others(*words)
 
-    def turn(self, sign: CoProcess, keeper: Keeper) -> None:
+    def turn(self, process: CoProcess, kept: Kept) -> None:
         """Shortens the journal where it is long, or that is asked for."""
-        journal = keeper.journal
+        journal = kept.journal
         if self.is_asked or journal.size > self.most and journal.size > 2 * journal.base and running() >= self.again:
-            self.shorten(sign, keeper)
+            self.shorten(process, kept)
 
-    def shorten(self, sign: CoProcess, keeper: Keeper) -> None:
+    def shorten(self, process: CoProcess, kept: Kept) -> None:
         """The state stands in place of the lines, once another process goes on from it to the same."""
-        journal, before = keeper.journal, keeper.journal.size
+        journal, before = kept.journal, kept.journal.size
         is_asked, self.is_asked, self.again = self.is_asked, False, running() + _AGAIN
         try:
-            if not keeper.is_paid():
+            if not kept.is_paid():
                 raise NotKept(f"{journal.path}: {journal.refused}", 1)
-            journal.exchange(self.looked_at(sign), lambda: self.archive and self.archive.keep(journal.place.real))
+            journal.exchange(self.looked_at(process), lambda: self.archive and self.archive.keep(journal.place.real))
         except NotKept as fault:
             if is_asked or str(fault) != self.refused:
                 LOG.info(f"{journal.path} is not shortened: {fault}")
@@ -103,9 +127,9 @@ class Shortening:
         LOG.info(f"{journal.path}: shortened from {before} to {journal.size} octets")
         self.event("shortened", {"from": before, "octets": journal.size})
 
-    def looked_at(self, sign: CoProcess) -> list[bytes]:
-        """The lines of the state; raises NotKept where they are none that a sign goes on from."""
-        state = sign.ask(b"save")
+    def looked_at(self, process: CoProcess) -> list[bytes]:
+        """The lines of the state; raises NotKept where they are none that another process goes on from."""
+        state = process.ask(b"save")
         if state.pop() != _OK:
             raise NotKept("the program has no line `save`", 1)
         fault = self.trial.fault(state)

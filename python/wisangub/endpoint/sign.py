@@ -40,8 +40,7 @@ from .keeper import Keeper
 from .limit import MOST_RECORDED, Limit
 from .page.start import copy_of, watched
 from .records import Head
-from .setting import MOST_NUMBER, begun, checked, journal_of, log_of, new, options
-from .shortening import MOST, Shortening, Trial, octets_of
+from .setting import MOST_NUMBER, begun, checked, journal_of, log_of, new, options, shortening_of
 from .sign_front_end import Heard, SignFrontEnd
 from .sockets import Waiting, bound, host_and_port, named
 
@@ -61,8 +60,6 @@ def _asked_for() -> argparse.Namespace:
     words.add_argument(
         "--objects", metavar="FILE", help="objects beside the sign's, as in signs/; read at a SIGHUP too"
     )
-    words.add_argument("--keep", metavar="SIZE", help="octets of a journal, as 500k; a longer one is shortened; 1M")
-    words.add_argument("--archive", metavar="FOLDER", help="what is cut off a journal that is shortened is kept there")
     words.add_argument("--accept-damage", action="store_true", help="goes on, and puts the rest aside")
     words.add_argument("--down", choices=("power", "process"), help="what the time without a process was")
     words.add_argument(
@@ -79,9 +76,6 @@ def _asked_for() -> argparse.Namespace:
     checked(asked)
     if asked.listen is not None:
         asked.host, asked.port = host_and_port(asked.listen)
-    for name in ("down", "keep", "archive"):
-        if getattr(asked, name) is not None and not asked.journal:
-            raise Refusal(f"--{name} is of a --journal FILE")
     if not 1 <= asked.most_recorded <= MOST_NUMBER:
         raise Refusal(f"--most-recorded {asked.most_recorded} is no number of datagrams: 1 to {MOST_NUMBER}")
     if asked.lose < 0:
@@ -92,18 +86,6 @@ def _asked_for() -> argparse.Namespace:
 def has_power(sign: CoProcess) -> bool:
     """Whether the sign's power is on: dmsMsgSourceMode is powerLoss (13) as long as it is off, and never else."""
     return b" mode 13 " not in sign.ask(b"state")[0]
-
-
-def shortening_of(asked: argparse.Namespace, text: bytes | None, log: Log | None) -> Shortening | None:
-    """How the journal is shortened, where there is one."""
-    if not asked.journal:
-        return None
-    most, archive = MOST if asked.keep is None else octets_of(asked.keep), None
-    if asked.archive is not None:
-        from .archive import Archive
-
-        archive = Archive(asked.archive)
-    return Shortening(most, Trial(asked.signtool, text), archive, log)
 
 
 def firmware_of(asked: argparse.Namespace, text: bytes | None, log: Log | None) -> Firmware | None:
@@ -123,7 +105,7 @@ def main() -> int:
         hand_over(asked)
     log, text = log_of(asked), description.read(asked.sign)
     firmware = firmware_of(asked, text, log)
-    shortening = shortening_of(asked, text, log)
+    shortening = shortening_of(asked, "sign", text, log)
     with bound(asked.host, asked.port) as udp_socket:
         journal = journal_of(asked, Head("sign", description.digest(text))) if asked.journal else None
         if firmware and journal:

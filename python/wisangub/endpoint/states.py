@@ -1,14 +1,17 @@
-"""A state at the beginning of a sign's journal, in place of the lines that led to it: how it is written and read."""
+"""A state at the beginning of a journal, in place of the lines that led to it: how it is written and read."""
 
+import re
 from typing import NamedTuple
 
 from .clock import Moment
 from .known import of_sign
 from .records import Extent, Octets, Unknown, parts_of
 
-FIRST, _LAST = b"state 1 sign", b"end"
+FIRST = {"sign": b"state 1 sign", "centre": b"state 1 centre"}
+_LAST = b"end"
 _STATE, _SET, _START, _CLOCK = b"state ", b"set ", b"start ", b"clock "
-_MOST = 1 << 20  # octets in which a state ends: it has 110,000 at most
+_MOST = 1 << 21  # octets in which a state ends: a sign's has 110,000 at most, and a centre's text 1,048,576
+_NEXT = re.compile(rb"next ([0-9]{1,10})")
 Sets = dict[bytes, bytes]  # of objects, by their names: the values that managers set last
 
 
@@ -59,34 +62,46 @@ class _Records:
 
 
 def written(state: list[bytes], sets: Sets, last: Moment) -> list[bytes]:
-    """The lines of the records that stand behind the first one: `last` is the moment up to which the sign was handed
-    its seconds."""
+    """The lines of the records that stand behind the first one of a sign's: `last` is the moment up to which the sign
+    was handed its seconds. A centre's has those of the state alone."""
     return [*state, *(b"set %b %b" % one for one in sets.items()), last.start(), last.clock()]
 
 
-def read(text: Octets) -> Begun | None:
-    """What stands behind the first record of a whole journal; None where that is no state."""
+def next_number(state: list[bytes]) -> int | None:
+    """The number of the next request of a centre in this state; None where it says none."""
+    found = _NEXT.fullmatch(state[1]) if len(state) > 1 else None
+    return int(found[1]) if found else None
+
+
+def read(text: Octets, end: str) -> Begun | None:
+    """What stands behind the first record of a whole journal of an end; None where that is no state."""
     records = _Records(text, text.find(b"\n") + 1)
     line = records.next()
     if line is None and _had_one(text, records.at):
         raise NotWhole(records.at)
     if line is None or not line.startswith(_STATE):
         return None
-    if line != FIRST:
+    if line != FIRST[end]:
         raise OtherState(line.decode("latin-1"))
     state = [line]
     while state[-1] != _LAST:
         records.take()
         state.append(records.wanted())
     records.take()
-    sets = _sets_of(records)
+    sets = _sets_of(records) if end == "sign" else {}
     before = Extent(records.at, records.number, records.number - 1)
+    if end == "sign":
+        _take_moment(records)
+    return Begun(state, sets, before, records.at)
+
+
+def _take_moment(records: _Records) -> None:
+    """The moment of the state is looked at."""
     for word in (_START, _CLOCK):
         line = records.wanted()
         if not line.startswith(word) or not of_sign(line):
             raise Unknown(records.at, records.number, line)
         records.take()
-    return Begun(state, sets, before, records.at)
 
 
 def _had_one(text: Octets, at: int) -> bool:

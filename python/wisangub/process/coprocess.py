@@ -49,7 +49,7 @@ class CoProcess:
         self.room, self.answers = select.poll(), select.poll()
         self.room.register(self.input, select.POLLOUT)
         self.answers.register(self.output, select.POLLIN)
-        self.program, self.left = program, b""
+        self.program, self.words, self.left = program, words, b""
         self.description = description or b""
         self.state, self.kept = b"", ""  # what stands behind the description with --restore, and the file that keeps it
 
@@ -153,7 +153,7 @@ class CoProcess:
             raise Refusal(f"{name}: {answer.decode()}: no description of a sign{more}")
         if self.state and answer.startswith(b"state line "):
             self.end()
-            raise Refusal(f"{self.kept}: {answer.decode()}: no state of this sign (--fresh begins anew)")
+            raise Refusal(f"{self.kept}: {answer.decode()}: no state of this {self.words[0]} (--fresh begins anew)")
         if answer.split(b" ")[0] not in _FIRST_WORDS:
             self.process.kill()
             raise Refusal(f"{self.program} does not answer as signtool does")
