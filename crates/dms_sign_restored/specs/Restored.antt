@@ -6,6 +6,7 @@ use Rattle.dms_codes.specs.declared.row_id.RowId.{RowId}
 use Rattle.dms_codes.specs.Codes.{id_of}
 use Rattle.dms_codes.specs.Memory.{changeable_memory, volatile_memory}
 use Rattle.dms_table.specs.declared.saved_row.RowFault.{RowFault}
+use Rattle.dms_table.specs.declared.stock.TableFault.TheVariants.{Memory}
 use Rattle.dms_table.specs.declared.saved_shown.ShownFault.{ShownFault}
 use Rattle.dms_table.specs.declared.saved_shown.ShownFault.TheVariants as shown_faults
 use Rattle.dms_table.specs.Rows.{RowModel, changed}
@@ -15,6 +16,7 @@ use Rattle.dms_table.specs.Stock.{table_of}
 use Rattle.dms_sign_access.specs.declared.reports.ReportFault.{ReportFault}
 use Rattle.dms_sign_access.specs.declared.reports.ReportFault.TheVariants as report_faults
 use Rattle.dms_sign.specs.declared.config.Config.{Config}
+use Rattle.dms_sign.specs.declared.config.ConfigFault.TheVariants as config_faults
 use Rattle.dms_sign.specs.declared.sign.restoring.SignParts.{SignParts}
 use Rattle.dms_sign.specs.declared.sign.restoring.MessageFault.{MessageFault}
 use Rattle.dms_sign.specs.declared.sign.restoring.MessageFault.TheVariants as message_faults
@@ -209,3 +211,13 @@ abbrev pub IsRestoreFault : Config → List ℕ → RestoreFault → Type 0
 IsRestoreFault config text (faults.Config fault) = IsFirstConfigFault (config_fault config) fault
 IsRestoreFault config text (faults.State refusal) =
     (config_fault config ≡ None) × IsStateRefusal (made config) text refusal
+
+-- memory ran out
+abbrev pub IsWantOfMemory : RestoreFault → Type 0
+IsWantOfMemory (faults.Config fault) = fault ≡ config_faults.Table Memory
+IsWantOfMemory (faults.State refusal) = refusal ≡ refusals.Text errors.Memory
+
+-- this sign is given, unless memory runs out
+abbrev pub IsGiven : SignState → Result SignState RestoreFault → Type 0
+IsGiven s (Ok again) = again ≡ s
+IsGiven s (Err fault) = IsWantOfMemory fault

@@ -9,7 +9,8 @@ ghost use Rattle.dms_sign_restored.specs.Restored.{stored_memory, shown_of, part
 ghost use Rattle.dms_sign_restored.specs.Restored.{line_of_message, line_of_report, line_of_part, rows_end, with_row};
 ghost use Rattle.dms_sign_restored.specs.Restored.{with_rows, with_rest, with_fields, IsPut, IsStateRefusal, Say};
 ghost use Rattle.dms_sign_restored.specs.Restored.{IsAnswered};
-ghost use Rattle.dms_sign_restored.specs.Restored.{IsRestored, IsRestoreFault};
+ghost use Rattle.dms_sign.specs.State.{SignState};
+ghost use Rattle.dms_sign_restored.specs.Restored.{IsRestored, IsRestoreFault, IsGiven};
 ghost use Rattle.dms_sign_restored.specs.RestoredTexts.{cause_text, misfit_text, refusal_text, restore_fault_text};
 
 use dms_codes::{MessageId, Order, RowId, memory};
@@ -144,6 +145,7 @@ pub fn put_state(alloc: Global, sign: Sign, text: &[u8]) -> Result<Sign, StateRe
 /// configuration, then with the text, then with a line that does not fit this sign. Out of memory nothing is left.
 pub fn restored(alloc: Global, config: Config<'_>, text: &[u8]) -> Result<Sign, RestoreFault>
     ensures ok { IfOk result (IsRestored config.entry text.now) }
+    ensures only { (s : SignState) → IsRestored config.entry text.now s → IsGiven s result }
     ensures fault { IfErr result (IsRestoreFault config.entry text.now) }
 {
     let sign = match Sign::new(alloc, config) {
