@@ -8,3 +8,14 @@ pub mod OneSign
 pub mod FieldsInRange
 pub mod SameSign
 pub mod SavedAgain
+-- rows and parts that are put back
+pub mod PutBack
+-- what is put up, reported and shown by a sign that events lead to
+pub mod ToldFaults
+pub mod PutUps
+pub mod Shapes
+pub mod Going
+pub mod Standing
+-- each such sign is restored of its text
+pub mod TakenUp
+pub mod Reached

@@ -124,16 +124,16 @@ room : (may : Bool) (o : Option RowFault) → cond may o (Some row_faults.Valida
 room true o e = e
 room false o e = absurd (cc)
 
-abbrev rows_in : Stored → TableModel → List RowModel
+abbrev pub rows_in : Stored → TableModel → List RowModel
 rows_in Changeable table = table.changeable
 rows_in Volatile table = table.volatile
 
-abbrev with_in : Stored → TableModel → List RowModel → TableModel
+abbrev pub with_in : Stored → TableModel → List RowModel → TableModel
 with_in Changeable table rows = with_changeable table rows
 with_in Volatile table rows = with_volatile table rows
 
 -- the sign with these rows of a type of memory
-abbrev having : Stored → SignState → List RowModel → SignState
+abbrev pub having : Stored → SignState → List RowModel → SignState
 having stored s rows = with_table s (with_in stored s.table rows)
 
 abbrev put_at : Stored → UsedRow → SignState → List RowModel
@@ -181,15 +181,15 @@ both_ok : (r : Result SignState Misfit) (next : SignState → Result SignState M
 both_ok (Ok mid) next after e = record { mid = mid; first = refl; second = e }
 both_ok (Err misfit) next after e = absurd (cc)
 
-same_rows : (stored : Stored) (s : SignState) → s ≡ having stored s (rows_in stored s.table)
+pub same_rows : (stored : Stored) (s : SignState) → s ≡ having stored s (rows_in stored s.table)
 same_rows Changeable s = refl
 same_rows Volatile s = refl
 
-rows_had : (stored : Stored) (s : SignState) (rows : List RowModel) → rows_in stored (having stored s rows).table ≡ rows
+pub rows_had : (stored : Stored) (s : SignState) (rows : List RowModel) → rows_in stored (having stored s rows).table ≡ rows
 rows_had Changeable s rows = refl
 rows_had Volatile s rows = refl
 
-had_again : (stored : Stored) (s : SignState) (rows more : List RowModel) → having stored (having stored s rows) more ≡ having stored s more
+pub had_again : (stored : Stored) (s : SignState) (rows more : List RowModel) → having stored (having stored s rows) more ≡ having stored s more
 had_again Changeable s rows more = refl
 had_again Volatile s rows more = refl
 

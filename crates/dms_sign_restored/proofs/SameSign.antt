@@ -77,7 +77,7 @@ shown_apart ids order a b ia ib e =
 
 -- ---- signs
 
-table_apart : (a b : TableModel) → a.permanent ≡ b.permanent → a.changeable ≡ b.changeable → a.volatile ≡ b.volatile → a.services ≡ b.services → a.order ≡ b.order → a ≡ b
+pub table_apart : (a b : TableModel) → a.permanent ≡ b.permanent → a.changeable ≡ b.changeable → a.volatile ≡ b.volatile → a.services ≡ b.services → a.order ≡ b.order → a ≡ b
 table_apart a b permanent changeable volatile services order =
     ap (λ (rows : List RowModel). record a { permanent = rows }) permanent
     ∙ ap (λ (rows : List RowModel). record a { permanent = b.permanent; changeable = rows }) changeable

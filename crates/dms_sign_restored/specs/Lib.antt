@@ -2,3 +2,4 @@
 pub mod Restored
 pub mod RestoredTexts
 pub mod Alike
+pub mod Runs

@@ -1,13 +1,15 @@
 //! What holds of signs that were put in a state.
 
-ghost use Rattle.std.specs.Prelude.{◌≡◌, ℕ, List};
+ghost use Rattle.std.specs.Prelude.{◌≡◌, ℕ, None, List};
 ghost use Rattle.dms_table.specs.Rows.{TableModel};
 ghost use Rattle.dms_sign.specs.declared.config.Config.{Config};
+ghost use Rattle.dms_sign.specs.Configuration.{config_fault};
 ghost use Rattle.dms_sign.specs.Construction.{CanBeMade};
 ghost use Rattle.dms_sign.specs.State.{ConfigModel, SignState, start};
 ghost use Rattle.dms_sign_state.specs.StateText.{text_of_state};
 ghost use Rattle.dms_sign_restored.specs.Restored.{made, IsPut, IsRestored};
 ghost use Rattle.dms_sign_restored.specs.Alike.{AreMadeAlike};
+ghost use Rattle.dms_sign_restored.specs.Runs.{SignEvent, after_events};
 
 use dms_codes::laws::ids_are_their_octets;
 use dms_sign::Sign;
@@ -51,5 +53,19 @@ pub fn a_saved_sign_is_restored_as_itself(saved: &Sign, again: &Sign)
     unused_rows_are_empty(saved.table());
     unused_rows_are_empty(again.table());
     texts_tell_states_apart();
+    ids_are_their_octets();
+}
+
+/// No sign is lost by saving it: whatever came to a sign since it was made, its text is that of a state of the
+/// configuration, and just this sign is restored of it; and so it is put in one as it was made.
+pub fn each_sign_is_restored(first: &Sign)
+    ensures restored { (config : Config) (events : List SignEvent) → config_fault config ≡ None
+        → first.now ≡ made config
+        → IsRestored config (text_of_state (after_events first.now events)) (after_events first.now events) }
+    ensures put { (config : ConfigModel) (table : TableModel) (events : List SignEvent) → CanBeMade config table
+        → first.now ≡ start config table
+        → IsPut first.now (text_of_state (after_events first.now events)) (after_events first.now events) }
+{
+    signs_are_kept(first);
     ids_are_their_octets();
 }
