@@ -1,5 +1,5 @@
--- Each sign that events lead to is restored of its text.
-use Rattle.std.proofs.Common.{◌≡◌, ℕ, zero, suc, ◌-◌, ◌==◌, ◌&&◌, Bool, true, false, not, cond, List, [], ◌∷◌, length, replicate, Option, Some, None, slice_get, refl, ap, sym, subst, ◌∙◌, arith}
+-- Each sign that events lead to is restored of its text, and a run over saves ends where it ends without them.
+use Rattle.std.proofs.Common.{◌≡◌, ◌↔◌, ℕ, zero, suc, ◌-◌, ◌==◌, ◌&&◌, Bool, true, false, not, cond, List, [], ◌∷◌, length, replicate, Option, Some, None, slice_get, refl, ap, sym, subst, ◌∙◌, arith}
 use Rattle.std.specs.Prelude.{option_map}
 use Rattle.std.specs.Option.{IfSome}
 use Rattle.std.specs.List.{AllByRecursion, list_all, position}
@@ -49,9 +49,10 @@ use Rattle.dms_sign_laws.proofs.StepEvents.{step_received, step_tick, step_power
 use Rattle.dms_sign_state.specs.StateText.{fields_of, text_of_state}
 use Rattle.dms_sign_restored.specs.Alike.{AreMadeAlike}
 use Rattle.dms_sign_restored.specs.Restored.{made, IsPut, IsRestored}
-use Rattle.dms_sign_restored.specs.Runs.{SignEvent, datagram, second, heard, power_lost, power_back, after_event, after_events}
+use Rattle.dms_sign_restored.specs.Runs.{SignEvent, datagram, second, heard, power_lost, power_back, after_event, after_events, RunStep, comes, saves, events_in, Lead}
 use Rattle.dms_sign_restored.proofs.FieldsInRange.{fields_in_range}
 use Rattle.dms_sign_restored.proofs.Going.{IsHeld, received_held, tick_held, power_loss_held, power_return_held}
+use Rattle.dms_sign_restored.proofs.OneSign.{TellApart, one_restored}
 use Rattle.dms_sign_restored.proofs.PutBack.{taken_back}
 use Rattle.dms_sign_restored.proofs.PutUps.{IsPutUp}
 use Rattle.dms_sign_restored.proofs.SameSign.{AreIdsOfOctets}
@@ -318,3 +319,28 @@ each_is_put ids first is config table events can e =
     subst (λ first. IsPut first (text_of_state (after_events first events)) (after_events first events)) (sym e)
     (reached_is_put ids config table (after_events (start config table) events) begins
     (events_reached (start config table) (start config table) events (start_reached config table in_range fits begins)))
+
+-- ---- runs over saves
+
+lead_on : TellApart → AreIdsOfOctets → (config : Config) (s last : SignState) (steps : List RunStep) → config_fault config ≡ None → IsReached (made config) s
+    → Lead config s steps last → last ≡ after_events s (events_in steps)
+lead_on apart ids config s last [] none is lead = lead
+lead_on apart ids config s last (comes event ∷ steps) none is lead =
+    lead_on apart ids config (after_event s event) last steps none (event_reached (made config) s event is) lead
+lead_on apart ids config s last (saves ∷ steps) none is lead =
+    let same : lead.0 ≡ s = one_restored apart config (text_of_state s) lead.0 s lead.1 (reached_is_restored ids config s none is) in
+    lead_on apart ids config s last steps none is (subst (λ again. Lead config again steps last) same lead.2)
+
+leads : AreIdsOfOctets → (config : Config) (s : SignState) (steps : List RunStep) → config_fault config ≡ None → IsReached (made config) s
+    → Lead config s steps (after_events s (events_in steps))
+leads ids config s [] none is = refl
+leads ids config s (comes event ∷ steps) none is = leads ids config (after_event s event) steps none (event_reached (made config) s event is)
+leads ids config s (saves ∷ steps) none is = (s, reached_is_restored ids config s none is, leads ids config s steps none is)
+
+pub saves_leave_runs : TellApart → AreIdsOfOctets → (first : SignState) → IsFirst first → (config : Config) (steps : List RunStep) (last : SignState)
+    → config_fault config ≡ None → first ≡ made config → Lead config first steps last ↔ (last ≡ after_events first (events_in steps))
+saves_leave_runs apart ids first is config steps last none e =
+    let reached = made_reached config first is none e in (
+      lead_on apart ids config first last steps none reached,
+      λ same. subst (Lead config first steps) (sym same) (leads ids config first steps none reached),
+    )

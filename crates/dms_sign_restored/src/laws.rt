@@ -1,6 +1,6 @@
 //! What holds of signs that were put in a state.
 
-ghost use Rattle.std.specs.Prelude.{◌≡◌, ℕ, None, List};
+ghost use Rattle.std.specs.Prelude.{◌≡◌, ◌↔◌, ℕ, None, List};
 ghost use Rattle.dms_table.specs.Rows.{TableModel};
 ghost use Rattle.dms_sign.specs.declared.config.Config.{Config};
 ghost use Rattle.dms_sign.specs.Configuration.{config_fault};
@@ -9,7 +9,7 @@ ghost use Rattle.dms_sign.specs.State.{ConfigModel, SignState, start};
 ghost use Rattle.dms_sign_state.specs.StateText.{text_of_state};
 ghost use Rattle.dms_sign_restored.specs.Restored.{made, IsPut, IsRestored};
 ghost use Rattle.dms_sign_restored.specs.Alike.{AreMadeAlike};
-ghost use Rattle.dms_sign_restored.specs.Runs.{SignEvent, after_events};
+ghost use Rattle.dms_sign_restored.specs.Runs.{SignEvent, after_events, RunStep, events_in, Lead};
 
 use dms_codes::laws::ids_are_their_octets;
 use dms_sign::Sign;
@@ -67,5 +67,16 @@ pub fn each_sign_is_restored(first: &Sign)
         → IsPut first.now (text_of_state (after_events first.now events)) (after_events first.now events) }
 {
     signs_are_kept(first);
+    ids_are_their_octets();
+}
+
+/// A run in which the sign is saved and restored any number of times leads just where it leads without that.
+pub fn saves_leave_runs_as_they_are(first: &Sign)
+    ensures { (config : Config) (steps : List RunStep) (last : SignState) → config_fault config ≡ None
+        → first.now ≡ made config
+        → Lead config first.now steps last ↔ (last ≡ after_events first.now (events_in steps)) }
+{
+    signs_are_kept(first);
+    texts_tell_states_apart();
     ids_are_their_octets();
 }
