@@ -7,6 +7,7 @@ use Rattle.dms_text.specs.Reading.{word_at, ◌>>=◌}
 use Rattle.dms_text.proofs.WordLaws.{begun, goes_on, word_found, word_only, decimal_found, decimal_only}
 use Rattle.dms_codes.proofs.Options.{mapped_some}
 use Rattle.dms_text_forms.specs.Fields.{SpellsOne}
+use Rattle.dms_text_causes.specs.LineCauses.{cause_after, cause_at}
 use Rattle.dms_text_forms.proofs.WordReading.{last_found, by_keyword, by_text}
 use Rattle.dms_text_forms.proofs.FieldLaws.{last_octets_found, last_octets_only}
 use Rattle.dms_text_streams.proofs.CallReading.{bare_found, nothing_found}
@@ -17,7 +18,7 @@ use Rattle.dms_sign_lines.specs.Answer as sign
 use Rattle.dms_agent_lines.specs.AgentCall.{AgentCall, NewObject, receive, publish, withdraw, show_fonts, tell}
 use Rattle.dms_agent_lines.specs.AgentLine.{SpellsAccess, SpellsObject, SpellsCallWords, SpellsAgentCall, SpellsNoAgentCall}
 use Rattle.dms_agent_lines.specs.AgentReading.{number_access_at, octets_access_at, access_after, written_access_at, access_at, object_at, withdraw_at, keyword_of, keyword_in, call_after, call_of}
-use Rattle.dms_agent_lines.specs.AgentForm.{cause_after, cause_at, call_cause, bad_line_text}
+use Rattle.dms_agent_lines.specs.AgentForm.{words_cause, call_cause, bad_line_text}
 use Rattle.dms_agent_lines.specs.AgentAnswer.{answer_text, after_line, call_text, after_call, text_without, after_without, text_if, after_if}
 use Rattle.dms_agent_lines.specs.ObjectFields.{SpellsName}
 use Rattle.dms_agent_lines.specs.declared.cause.CallCause.{CallCause}
@@ -232,9 +233,9 @@ unfolding keyword_in call_of
 not_own line e = by_word (word_at (words_of line)) e
   where
     by_word : (found : Option (List ℕ × List (List ℕ))) → (found >>= (λ found. keyword_of found.0)) ≡ None
-        → ((found >>= (λ found. keyword_of found.0 >>= (λ keyword. call_after keyword found.1))) ≡ None) × (cause_at found ≡ Some causes.Keyword)
+        → ((found >>= (λ found. keyword_of found.0 >>= (λ keyword. call_after keyword found.1))) ≡ None) × (cause_at causes.Keyword keyword_of words_cause found ≡ Some causes.Keyword)
     by_word None e = (refl, refl)
-    by_word (Some found) e = (ap (λ keyword. keyword >>= (λ keyword. call_after keyword found.1)) e, ap (cause_after found.1) e)
+    by_word (Some found) e = (ap (λ keyword. keyword >>= (λ keyword. call_after keyword found.1)) e, ap (cause_after causes.Keyword words_cause found.1) e)
 
 own_text : (a : Agent) (line : List ℕ) (cause : CallCause) → (cause ≡ causes.Keyword → ⊥) → text_without a line cause ≡ bad_line_text cause
 own_text a line causes.Keyword other = absurd (other refl)

@@ -6,6 +6,7 @@ use Rattle.dms_text.specs.Reading.{word_at, ◌>>=◌}
 use Rattle.dms_text.proofs.WordLaws.{word_found}
 use Rattle.dms_text_forms.specs.Form.{fault_from}
 use Rattle.dms_text_forms.specs.FieldsReading.{last_octets_at}
+use Rattle.dms_text_causes.specs.LineCauses.{cause_after, cause_at, form_cause}
 use Rattle.dms_text_forms.specs.declared.fault.WordFault.{WordFault}
 use Rattle.dms_text_forms.specs.declared.vocabulary.WordName.TheVariants as names
 use Rattle.dms_text_forms.specs.declared.wanted.Wanted.TheVariants as wants
@@ -18,7 +19,7 @@ use Rattle.dms_sign_lines.specs.SignReading as sign_reading
 use Rattle.dms_sign_lines.specs.SignForm as sign_form
 use Rattle.dms_sign_lines.specs.declared.cause.CallCause.TheVariants as sign_causes
 use Rattle.dms_agent_lines.specs.AgentCall.{receive}
-use Rattle.dms_agent_lines.specs.AgentForm.{cause_after, cause_at, call_cause}
+use Rattle.dms_agent_lines.specs.AgentForm.{words_cause, call_cause}
 use Rattle.dms_agent_lines.specs.AgentReading.{keyword_of, keyword_in, call_after, call_of}
 use Rattle.dms_agent_lines.specs.AgentAnswer.{received_text, text_if, after_if, answer_text, after_line}
 use Rattle.dms_agent_lines.specs.Alone.{IsOfSign}
@@ -43,7 +44,7 @@ sign_call line words e = ap (λ words. word_at words >>= (λ found. sign_reading
 
 sign_cause : (line : List ℕ) (words : List (List ℕ)) → words_of line ≡ codes "datagram" ∷ words → sign_form.call_cause line ≡ option_map sign_causes.Word (octets_fault words)
 unfolding sign_reading.keyword_of word_at
-sign_cause line words e = ap (λ words. sign_form.cause_at (word_at words)) e
+sign_cause line words e = ap (λ words. cause_at sign_causes.Keyword sign_reading.keyword_of (form_cause sign_causes.Word sign_form.form_after) (word_at words)) e
 
 -- ---- answers
 
@@ -55,7 +56,7 @@ same_text s line None None = refl
 
 text_by_keyword : (s : SignState) (line : List ℕ) (found : List ℕ × List (List ℕ)) (keyword : Option AgentKeyword) → word_at (words_of line) ≡ Some found
     → keyword_of found.0 ≡ keyword → IsOfSign keyword
-    → text_if (alone s) line (keyword >>= (λ keyword. call_after keyword found.1)) (cause_after found.1 keyword) ≡ sign.answer_text s line
+    → text_if (alone s) line (keyword >>= (λ keyword. call_after keyword found.1)) (cause_after causes.Keyword words_cause found.1 keyword) ≡ sign.answer_text s line
 text_by_keyword s line found None is named of_sign = refl
 text_by_keyword s line found (Some key.Datagram) is named of_sign =
     let words = datagram_words line found is named in
@@ -68,7 +69,7 @@ text_by_keyword s line found (Some key.Fonts) is named of_sign = absurd of_sign
 text_by_keyword s line found (Some key.Objects) is named of_sign = absurd of_sign
 
 text_from : (s : SignState) (line : List ℕ) (found : Option (List ℕ × List (List ℕ))) → word_at (words_of line) ≡ found → IsOfSign (found >>= (λ found. keyword_of found.0))
-    → text_if (alone s) line (found >>= (λ found. keyword_of found.0 >>= (λ keyword. call_after keyword found.1))) (cause_at found) ≡ sign.answer_text s line
+    → text_if (alone s) line (found >>= (λ found. keyword_of found.0 >>= (λ keyword. call_after keyword found.1))) (cause_at causes.Keyword keyword_of words_cause found) ≡ sign.answer_text s line
 text_from s line None is of_sign = refl
 text_from s line (Some found) is of_sign = text_by_keyword s line found (keyword_of found.0) is refl of_sign
 
@@ -86,7 +87,7 @@ same_after s line None None = refl
 
 after_by_keyword : (s : SignState) (line : List ℕ) (found : List ℕ × List (List ℕ)) (keyword : Option AgentKeyword) → word_at (words_of line) ≡ Some found
     → keyword_of found.0 ≡ keyword → IsOfSign keyword
-    → after_if (alone s) line (keyword >>= (λ keyword. call_after keyword found.1)) (cause_after found.1 keyword) ≡ alone (sign.after_line s line)
+    → after_if (alone s) line (keyword >>= (λ keyword. call_after keyword found.1)) (cause_after causes.Keyword words_cause found.1 keyword) ≡ alone (sign.after_line s line)
 after_by_keyword s line found None is named of_sign = refl
 after_by_keyword s line found (Some key.Datagram) is named of_sign =
     same_after s line (last_octets_at found.1) (octets_fault found.1)
@@ -97,7 +98,7 @@ after_by_keyword s line found (Some key.Fonts) is named of_sign = absurd of_sign
 after_by_keyword s line found (Some key.Objects) is named of_sign = absurd of_sign
 
 after_from : (s : SignState) (line : List ℕ) (found : Option (List ℕ × List (List ℕ))) → word_at (words_of line) ≡ found → IsOfSign (found >>= (λ found. keyword_of found.0))
-    → after_if (alone s) line (found >>= (λ found. keyword_of found.0 >>= (λ keyword. call_after keyword found.1))) (cause_at found) ≡ alone (sign.after_line s line)
+    → after_if (alone s) line (found >>= (λ found. keyword_of found.0 >>= (λ keyword. call_after keyword found.1))) (cause_at causes.Keyword keyword_of words_cause found) ≡ alone (sign.after_line s line)
 after_from s line None is of_sign = refl
 after_from s line (Some found) is of_sign = after_by_keyword s line found (keyword_of found.0) is refl of_sign
 

@@ -1,11 +1,11 @@
 -- Why a line is no call of an agent (this profile).
-use Rattle.std.specs.Prelude.{ℕ, List, [], ◌∷◌, ◌++◌, codes, Option, Some, None, option_map}
+use Rattle.std.specs.Prelude.{ℕ, List, [], ◌∷◌, codes, Option, Some, None, option_map}
 use Rattle.dms_wire.specs.Message.{ObjectValue}
 use Rattle.dms_device.specs.declared.access.Access.{Access}
-use Rattle.dms_text.specs.Words.{words_of}
 use Rattle.dms_text.specs.Reading.{word_at}
 use Rattle.dms_text_forms.specs.Form.{fault_from}
-use Rattle.dms_text_forms.specs.LineText.{ended}
+use Rattle.dms_text_causes.specs.LineCauses.{line_cause}
+use Rattle.dms_text_causes.specs.LineCauses as answers
 use Rattle.dms_text_forms.specs.Texts.{fault_text}
 use Rattle.dms_text_forms.specs.declared.vocabulary.WordName.TheVariants as names
 use Rattle.dms_text_forms.specs.declared.wanted.Wanted.TheVariants as wanted
@@ -55,18 +55,9 @@ words_cause key.NoObject words = withdraw_cause (word_at words)
 words_cause key.Fonts words = option_map causes.Word (fault_from 2 [] words)
 words_cause key.Objects words = option_map causes.Word (fault_from 2 [] words)
 
--- the keyword is the first word of its line
-abbrev pub cause_after : List (List ℕ) → Option AgentKeyword → Option CallCause
-cause_after words None = Some causes.Keyword
-cause_after words (Some keyword) = words_cause keyword words
-
-abbrev pub cause_at : Option (List ℕ × List (List ℕ)) → Option CallCause
-cause_at None = Some causes.Keyword
-cause_at (Some found) = cause_after found.1 (keyword_of found.0)
-
 -- the line begins with no word of a call, or what is not as it is wanted
 abbrev pub call_cause : List ℕ → Option CallCause
-call_cause line = cause_at (word_at (words_of line))
+call_cause line = line_cause causes.Keyword keyword_of words_cause line
 
 -- ---- texts
 
@@ -79,4 +70,4 @@ call_cause_text (causes.Word fault) = fault_text fault
 
 -- the answer to a line that is no call: why it is none
 abbrev pub bad_line_text : CallCause → List ℕ
-bad_line_text cause = ended (codes "bad line " ++ call_cause_text cause)
+bad_line_text cause = answers.bad_line_text (call_cause_text cause)

@@ -12,7 +12,6 @@ ghost use Rattle.dms_agent.specs.Received.{agent_received};
 ghost use Rattle.dms_text_streams.specs.Conversation.{ok_line};
 ghost use Rattle.dms_text_values.specs.ValueText.{value_text};
 ghost use Rattle.dms_agent_lines.specs.CallView.{call_model};
-ghost use Rattle.dms_agent_lines.specs.AgentForm.{bad_line_text};
 ghost use Rattle.dms_agent_lines.specs.AgentAnswer.{answer_text, after_line, call_text, after_call, received_text};
 ghost use Rattle.dms_agent_lines.specs.AgentAnswer.{publish_text, after_publish, withdraw_text, after_withdraw};
 ghost use Rattle.dms_agent_lines.specs.AgentAnswer.{fonts_text, refused, set_line, set_lines};
@@ -24,6 +23,7 @@ use dms_agent::{Agent, PublishFault};
 use dms_device::{Access, Device, Object, ObjectFault};
 use dms_mib_replies::Objects;
 use dms_sign_lines::{LONGEST_RECEIPT, put_receipt};
+use dms_text_causes::bad_line;
 use dms_text_streams::ok_line;
 use dms_text_values::{NameRead, put_value};
 use dms_wire::{Oid, Out, Value};
@@ -53,17 +53,6 @@ pub fn answer(alloc: Global, agent: &mut Agent, line: &[u8]) -> Result<Vec<u8>, 
         Ok(call) => carry_out(alloc, agent, &call),
         Err(CallCause::Keyword) => dms_sign_lines::answer(alloc, agent.sign_mut(), line),
         Err(cause) => bad_line(alloc, cause),
-    }
-}
-
-/// The line that says why a line is no call.
-fn bad_line(alloc: Global, cause: CallCause) -> Result<Vec<u8>, AllocError>
-    ensures { IfOk result (λ text. text.items ≡ bad_line_text cause) }
-{
-    let mut text = Vec::new(alloc);
-    match writeln!(text, "bad line {cause}") {
-        Ok(()) => Ok(text),
-        Err(_) => Err(AllocError),
     }
 }
 

@@ -1,7 +1,6 @@
 -- A line is a call just where it has no cause.
-use Rattle.std.proofs.Common.{◌≡◌, ℕ, ◌+◌, false, not, List, [], ◌∷◌, ◌++◌, Option, Some, None, option_map, is_some, refl, sym, ap, ◌∙◌, arith}
+use Rattle.std.proofs.Common.{◌≡◌, ℕ, ◌+◌, not, List, [], ◌∷◌, ◌++◌, Option, Some, None, is_some, refl, sym, ap, ◌∙◌, arith}
 use Rattle.std.specs.Prelude.{codes, IsSome}
-use Rattle.dms_text.specs.Words.{words_of}
 use Rattle.dms_text.specs.Reading.{word_at, keyword_at, decimal_at, ◌>>=◌}
 use Rattle.dms_codes.specs.declared.codes.Order.{Order}
 use Rattle.dms_codes.proofs.Options.{is_some_mapped}
@@ -13,6 +12,7 @@ use Rattle.dms_text_forms.specs.declared.vocabulary.WordName.{WordName}
 use Rattle.dms_text_forms.specs.declared.vocabulary.WordName.TheVariants as names
 use Rattle.dms_text_forms.specs.declared.wanted.Wanted.{Wanted}
 use Rattle.dms_text_forms.specs.declared.wanted.Wanted.TheVariants as wants
+use Rattle.dms_text_causes.proofs.CauseLaws.{end_wanted, octets_wanted, by_fault, line_wanted, some_cause, no_cause}
 use Rattle.dms_centre_jobs.specs.Commands.{Activate}
 use Rattle.dms_centre_text.specs.CommandForm as commands
 use Rattle.dms_centre_text.specs.CommandReading.{code_at, last_code_at, next_address_at, row_at, attributes_at, last_terms_at, publish_at, blank_at, command_after}
@@ -22,8 +22,7 @@ use Rattle.dms_centre_text.proofs.WantedWords.{address_wanted, address_none, cod
 use Rattle.dms_centre_lines.specs.Calls.{CentreCall, command, datagram, tick, restart, status_last, save}
 use Rattle.dms_centre_lines.specs.SpelledCalls.{SpellsCentreCall, SpellsNoCall}
 use Rattle.dms_centre_lines.specs.CallReading.{keyword_of, last_alone_at, status_after, call_after, call_of}
-use Rattle.dms_centre_lines.specs.CallForm.{last_cause, status_cause, words_cause, cause_after, cause_at, call_cause}
-use Rattle.dms_centre_lines.specs.declared.cause.CallCause.{CallCause}
+use Rattle.dms_centre_lines.specs.CallForm.{last_cause, status_cause, words_cause, call_cause}
 use Rattle.dms_centre_lines.specs.declared.cause.CallCause.TheVariants as causes
 use Rattle.dms_centre_lines.specs.declared.keyword.CentreKeyword.{CentreKeyword}
 use Rattle.dms_centre_lines.specs.declared.keyword.CentreKeyword.TheVariants as key
@@ -59,11 +58,6 @@ made_wanted (Some x) make = refl
 
 -- ---- single words
 
-end_wanted : {A : Type 0} (value : A) (place : ℕ) (words : List (List ℕ)) → is_some (if_last value words) ≡ not (is_some (fault_from place [] words))
-unfolding fault_from
-end_wanted value place [] = refl
-end_wanted value place (word ∷ words) = refl
-
 word_follows : (wanted : Wanted) (place : ℕ) (more : List Wanted) (words : List (List ℕ))
     → Follows (fault_from (place + 1) more) (wanted_at wanted words) (fault_from place (wanted ∷ more) words)
 unfolding fault_from wanted_at word_at
@@ -84,11 +78,6 @@ unfolding fault_from octets_at word_at
 octets_follow name place more [] = grind arith
 octets_follow name place more ([] ∷ words) = grind arith
 octets_follow name place more ((octet ∷ octets) ∷ words) = grind arith
-
-last_octets_wanted : (name : WordName) (place : ℕ) (words : List (List ℕ)) → is_some (last_octets_at words) ≡ not (is_some (fault_from place (wants.Octets name ∷ []) words))
-unfolding last_octets_at
-last_octets_wanted name place words =
-    first_at_end (fault_from (place + 1) []) (octets_at words) _ _ (octets_follow name place [] words) λ octets. end_wanted octets.0 (place + 1) octets.1
 
 -- ---- commands
 
@@ -150,9 +139,6 @@ command_wanted order asked.Activate words =
 
 -- ---- calls
 
-by_word : (fault : Option WordFault) → not (is_some fault) ≡ not (is_some (option_map causes.Word fault))
-by_word fault = ap not (sym (is_some_mapped causes.Word fault))
-
 status_wanted : (words : List (List ℕ)) → is_some (status_after words) ≡ not (is_some (status_cause words))
 unfolding last_alone_at
 status_wanted [] = refl
@@ -161,41 +147,25 @@ status_wanted (word ∷ words) = by_last (keyword_at (codes "last") (word ∷ wo
     by_last : (found : Option (List (List ℕ)))
         → is_some (found >>= if_last status_last) ≡ not (is_some (last_cause found))
     by_last None = refl
-    by_last (Some rest) = end_wanted status_last 3 rest ∙ by_word (fault_from 3 [] rest)
+    by_last (Some rest) = end_wanted status_last 3 rest ∙ by_fault causes.Word (fault_from 3 [] rest)
 
 after_wanted : (order : Order) (keyword : CentreKeyword) (words : List (List ℕ)) → is_some (call_after order keyword words) ≡ not (is_some (words_cause keyword words))
 after_wanted order (key.Command asked) words =
-    is_some_mapped command (command_after order asked words) ∙ command_wanted order asked words ∙ by_word _
-after_wanted order key.Datagram words = is_some_mapped datagram (last_octets_at words) ∙ last_octets_wanted names.Datagram 2 words ∙ by_word _
-after_wanted order key.Tick words = end_wanted tick 2 words ∙ by_word _
-after_wanted order key.Restart words = end_wanted restart 2 words ∙ by_word _
+    is_some_mapped command (command_after order asked words) ∙ command_wanted order asked words ∙ by_fault causes.Word _
+after_wanted order key.Datagram words = is_some_mapped datagram (last_octets_at words) ∙ octets_wanted names.Datagram 2 words ∙ by_fault causes.Word _
+after_wanted order key.Tick words = end_wanted tick 2 words ∙ by_fault causes.Word _
+after_wanted order key.Restart words = end_wanted restart 2 words ∙ by_fault causes.Word _
 after_wanted order key.Status words = status_wanted words
-after_wanted order key.Save words = end_wanted save 2 words ∙ by_word _
-
-keyword_wanted : (order : Order) (words : List (List ℕ)) (keyword : Option CentreKeyword)
-    → is_some (keyword >>= (λ k. call_after order k words)) ≡ not (is_some (cause_after words keyword))
-keyword_wanted order words None = refl
-keyword_wanted order words (Some keyword) = after_wanted order keyword words
+after_wanted order key.Save words = end_wanted save 2 words ∙ by_fault causes.Word _
 
 call_wanted : (order : Order) (line : List ℕ) → is_some (call_of order line) ≡ not (is_some (call_cause line))
 unfolding call_of
-call_wanted order line = first_wanted (word_at (words_of line))
-  where
-    first_wanted : (found : Option (List ℕ × List (List ℕ)))
-        → is_some (found >>= (λ found. keyword_of found.0 >>= (λ keyword. call_after order keyword found.1))) ≡ not (is_some (cause_at found))
-    first_wanted None = refl
-    first_wanted (Some found) = keyword_wanted order found.1 (keyword_of found.0)
-
-some_cause : (cause : Option CallCause) → false ≡ not (is_some cause) → IsSome cause
-some_cause cause e = grind (arith, e)
-
-no_cause : (call : CentreCall) (found : Option CentreCall) (cause : Option CallCause) → found ≡ Some call → is_some found ≡ not (is_some cause) → cause ≡ None
-no_cause call found cause is e = grind (arith, is, e)
+call_wanted order line = line_wanted causes.Keyword keyword_of (call_after order) words_cause (after_wanted order) line
 
 -- a line that spells no call has a cause
 pub cause_of_no_call : (order : Order) (line : List ℕ) → SpellsNoCall order line → IsSome (call_cause line)
-cause_of_no_call order line none = some_cause (call_cause line) (sym (ap is_some (none_read order line none)) ∙ call_wanted order line)
+cause_of_no_call order line none = some_cause (call_of order line) (call_cause line) (call_wanted order line) (none_read order line none)
 
 -- one that spells a call has none
 pub no_cause_of_call : (order : Order) (line : List ℕ) (call : CentreCall) → SpellsCentreCall order call line → call_cause line ≡ None
-no_cause_of_call order line call spelled = no_cause call (call_of order line) (call_cause line) (call_only order line call spelled) (call_wanted order line)
+no_cause_of_call order line call spelled = no_cause call (call_of order line) (call_cause line) (call_wanted order line) (call_only order line call spelled)

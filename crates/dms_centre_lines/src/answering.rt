@@ -12,9 +12,10 @@ ghost use Rattle.dms_centre_lines.specs.CodeView.{call_model};
 
 use crate::reading::{CentreCall, call};
 use crate::status::{status, status_last};
-use crate::text::{bad_line, put_sent, refused, room};
+use crate::text::{put_sent, refused, room};
 use dms_centre::{Centre, Command};
 use dms_centre_state::saved;
+use dms_text_causes::bad_line;
 use dms_text_streams::ok_line;
 use dms_wire::Out;
 use std::alloc::{AllocError, Global};

@@ -6,12 +6,10 @@ ghost use Rattle.dms_centre.specs.Texts.{command_fault_text};
 ghost use Rattle.dms_centre.specs.declared.fault.CommandFault.TheVariants.{BadCommand};
 ghost use Rattle.dms_text_forms.specs.LineText.{ended};
 ghost use Rattle.dms_centre_lines.specs.BadValue.{value_text};
-ghost use Rattle.dms_centre_lines.specs.CallForm.{bad_line_text};
 ghost use Rattle.dms_centre.specs.CodeView.{sent_in};
 ghost use Rattle.dms_centre_lines.specs.Answers.{refused_line, sent_line, longest_sent};
 
 use crate::bad_value::{Value, bad_value};
-use crate::cause::CallCause;
 use dms_centre::{Command, CommandFault};
 use dms_text_streams::{put, put_digits};
 use dms_wire::{MAX_DATAGRAM, Out};
@@ -54,17 +52,6 @@ fn out_of_range(alloc: Global, value: Value) -> Result<Vec<u8>, AllocError>
     let mut text = Vec::new(alloc);
     let fault = CommandFault::BadCommand;
     match writeln!(text, "refused {fault}: {value}") {
-        Ok(()) => Ok(text),
-        Err(_) => Err(AllocError),
-    }
-}
-
-/// The line that says why a line is no call.
-pub(crate) fn bad_line(alloc: Global, cause: CallCause) -> Result<Vec<u8>, AllocError>
-    ensures { IfOk result (λ text. text.items ≡ bad_line_text cause) }
-{
-    let mut text = Vec::new(alloc);
-    match writeln!(text, "bad line {cause}") {
         Ok(()) => Ok(text),
         Err(_) => Err(AllocError),
     }

@@ -1,9 +1,7 @@
 -- What the words of a line to a live sign are to be, and why a line is no call (this profile).
-use Rattle.std.specs.Prelude.{ℕ, List, [], ◌∷◌, ◌++◌, codes, Option, Some, None, option_map}
-use Rattle.dms_text.specs.Words.{words_of}
-use Rattle.dms_text.specs.Reading.{word_at}
-use Rattle.dms_text_forms.specs.Form.{fault_from}
-use Rattle.dms_text_forms.specs.LineText.{ended}
+use Rattle.std.specs.Prelude.{ℕ, List, [], ◌∷◌, codes, Option}
+use Rattle.dms_text_causes.specs.LineCauses.{line_cause, form_cause}
+use Rattle.dms_text_causes.specs.LineCauses as answers
 use Rattle.dms_text_forms.specs.Texts.{fault_text}
 use Rattle.dms_text_forms.specs.declared.vocabulary.WordName.TheVariants as names
 use Rattle.dms_text_forms.specs.declared.wanted.Wanted.{Wanted}
@@ -26,18 +24,9 @@ form_after key.Show = []
 form_after key.State = []
 form_after key.Save = []
 
--- the keyword is the first word of its line
-abbrev pub cause_after : List (List ℕ) → Option SignKeyword → Option CallCause
-cause_after words None = Some causes.Keyword
-cause_after words (Some keyword) = option_map causes.Word (fault_from 2 (form_after keyword) words)
-
-abbrev pub cause_at : Option (List ℕ × List (List ℕ)) → Option CallCause
-cause_at None = Some causes.Keyword
-cause_at (Some found) = cause_after found.1 (keyword_of found.0)
-
 -- the line begins with no word of a call, or the first word that is not what is wanted there
 abbrev pub call_cause : List ℕ → Option CallCause
-call_cause line = cause_at (word_at (words_of line))
+call_cause line = line_cause causes.Keyword keyword_of (form_cause causes.Word form_after) line
 
 abbrev pub call_cause_text : CallCause → List ℕ
 call_cause_text causes.Keyword = codes "no call begins with this word"
@@ -45,4 +34,4 @@ call_cause_text (causes.Word fault) = fault_text fault
 
 -- the answer to a line that is no call: why it is none
 abbrev pub bad_line_text : CallCause → List ℕ
-bad_line_text cause = ended (codes "bad line " ++ call_cause_text cause)
+bad_line_text cause = answers.bad_line_text (call_cause_text cause)

@@ -12,18 +12,17 @@ ghost use Rattle.dms_sign_state.specs.StateText.{text_of_state};
 ghost use Rattle.dms_face_pages.specs.PageText.{pages_text};
 ghost use Rattle.dms_text_streams.specs.Conversation.{ok_line};
 ghost use Rattle.dms_sign_lines.specs.CallView.{call_model};
-ghost use Rattle.dms_sign_lines.specs.SignForm.{bad_line_text};
 ghost use Rattle.dms_sign_lines.specs.Answer.{answer_text, after_line, call_text, after_call};
 ghost use Rattle.dms_sign_lines.specs.Answer.{receipt_line, received_line, longest_receipt_line};
 ghost use Rattle.dms_sign_lines.specs.Answer.{has_pages, shown_pages};
 
-use crate::cause::CallCause;
 use crate::sign_call::{SignCall, call};
 use dms_codes::Order;
 use dms_face_pages::{Page, PagesFault, pages_with, put_pages};
 use dms_sign::{Receipt, Sign};
 use dms_sign_state::saved;
 use dms_sign_text::put_shown;
+use dms_text_causes::bad_line;
 use dms_text_streams::{ok_line, put, put_digits};
 use dms_wire::{MAX_DATAGRAM, Out};
 use std::alloc::{AllocError, Global};
@@ -62,17 +61,6 @@ pub fn answer(alloc: Global, sign: &mut Sign, line: &[u8]) -> Result<Vec<u8>, Al
     match call(alloc, line)? {
         Ok(call) => carry_out(alloc, sign, &call),
         Err(cause) => bad_line(alloc, cause),
-    }
-}
-
-/// The line that says why a line is no call.
-fn bad_line(alloc: Global, cause: CallCause) -> Result<Vec<u8>, AllocError>
-    ensures { IfOk result (λ text. text.items ≡ bad_line_text cause) }
-{
-    let mut text = Vec::new(alloc);
-    match writeln!(text, "bad line {cause}") {
-        Ok(()) => Ok(text),
-        Err(_) => Err(AllocError),
     }
 }
 

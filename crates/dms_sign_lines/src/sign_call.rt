@@ -1,8 +1,7 @@
 //! What a line asks of a live sign.
 
-ghost use Rattle.std.specs.Prelude.{◌≡◌, ◌<◌, [], Some, IfOk, IsSome, OnErr, option_map};
+ghost use Rattle.std.specs.Prelude.{◌≡◌, ◌<◌, Some, IfOk, IsSome, OnErr, option_map};
 ghost use Rattle.std.specs.Result.{result_ok, result_err};
-ghost use Rattle.dms_text_forms.specs.FieldsReading.{if_last};
 ghost use Rattle.dms_text_forms.specs.Form.{fault_from};
 ghost use Rattle.dms_sign_lines.specs.SignForm.{form_after, call_cause};
 ghost use Rattle.dms_sign_lines.specs.SignReading.{call_after, call_of, keyword_in};
@@ -12,6 +11,7 @@ ghost use Rattle.dms_sign_lines.specs.CallView.{call_model};
 use crate::cause::CallCause;
 use crate::keyword::SignKeyword;
 use dms_text::Words;
+use dms_text_causes::alone;
 use dms_text_forms::{LineWords, WordFault, WordName};
 use std::alloc::{AllocError, Global};
 
@@ -88,13 +88,4 @@ fn call_after(
         SignKeyword::State => Ok(alone(words, SignCall::State)),
         SignKeyword::Save => Ok(alone(words, SignCall::Save)),
     }
-}
-
-/// The call, where no words are left.
-fn alone(words: LineWords<'_>, call: SignCall) -> Result<SignCall, WordFault>
-    ensures call { result_ok result ≡ if_last call words.entry.words }
-    ensures fault { result_err result ≡ fault_from words.entry.place [] words.entry.words }
-{
-    words.end()?;
-    Ok(call)
 }
