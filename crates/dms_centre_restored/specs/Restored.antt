@@ -5,6 +5,8 @@ use Rattle.dms_centre_jobs.specs.Job.{SettingsModel}
 use Rattle.dms_centre.specs.State.{CentreState}
 use Rattle.dms_centre_state.specs.CentreText.{text_of_state}
 use Rattle.dms_centre_state.specs.Reached.{IsReached}
+use Rattle.dms_centre_restored.specs.declared.refusal.Unread.{Unread}
+use Rattle.dms_centre_restored.specs.declared.refusal.Unread.TheVariants as unread
 use Rattle.dms_centre_restored.specs.declared.refusal.StateRefusal.{StateRefusal}
 use Rattle.dms_centre_restored.specs.declared.refusal.StateRefusal.TheVariants as refusals
 use Rattle.dms_centre_restored.specs.declared.refusal.RestoreFault.{RestoreFault}
@@ -36,7 +38,24 @@ abbrev pub IsLineFaultOf : List ℕ → RestoreFault → Type 0
 IsLineFaultOf text (faults.Settings fault) = Unit {0}
 IsLineFaultOf text (faults.State refusal) = IsToldOf text refusal
 
+-- no central system of these settings comes to a state of this text
+abbrev pub IsOfNone : SettingsModel → List ℕ → Type 0
+IsOfNone settings text = (state : CentreState) → IsRestored settings text state → ⊥
+
+-- there is none, unless memory ran out
+abbrev pub IsNoneOf : SettingsModel → List ℕ → RestoreFault → Type 0
+IsNoneOf settings text (faults.Settings fault) = IsOfNone settings text
+IsNoneOf settings text (faults.State refusals.Memory) = Unit {0}
+IsNoneOf settings text (faults.State (refusals.Fault fault)) = IsOfNone settings text
+
 -- ---- inside the crate
+
+-- a line that lacks is told as a fault, and want of memory as that
+abbrev pub IsSaid : Unread → StateRefusal → Type 0
+IsSaid unread.Memory refusals.Memory = Unit {0}
+IsSaid unread.Memory (refusals.Fault fault) = ⊥
+IsSaid (unread.Lacks lack) refusals.Memory = ⊥
+IsSaid (unread.Lacks lack) (refusals.Fault fault) = Unit {0}
 
 -- what was taken up: the settings stay
 pub record GoesOn (before after : CentreState) : Type 0 where

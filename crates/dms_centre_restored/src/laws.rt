@@ -1,12 +1,17 @@
 //! What holds of central systems that were restored, stated as a function with nothing to run.
 
-ghost use Rattle.std.specs.Prelude.{◌≡◌, ℕ, List};
+ghost use Rattle.std.specs.Prelude.{◌≡◌, ◌<◌, ◌^◌, ℕ, List};
+ghost use Rattle.std.specs.List.{AllByRecursion};
 ghost use Rattle.dms_centre_jobs.specs.Job.{SettingsModel};
+ghost use Rattle.dms_centre_jobs.specs.Requests.{AreSettings};
 ghost use Rattle.dms_centre.specs.State.{CentreState};
+ghost use Rattle.dms_centre.specs.History.{IsInput, History, made, after_inputs};
 ghost use Rattle.dms_centre_state.specs.CentreText.{text_of_state};
+ghost use Rattle.dms_centre_state.specs.Reached.{IsReached};
 ghost use Rattle.dms_centre_restored.specs.Restored.{IsRestored};
+ghost use Rattle.dms_centre_restored.specs.Saves.{Event, Goes, inputs_of};
 
-use dms_centre_state::laws::texts_tell_states_apart;
+use dms_centre_state::laws::{states_are_reached, texts_tell_states_apart};
 
 /// A text makes at most one state of central systems of the same settings, and the text of this state is that text.
 pub fn restored_centres_are_one()
@@ -16,4 +21,25 @@ pub fn restored_centres_are_one()
         → IsRestored settings text state → text_of_state state ≡ text }
 {
     texts_tell_states_apart();
+}
+
+/// What is restored of a saved central system, by its settings, is that central system, whatever came to it before: so
+/// every further call answers the same. It can be restored.
+pub fn a_saved_centre_is_restored_as_itself()
+    ensures itself { (saved again : CentreState) → IsReached saved
+        → IsRestored saved.settings (text_of_state saved) again → again ≡ saved }
+    ensures can { (saved : CentreState) → IsReached saved → IsRestored saved.settings (text_of_state saved) saved }
+{
+    texts_tell_states_apart();
+}
+
+/// A run in which a central system is saved and restored between any two inputs ends as that without: in the same
+/// state, and with the same datagrams sent.
+pub fn saves_change_no_run()
+    ensures { (settings : SettingsModel) (first : ℕ) (events : List Event) (after : History) → AreSettings settings
+        → first < 2 ^ 32 → AllByRecursion IsInput (inputs_of events) → Goes events (made settings first) after
+        → after ≡ after_inputs (made settings first) (inputs_of events) }
+{
+    texts_tell_states_apart();
+    states_are_reached();
 }

@@ -1,6 +1,6 @@
 //! Central systems that go on from a state, which a text says: a candidate is made of the text's lines, and its own
 //! text is compared with the one that was given. So a central system that is restored has just the text's state, and no
-//! text makes another.
+//! text makes another; each text of a state that one comes to is taken back.
 //!
 //! ```
 //! let settings = Settings { community: b"admin", order: Order::High };

@@ -1,11 +1,15 @@
 //! Lines of a state's text: each reader takes them from the text's front, and hands back the text after them.
 
-ghost use Rattle.std.specs.Prelude.{◌≡◌, ◌≤◌, IfOk};
+ghost use Rattle.std.specs.Prelude.{◌≡◌, ◌≤◌, [], IfOk, option_map};
+ghost use Rattle.std.specs.Result.{result_ok};
+ghost use Rattle.dms_centre_restored.specs.LineReading.{field_at, number_line_at, first_lines_at, end_at, why_alone};
+ghost use Rattle.dms_centre_restored.specs.LineReading.{why_numbered, why_of_row, why_caused, why_in, step_digit};
+ghost use Rattle.dms_centre_restored.specs.LineReading.{failed_at, failed_in, ended_in, phase_at, can_wait};
 
 use crate::refusal::{Lack, StateField, Unread};
-use crate::words::{behind, number, signed};
+use crate::words::{behind, line, number, signed};
 use dms_centre::{Ended, Why};
-use dms_text::{are_same, split_once};
+use dms_text::are_same;
 
 /// What stands behind the name of a line.
 #[derive(Drop)]
@@ -17,11 +21,14 @@ pub(crate) struct NamedLine<'a> {
 }
 
 /// A line of a name, which ends with a space.
+#[tactic(auto, unfolding(crate::specs::LineReading::field_at))]
 pub(crate) fn field<'a>(
     name: &[u8],
     wanted: StateField,
     text: &'a [u8],
-) -> Result<NamedLine<'a>, Unread> {
+) -> Result<NamedLine<'a>, Unread>
+    ensures { option_map (λ line. (line.value.now, line.rest.now)) (result_ok result) ≡ field_at name.now text.now }
+{
     let lack = Lack {
         wanted,
         left: text.len(),
@@ -29,13 +36,14 @@ pub(crate) fn field<'a>(
     let Some(text) = behind(name, text) else {
         return Err(Unread::Lacks(lack));
     };
-    match split_once(text, b'\n') {
+    match line(text) {
         Some((value, rest)) => Ok(NamedLine { value, rest, lack }),
         None => Err(Unread::Lacks(lack)),
     }
 }
 
 /// A line whose value is a number from low to high.
+#[tactic(auto, unfolding(crate::specs::LineReading::number_line_at))]
 pub(crate) fn number_line<'a>(
     name: &[u8],
     wanted: StateField,
@@ -43,6 +51,7 @@ pub(crate) fn number_line<'a>(
     high: u32,
     text: &'a [u8],
 ) -> Result<(u32, &'a [u8]), Unread>
+    ensures value { option_map (λ x. (x.0, x.1.now)) (result_ok result) ≡ number_line_at name.now low high text.now }
     ensures least { IfOk result (λ x. low ≤ x.0) }
     ensures most { IfOk result (λ x. x.0 ≤ high) }
 {
@@ -54,7 +63,10 @@ pub(crate) fn number_line<'a>(
 }
 
 /// The first two lines: the form, and the number that the next request takes.
-pub(crate) fn first_lines(text: &[u8]) -> Result<(u32, &[u8]), Unread> {
+#[tactic(auto, unfolding(crate::specs::LineReading::first_lines_at))]
+pub(crate) fn first_lines(text: &[u8]) -> Result<(u32, &[u8]), Unread>
+    ensures { option_map (λ x. (x.0, x.1.now)) (result_ok result) ≡ first_lines_at text.now }
+{
     match behind(b"state 1 centre\n", text) {
         Some(rest) => number_line(b"next ", StateField::Next, 0, u32::MAX, rest),
         None => Err(Unread::Lacks(Lack {
@@ -65,7 +77,10 @@ pub(crate) fn first_lines(text: &[u8]) -> Result<(u32, &[u8]), Unread> {
 }
 
 /// How the last job ended.
-pub(crate) fn ended(value: &[u8]) -> Option<Ended> {
+#[tactic(auto, unfolding(crate::specs::LineReading::ended_in))]
+pub(crate) fn ended(value: &[u8]) -> Option<Ended>
+    ensures { result ≡ ended_in value.now }
+{
     if are_same(value, b"none") {
         Some(Ended::Never)
     } else if are_same(value, b"accepted") {
@@ -75,15 +90,30 @@ pub(crate) fn ended(value: &[u8]) -> Option<Ended> {
     }
 }
 
-fn failed(value: &[u8]) -> Option<Ended> {
+fn failed(value: &[u8]) -> Option<Ended>
+    ensures { result ≡ failed_in value.now }
+{
     match value {
-        [step, b':', b' ', reason @ ..] => Some(Ended::Failed(step_digit(*step)?, why(reason)?)),
-        _ => None,
+        [] => None,
+        [digit, rest @ ..] => failed_at(*digit, rest),
     }
 }
 
+/// The end of a job that failed at the step of a digit.
+#[tactic(auto, unfolding(crate::specs::LineReading::failed_at))]
+fn failed_at(digit: u8, rest: &[u8]) -> Option<Ended>
+    ensures { result ≡ failed_at digit rest.now }
+{
+    let reason = behind(b": ", rest)?;
+    let step = step_digit(digit)?;
+    let why = why(reason)?;
+    Some(Ended::Failed(step, why))
+}
+
 /// The number of a step that a digit is.
-fn step_digit(digit: u8) -> Option<u8> {
+fn step_digit(digit: u8) -> Option<u8>
+    ensures { result ≡ step_digit digit }
+{
     if b'1' <= digit && digit <= b'8' {
         Some(digit - b'0')
     } else {
@@ -92,14 +122,19 @@ fn step_digit(digit: u8) -> Option<u8> {
 }
 
 /// Why a job failed.
-fn why(reason: &[u8]) -> Option<Why> {
+fn why(reason: &[u8]) -> Option<Why>
+    ensures { result ≡ why_in reason.now }
+{
     match why_alone(reason) {
         Some(why) => Some(why),
         None => why_numbered(reason),
     }
 }
 
-fn why_alone(reason: &[u8]) -> Option<Why> {
+#[tactic(auto, unfolding(crate::specs::LineReading::why_alone))]
+fn why_alone(reason: &[u8]) -> Option<Why>
+    ensures { result ≡ why_alone reason.now }
+{
     if are_same(reason, b"the row is still being validated") {
         Some(Why::StillValidating)
     } else if are_same(reason, b"the row has another checksum") {
@@ -117,13 +152,30 @@ fn why_alone(reason: &[u8]) -> Option<Why> {
     }
 }
 
-fn why_numbered(reason: &[u8]) -> Option<Why> {
-    if let Some(word) = behind(b"error-status ", reason) {
-        return Some(Why::Status(signed(word)?));
+#[tactic(auto, unfolding(crate::specs::LineReading::why_numbered))]
+fn why_numbered(reason: &[u8]) -> Option<Why>
+    ensures { result ≡ why_numbered reason.now }
+{
+    match behind(b"error-status ", reason) {
+        Some(word) => Some(Why::Status(signed(word)?)),
+        None => why_of_row(reason),
     }
-    if let Some(word) = behind(b"the row has status ", reason) {
-        return Some(Why::WrongStatus(signed(word)?));
+}
+
+#[tactic(auto, unfolding(crate::specs::LineReading::why_of_row))]
+fn why_of_row(reason: &[u8]) -> Option<Why>
+    ensures { result ≡ why_of_row reason.now }
+{
+    match behind(b"the row has status ", reason) {
+        Some(word) => Some(Why::WrongStatus(signed(word)?)),
+        None => why_caused(reason),
     }
+}
+
+#[tactic(auto, unfolding(crate::specs::LineReading::why_caused))]
+fn why_caused(reason: &[u8]) -> Option<Why>
+    ensures { result ≡ why_caused reason.now }
+{
     let word = behind(b"the sign refused the activation for cause ", reason)?;
     Some(Why::Cause(signed(word)?))
 }
@@ -136,15 +188,25 @@ pub(crate) enum PhaseLine {
     Due,
 }
 
+/// Whether the number before the next one is that of a request.
+fn can_wait(next: u32) -> bool
+    ensures { result ≡ can_wait next }
+{
+    1 <= next && next <= 2_147_483_648
+}
+
 /// Whether a job is on. A request waits only where the number before the next one is that of a request.
-pub(crate) fn phase_line(next: u32, text: &[u8]) -> Result<(PhaseLine, &[u8]), Unread> {
+#[tactic(auto, unfolding(crate::specs::LineReading::phase_at))]
+pub(crate) fn phase_line(next: u32, text: &[u8]) -> Result<(PhaseLine, &[u8]), Unread>
+    ensures { option_map (λ x. (x.0, x.1.now)) (result_ok result) ≡ phase_at next text.now }
+{
     if let Some(rest) = behind(b"idle\n", text) {
         return Ok((PhaseLine::Idle, rest));
     }
     if let Some(rest) = behind(b"due\n", text) {
         return Ok((PhaseLine::Due, rest));
     }
-    let can_wait = 1 <= next && next <= 2_147_483_648;
+    let can_wait = can_wait(next);
     match behind(b"awaits\n", text) {
         Some(rest) if can_wait => Ok((PhaseLine::Awaits, rest)),
         _ => Err(Unread::Lacks(Lack {
@@ -159,7 +221,9 @@ pub(crate) fn phase_line(next: u32, text: &[u8]) -> Result<(PhaseLine, &[u8]), U
 }
 
 /// The last line, and nothing after it.
-pub(crate) fn last_line(text: &[u8]) -> Result<(), Unread> {
+pub(crate) fn last_line(text: &[u8]) -> Result<(), Unread>
+    ensures { option_map (λ _. []) (result_ok result) ≡ end_at text.now }
+{
     if are_same(text, b"end\n") {
         Ok(())
     } else {

@@ -1,12 +1,17 @@
 //! A central system in the state that a text says.
 
-ghost use Rattle.std.specs.Prelude.{◌≡◌, ◌+◌, ◌==◌, IfOk, IfErr, OnOk, count_by, not};
+ghost use Rattle.std.specs.Prelude.{◌≡◌, ◌+◌, ◌==◌, true, IfOk, IfErr, OnOk, count_by, not};
 ghost use Rattle.std.specs.Str.{byte};
 ghost use Rattle.dms_codes.specs.Limits.{has_community_size};
 ghost use Rattle.dms_centre.specs.CodeView.{settings_model};
 ghost use Rattle.dms_centre_state.specs.CentreText.{text_of_state};
 ghost use Rattle.dms_centre_state.specs.Reached.{IsReached};
-ghost use Rattle.dms_centre_restored.specs.Restored.{GoesOn, IsRestored, IsLineFaultOf, IsToldOf, is_of_settings};
+ghost use Rattle.dms_centre_restored.specs.Restored.{GoesOn, IsRestored, IsNoneOf, IsLineFaultOf, IsToldOf};
+ghost use Rattle.dms_centre_restored.specs.Restored.{is_of_settings, IsSaid};
+ghost use Rattle.dms_centre_restored.specs.WordReading.{Gives};
+ghost use Rattle.dms_centre_restored.specs.LineReading.{first_lines_at};
+ghost use Rattle.dms_centre_restored.specs.StateReading.{job_lent, last_line_at, ledger_at, lines_at, taken_at};
+ghost use Rattle.dms_centre_restored.specs.StateReading.{first_number_in, compared};
 
 use crate::job_lines::{JobLines, job_lines};
 use crate::ledger_lines::{put_last, put_ledger, put_with_job};
@@ -16,12 +21,14 @@ use dms_centre::laws::centres_are_kept;
 use dms_centre::{Centre, Settings};
 use dms_centre_state::saved;
 use dms_codes::Order;
+use dms_text::are_same;
 use std::alloc::Global;
 
 /// A central system of the settings that goes on from the state which a text says, or the first thing for which there
 /// is none: with the settings, or the first line that is not as it must be. Its ledger takes memory from `alloc`.
 pub fn restored(alloc: Global, settings: Settings<'_>, text: &[u8]) -> Result<Centre, RestoreFault>
     ensures ok { IfOk result (λ centre. IsRestored (settings_model settings.entry) text.now centre.state) }
+    ensures none { IfErr result (IsNoneOf (settings_model settings.entry) text.now) }
     ensures community { IfErr result
         (λ fault. is_of_settings fault ≡ not (has_community_size settings.entry.community.now)) }
     ensures line { IfErr result (IsLineFaultOf text.now) }
@@ -38,7 +45,9 @@ pub fn restored(alloc: Global, settings: Settings<'_>, text: &[u8]) -> Result<Ce
 }
 
 /// The number that the next request takes, where the text says one.
-fn first_number(text: &[u8]) -> u32 {
+fn first_number(text: &[u8]) -> u32
+    ensures { result ≡ first_number_in (first_lines_at text.now) }
+{
     match first_lines(text) {
         Ok((number, _)) => number,
         Err(_) => 0,
@@ -46,27 +55,33 @@ fn first_number(text: &[u8]) -> u32 {
 }
 
 /// Takes up the state that a text says, and compares the text of what was taken up.
+#[tactic(auto, unfolding(crate::specs::StateReading::taken_at))]
 fn take_up(alloc: Global, centre: &mut Centre, text: &[u8]) -> Result<(), Unread>
     requires { IsReached centre.old.state }
     ensures reached { OnOk result (GoesOn centre.old.state centre.new.state) }
     ensures text { OnOk result (text_of_state centre.new.state ≡ text.now) }
+    ensures read { Gives (λ _. centre.new.state) result (taken_at centre.old.state text.now) }
 {
     let (_, rest) = first_lines(text)?;
     put_lines(alloc, centre, rest)?;
-    compare(alloc, centre, text)
+    compare(alloc, centre, text)?;
+    Ok(())
 }
 
 /// Takes up what stands behind the first two lines.
+#[tactic(auto, unfolding(crate::specs::StateReading::lines_at))]
 fn put_lines(alloc: Global, centre: &mut Centre, text: &[u8]) -> Result<(), Unread>
     requires { IsReached centre.old.state }
-    ensures { OnOk result (GoesOn centre.old.state centre.new.state) }
+    ensures goes { OnOk result (GoesOn centre.old.state centre.new.state) }
+    ensures read { Gives (λ _. centre.new.state) result (lines_at centre.old.state text.now) }
 {
     let order = centre.order();
     let next = centre.next_number();
     let rest = put_last_line(centre, text)?;
     let (job, rest) = job_lines(alloc, order, next, rest)?;
     let rest = put_job_and_ledger(centre, order, job.as_ref(), rest)?;
-    last_line(rest)
+    last_line(rest)?;
+    Ok(())
 }
 
 fn put_job_and_ledger<'a>(
@@ -76,7 +91,9 @@ fn put_job_and_ledger<'a>(
     text: &'a [u8],
 ) -> Result<&'a [u8], Unread>
     requires { IsReached centre.old.state }
-    ensures { OnOk result (GoesOn centre.old.state centre.new.state) }
+    ensures goes { OnOk result (GoesOn centre.old.state centre.new.state) }
+    ensures read { Gives (λ rest. (centre.new.state, rest.now)) result
+        (ledger_at order (job_lent job.entry) centre.old.state text.now) }
 {
     match job {
         Some(job) => put_with_job(centre, order, job, text),
@@ -85,9 +102,11 @@ fn put_job_and_ledger<'a>(
 }
 
 /// Takes up how the last job ended.
+#[tactic(auto, unfolding(crate::specs::StateReading::last_line_at))]
 fn put_last_line<'a>(centre: &mut Centre, text: &'a [u8]) -> Result<&'a [u8], Unread>
     requires { IsReached centre.old.state }
-    ensures { OnOk result (GoesOn centre.old.state centre.new.state) }
+    ensures goes { OnOk result (GoesOn centre.old.state centre.new.state) }
+    ensures read { Gives (λ rest. (centre.new.state, rest.now)) result (last_line_at centre.old.state text.now) }
 {
     let field = field(b"last ", StateField::Last, text)?;
     let Some(ended) = ended(field.value) else {
@@ -98,11 +117,13 @@ fn put_last_line<'a>(centre: &mut Centre, text: &'a [u8]) -> Result<&'a [u8], Un
 }
 
 /// Compares the text of a central system's state with a text.
+#[tactic(auto, using(crate::proofs::Codes::same_texts))]
 fn compare(alloc: Global, centre: &Centre, text: &[u8]) -> Result<(), Unread>
-    ensures { OnOk result (text_of_state centre.now.state ≡ text.now) }
+    ensures text { OnOk result (text_of_state centre.now.state ≡ text.now) }
+    ensures same { Gives (λ _. true) result (compared (text_of_state centre.now.state) text.now) }
 {
     let written = saved(alloc, centre)?;
-    if written.as_slice() == text {
+    if are_same(written.as_slice(), text) {
         Ok(())
     } else {
         let same = same_octets(written.as_slice(), text);
@@ -126,7 +147,8 @@ fn same_octets(one: &[u8], other: &[u8]) -> usize {
 
 /// What is told of a text that is not taken up.
 fn refusal_of(text: &[u8], unread: Unread) -> StateRefusal
-    ensures { IsToldOf text.now result }
+    ensures line { IsToldOf text.now result }
+    ensures said { IsSaid unread result }
 {
     match unread {
         Unread::Memory => StateRefusal::Memory,

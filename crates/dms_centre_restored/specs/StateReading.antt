@@ -1,0 +1,194 @@
+-- The state that a central system takes up of a text's lines. Inner words of the readers (this profile).
+use Rattle.std.specs.Prelude.{ℕ, zero, suc, ◌+◌, ◌-◌, ◌==◌, ◌&&◌, ◌||◌, Bool, true, false, not, nat_le, nat_lt}
+use Rattle.std.specs.Prelude.{if◌then◌else◌, List, [], ◌∷◌, codes, length, Option, Some, None}
+use Rattle.std.specs.Option.{option_or}
+use Rattle.std.specs.Borrow.{Bor}
+use Rattle.dms_text.specs.Reading.{same_octets, ◌>>=◌}
+use Rattle.dms_codes.specs.declared.codes.Order.{Order}
+use Rattle.dms_codes.specs.declared.codes.Activation.{Activation}
+use Rattle.dms_centre_jobs.specs.Job.{Job}
+use Rattle.dms_centre_jobs.specs.Commands.{is_good, job_of}
+use Rattle.dms_centre_jobs.specs.CodeView.{command_model}
+use Rattle.dms_centre.specs.declared.restoring.SavedJob.{SavedJob}
+use Rattle.dms_centre.specs.declared.restoring.JobFault.{JobFault}
+use Rattle.dms_centre.specs.declared.restoring.JobFault.TheVariants as jobs
+use Rattle.dms_centre.specs.declared.outcome.Outcome.{Outcome}
+use Rattle.dms_centre.specs.State.{Entry, CentreState, is_busy}
+use Rattle.dms_centre.specs.Replies.{most_polls}
+use Rattle.dms_centre.specs.Resending.{is_waiting}
+use Rattle.dms_centre.specs.Restoring.{number_after, entry_fault, with_entry, suits, stage_fault}
+use Rattle.dms_centre.specs.Restoring.{waits_for_activation, with_job, end_fault, with_last}
+use Rattle.dms_centre_state.specs.CentreText.{text_of_state}
+use Rattle.dms_centre_text.specs.CommandView.{owned_command_model}
+use Rattle.dms_centre_restored.specs.declared.job_lines.JobLines.{JobLines}
+use Rattle.dms_centre_restored.specs.declared.ledger_lines.EntryLine.{EntryLine}
+use Rattle.dms_centre_restored.specs.WordReading.{starts_with}
+use Rattle.dms_centre_restored.specs.LineReading.{field_at, ended_in, JobRead, job_lines_at, entry_line_at, end_at}
+use Rattle.dms_centre_restored.specs.LineReading.{first_lines_at}
+
+-- ---- jobs
+
+-- the job of the lines, and as it is handed over
+abbrev pub job_read : JobLines → JobRead
+job_read job =
+    record { command = owned_command_model job.command; step = job.step; polls = job.polls; stage = job.stage }
+
+abbrev pub saved_read : SavedJob → JobRead
+saved_read job =
+    record { command = command_model job.command; step = job.step; polls = job.polls; stage = job.stage }
+
+abbrev pub job_lent : Option (Bor JobLines) → Option JobRead
+job_lent None = None
+job_lent (Some job) = Some (job_read job.now)
+
+abbrev pub job_found : Option JobLines → Option JobRead
+job_found None = None
+job_found (Some job) = Some (job_read job)
+
+-- its work, on its step
+abbrev pub job_of_read : JobRead → Job
+job_of_read job = record { work = (job_of job.command).work; step = job.step; polls = job.polls }
+
+-- its activation waits for a reply
+abbrev pub waits : JobRead → Bool
+waits job = waits_for_activation job.stage job.step
+
+-- what is wrong with it: `job_fault` of what is read
+abbrev pub read_fault : CentreState → JobRead → Option JobFault
+read_fault s job =
+    if is_busy s.phase then Some jobs.Busy
+    else option_or (stage_fault s.next job.step job.stage) (option_or
+    (if not (is_good job.command) then Some jobs.Command
+    else if not (suits (job_of job.command).work job.step) then Some jobs.Step
+    else if not (nat_lt job.polls most_polls) then Some jobs.Polls
+    else None)
+    (if waits job && not (nat_lt (number_after s.ledger) s.next) then Some jobs.Entry else None))
+
+-- ---- entries
+
+abbrev pub entry_read : EntryLine → Entry
+entry_read line = record { number = line.number; code = line.code; outcome = line.outcome }
+
+abbrev pub numbered_entry : ℕ × Activation × Outcome → Entry
+numbered_entry x = record { number = x.0; code = x.1; outcome = x.2 }
+
+-- the number of an entry that was taken up, and the text after it
+abbrev pub next_found : Option (ℕ × Bor (List ℕ)) → Option (ℕ × List ℕ)
+next_found None = None
+next_found (Some found) = Some (found.0, found.1.now)
+
+-- ---- what is taken up, where nothing is wrong with it
+
+abbrev pub unless : {A F : Type 0} → Option F → A → Option A
+unless None value = Some value
+unless (Some fault) value = None
+
+abbrev pub with_read_entry : CentreState → Entry → Option CentreState
+with_read_entry s entry = unless (entry_fault s entry.number entry.outcome) (with_entry s entry)
+
+abbrev pub with_read_job : CentreState → JobRead → Option CentreState
+with_read_job s job = unless (read_fault s job) (with_job s (job_of_read job) job.stage)
+
+unfoldable pub last_line_at : CentreState → List ℕ → Option (CentreState × List ℕ)
+last_line_at s text = do
+  field ← field_at (codes "last ") text
+  ended ← ended_in field.0
+  unless (end_fault ended) (with_last s ended, field.1)
+
+-- ---- the ledger
+
+-- an entry is taken up, unless it is that of an activation that waits
+abbrev pub with_settled : Bool → CentreState → Entry × List ℕ → Option (CentreState × Option (ℕ × List ℕ))
+with_settled waits s found =
+    if waits && found.0.number + 1 == s.next then Some (s, None)
+    else (with_read_entry s found.0 >>= (λ t. Some (t, Some (found.0.number, found.1))))
+
+-- one entry more, if one is next: its number, and the text after it
+unfoldable pub next_entry_at : Order → Bool → CentreState → ℕ → List ℕ → Option (CentreState × Option (ℕ × List ℕ))
+next_entry_at order waits s least text =
+    if nat_le s.next least || not (starts_with (codes "ledger ") text) then Some (s, None)
+    else (entry_line_at order least (s.next - 1) text >>= with_settled waits s)
+
+abbrev pub or_these : {A : Type 0} → Option (ℕ × List ℕ) → A → (ℕ → List ℕ → A) → A
+or_these None none more = none
+or_these (Some found) none more = more (found.0 + 1) found.1
+
+-- so many entries at most; the least number that one more can have, and the text after them
+unfoldable pub entries_at
+    : Order → Bool → ℕ → CentreState → ℕ → List ℕ → Option (CentreState × (ℕ × List ℕ))
+entries_at order waits zero s least text = Some (s, (least, text))
+entries_at order waits (suc more) s least text =
+    next_entry_at order waits s least text
+    >>= (λ found. or_these found.1 (Some (found.0, (least, text))) (entries_at order waits more found.0))
+
+-- the same codes, octet by octet
+abbrev pub same_codes : Activation → Activation → Bool
+same_codes one other =
+    one.minutes == other.minutes && (one.priority == other.priority && (one.id.memory == other.id.memory
+    && (one.id.number == other.id.number && (one.id.crc == other.id.crc && same_octets one.address other.address))))
+
+-- the last entry is of this code
+abbrev pub has_last_code : List Entry → Activation → Bool
+has_last_code [] code = false
+has_last_code (entry ∷ []) code = same_codes entry.code code
+has_last_code (entry ∷ next ∷ ledger) code = has_last_code (next ∷ ledger) code
+
+-- the entry that was read is that which came with the job
+abbrev pub is_entered : CentreState → Entry → Bool
+is_entered s entry = is_waiting entry.outcome && has_last_code s.ledger entry.code
+
+-- the job whose activation waits, and its entry
+unfoldable pub activation_taken_at : Order → CentreState → JobRead → ℕ → List ℕ → Option (CentreState × List ℕ)
+activation_taken_at order s job least text = do
+  found ← entry_line_at order least (s.next - 1) text
+  t ← with_read_job s job
+  if is_entered t found.0 then Some (t, found.1) else None
+
+-- a job behind the entries that do not wait
+abbrev pub with_job_behind
+    : Order → JobRead → CentreState × (ℕ × List ℕ) → Option (CentreState × List ℕ)
+with_job_behind order job read =
+    if waits job then activation_taken_at order read.0 job read.1.0 read.1.1
+    else (with_read_job read.0 job >>= (λ t. Some (t, read.1.1)))
+
+abbrev pub behind_entries
+    : Order → Option JobRead → CentreState × (ℕ × List ℕ) → Option (CentreState × List ℕ)
+behind_entries order None read = Some (read.0, read.1.1)
+behind_entries order (Some job) read = with_job_behind order job read
+
+abbrev pub job_waits : Option JobRead → Bool
+job_waits None = false
+job_waits (Some job) = waits job
+
+-- the ledger, and the job that is on
+unfoldable pub ledger_at : Order → Option JobRead → CentreState → List ℕ → Option (CentreState × List ℕ)
+ledger_at order job s text = do
+  read ← entries_at order (job_waits job) (length text) s 0 text
+  behind_entries order job read
+
+-- ---- the whole
+
+-- what stands behind the first two lines
+unfoldable pub lines_at : CentreState → List ℕ → Option CentreState
+lines_at s text = do
+  last ← last_line_at s text
+  job ← job_lines_at s.settings.order s.next last.1
+  ledger ← ledger_at s.settings.order job.0 last.0 job.1
+  end ← end_at ledger.1
+  Some ledger.0
+
+-- the number that the next request takes, and 0 where the text says none
+abbrev pub first_number_in : Option (ℕ × List ℕ) → ℕ
+first_number_in None = 0
+first_number_in (Some found) = found.0
+
+abbrev pub compared : List ℕ → List ℕ → Option Bool
+compared one other = if same_octets one other then Some true else None
+
+-- the state of a whole text, which has just this text
+unfoldable pub taken_at : CentreState → List ℕ → Option CentreState
+taken_at s text = do
+  first ← first_lines_at text
+  t ← lines_at s first.1
+  same ← compared (text_of_state t) text
+  Some t
