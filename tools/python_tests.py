@@ -7,8 +7,9 @@
 
 The tests of the tester and of the control room are run by `tests.tester.short` and `tests.room.short`. A folder is a
 run of its own, as in a fresh clone. The programs are taken of this Python, or of the system's where this one has them
-not, and are skipped by name where neither has. black keeps in its own cache which files are as it would have them: over
-all files it takes a minute or some the first time, and then seconds.
+not, and are skipped by name where neither has; so is mypy where its Python lacks a package of the control room. black
+keeps in its own cache which files are as it would have them: over all files it takes a minute or some the first time,
+and then seconds.
 """
 
 from __future__ import annotations
@@ -37,6 +38,9 @@ SLOW = (  # a minute each
     "tools/tries/tests/test_planted.py",
 )
 
+# of the control room: where one is not here, mypy finds faults in all that is made of its classes and calls
+TYPED = ("aiohttp", "jinja2", "markupsafe", "prometheus_client", "yarl")
+
 _CONFIGURED = "python/pyproject.toml"
 _LAYOUTS: dict[str, list[str]] = {  # .flake8 has the options of flake8
     "black": ["--check", "--quiet", "--config", _CONFIGURED],
@@ -45,13 +49,15 @@ _LAYOUTS: dict[str, list[str]] = {  # .flake8 has the options of flake8
 }
 
 
+def _has(python: str, module: str) -> bool:
+    """Whether a Python has this module."""
+    looks = [python, "-c", f"import {module}"]
+    return os.access(python, os.X_OK) and not subprocess.run(looks, capture_output=True, check=False).returncode
+
+
 def _python_with(module: str) -> str | None:
     """A Python that has this module."""
-    for python in PYTHONS:
-        looks = [python, "-c", f"import {module}"]
-        if os.access(python, os.X_OK) and not subprocess.run(looks, capture_output=True, check=False).returncode:
-            return python
-    return None
+    return next((python for python in PYTHONS if _has(python, module)), None)
 
 
 def _ran(*words: str) -> tuple[int, str]:
@@ -75,11 +81,16 @@ def _tested(python: str, folder: str, left_out: Sequence[str] = ()) -> tuple[int
     return passed, failed
 
 
-def _typed(python: str) -> tuple[int, int]:
-    """Whether the types of all Python here fit."""
+def _typed() -> list[tuple[int, int]]:
+    """Whether the types of all Python here fit, where what tells that is here."""
+    python = _python_with("mypy")
+    missing = next((name for name in TYPED if not _has(python, name)), None) if python else "it"
+    if python is None or missing:
+        print(f"skipped mypy: {missing} is not here")
+        return []
     status, said = _ran(python, "-m", "mypy", "--config-file", _CONFIGURED, "--cache-dir", os.devnull)
     print(said[-6000:] if status else f"mypy: {said.strip()}", flush=True)
-    return int(not status), int(bool(status))
+    return [(int(not status), int(bool(status)))]
 
 
 def _laid_out(files: Sequence[str]) -> list[tuple[int, int]]:
@@ -116,12 +127,8 @@ def main() -> int:
         results += [_tested(python, folder, SLOW if asked.quick else ()) for folder in asked.folders or every]
     else:
         print("skipped pytest: python3-pytest is not here")
-    if asked.folders or asked.quick or asked.layout:
-        pass
-    elif python := _python_with("mypy"):
-        results.append(_typed(python))
-    else:
-        print("skipped mypy: it is not here")
+    if not (asked.folders or asked.quick or asked.layout):
+        results += _typed()
     if asked.layout or not (asked.folders or asked.quick or asked.types):
         files = changed_python(TOP) if asked.changed else None
         results += _laid_out(["."] if files is None else files) if files != [] else [(1, 0)]

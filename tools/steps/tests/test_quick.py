@@ -12,7 +12,7 @@ import time
 import pytest
 
 import python_tests
-from steps.step import TOP, Step, judged
+from steps.step import TOP, Outcome, Step, judged
 
 NEEDED = ("tools/test.py", "tools/after_gate.py", "tools/check.py", "tools/build.py")
 FOLDERS = ("tools/steps", "tools/building", "tools/tries")
@@ -166,6 +166,44 @@ def test_where_no_python_has_pytest_or_mypy_they_are_skipped_by_name(
     status, printed = python_tests.main(), capsys.readouterr().out
     outcome = judged(Step("tests", "", 1), printed, status, 1.0)
     assert (outcome.passed, outcome.failed, outcome.skipped) == (0, 0, [f"tests: {name}"])
+
+
+def types_told(
+    python: pathlib.Path, text: str, monkeypatch: pytest.MonkeyPatch, capsys: pytest.CaptureFixture[str]
+) -> tuple[Outcome, str]:
+    """What comes of a look at types with a Python that is this script, and what is printed."""
+    write(python, f"#!/bin/sh\n{text}\n")
+    python.chmod(0o755)
+    monkeypatch.setattr(python_tests, "PYTHONS", (str(python),))
+    monkeypatch.setattr(sys, "argv", ["python_tests.py", "--types"])
+    status, printed = python_tests.main(), capsys.readouterr().out
+    return judged(Step("types", "", 1), printed, status, 1.0), printed
+
+
+@pytest.mark.parametrize("module", python_tests.TYPED)
+def test_where_a_package_of_the_control_room_is_missing_mypy_is_skipped_by_name(
+    module: str, tmp_path: pathlib.Path, monkeypatch: pytest.MonkeyPatch, capsys: pytest.CaptureFixture[str]
+) -> None:
+    text = f'[ "$1" = -c ] && [ "$2" != "import {module}" ]'
+    outcome, printed = types_told(tmp_path / "python", text, monkeypatch, capsys)
+    assert (outcome.passed, outcome.failed, outcome.skipped) == (0, 0, ["types: mypy"])
+    assert f"skipped mypy: {module} is not here\n" in printed
+
+
+@pytest.mark.parametrize("status", (0, 1))
+def test_where_all_of_them_are_here_types_are_looked_at(
+    status: int, tmp_path: pathlib.Path, monkeypatch: pytest.MonkeyPatch, capsys: pytest.CaptureFixture[str]
+) -> None:
+    outcome, _ = types_told(tmp_path / "python", f'[ "$1" = -c ] || exit {status}', monkeypatch, capsys)
+    assert (outcome.passed, outcome.failed, outcome.skipped) == (1 - status, status, [])
+
+
+def test_what_the_control_room_imports_of_others_is_looked_for() -> None:
+    found = set[str]()
+    for path in (TOP / "python/wisangub/room").rglob("*.py"):
+        found |= set(re.findall(r"(?m)^ *(?:import|from) (\w+)", path.read_text(encoding="utf-8")))
+    others = found - set(sys.stdlib_module_names) - {"wisangub", "psycopg"}  # it may go without PostgreSQL
+    assert others <= set(python_tests.TYPED)
 
 
 def file_of(command: str) -> pathlib.Path:
