@@ -2,21 +2,20 @@
 
 import pathlib
 import socket
-import threading
 from typing import Any, Callable, Iterator
 
 import pytest
 
-from model import text, wire
-from model.sign import Sign as ModelSign
+from model import wire
 from wisangub.endpoint.centre_front_end import CentreFrontEnd, last_command
 from wisangub.endpoint.journal import Journal
 from wisangub.endpoint.questions import Questions
 from wisangub.endpoint.records import Head
 from wisangub.process.coprocess import CoProcess
-from wisangub.process.places import TOP
 
-MODEL = str(TOP / "model/signtool")
+from .waiting import MODEL
+from .with_centres import BenchSign
+
 BLANK = b"blank 1 65535 255 127.0.0.1"
 
 
@@ -87,43 +86,22 @@ def test_a_reply_from_elsewhere_is_not_taken_and_told_once(
     centre.end()
 
 
-class Sign(threading.Thread):
-    """The model's bench sign at a port of its own; what it is asked with numbers below 0 it answers, or not."""
+class Sign(BenchSign):
+    """A bench sign; what it is asked with numbers below 0 it answers so."""
 
     def __init__(self, answers: Callable[[bytes], list[bytes]]) -> None:
-        super().__init__(daemon=True)
-        self.model, self.answers = ModelSign(text.bench()), answers
-        self.socket = socket.socket(socket.AF_INET, socket.SOCK_DGRAM)
-        self.socket.bind(("127.0.0.1", 0))
+        super().__init__()
+        self.answers = answers
         self.below: list[tuple[bytes, Any]] = []
         self.peers: set[Any] = set()
 
-    def run(self) -> None:
-        while True:
-            octets, peer = self.socket.recvfrom(2048)
-            if octets == b"":
-                return
-            self.model.tick()
-            reply = self.model.receive(octets)[0]
-            message = wire.spelled(octets)
-            replies = [reply] if reply else []
-            if message is not None and message.number < 0:
-                self.below.append((octets, peer))
-                replies = self.answers(replies[0])
-            else:
-                self.peers.add(peer)
-            for one in replies:
-                self.socket.sendto(one, peer)
-
-    def __enter__(self) -> "Sign":
-        self.start()
-        return self
-
-    def __exit__(self, *_: object) -> None:
-        with socket.socket(socket.AF_INET, socket.SOCK_DGRAM) as own:
-            own.sendto(b"", self.socket.getsockname())
-        self.join(10)
-        self.socket.close()
+    def replies(self, octets: bytes, _peer: Any) -> list[bytes]:
+        some, message = super().replies(octets, _peer), wire.spelled(octets)
+        if message is not None and message.number < 0:
+            self.below.append((octets, _peer))
+            return self.answers(some[0])
+        self.peers.add(_peer)
+        return some
 
 
 def other_number(reply: bytes) -> bytes:

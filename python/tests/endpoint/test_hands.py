@@ -13,8 +13,9 @@ from wisangub.endpoint.records import Head
 from wisangub.endpoint.setting import journal_of, number_above
 from wisangub.refusal import Refusal
 
+from .calls import without_syncs
 from .form1 import older
-from .test_journal import HEAD, kept, refused, without_syncs
+from .test_journal import HEAD, kept, refused
 
 
 def test_what_another_hand_did_is_seen_at_the_next_record() -> None:

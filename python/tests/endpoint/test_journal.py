@@ -5,7 +5,7 @@ import functools
 import os
 import pathlib
 import tempfile
-from typing import Callable, Iterator
+from typing import Callable
 from unittest import mock
 
 from wisangub.endpoint import records
@@ -17,6 +17,7 @@ from wisangub.endpoint.owed import MOST_EXACT
 from wisangub.endpoint.records import Head
 from wisangub.refusal import Refusal
 
+from .calls import CALLS, killed_in, without_syncs
 from .form1 import older
 
 HEAD = Head("sign", "bench")
@@ -39,13 +40,6 @@ def kept(path: str, head: Head = HEAD) -> list[bytes]:
     lines = [line for some in journal.lines() for line in some]
     os.close(journal.file)
     return lines
-
-
-@contextlib.contextmanager
-def without_syncs() -> Iterator[None]:
-    """What is looked at goes by what is written, many times over, and not by when it is on the disk."""
-    with mock.patch("os.fsync"), mock.patch("os.fdatasync"):
-        yield
 
 
 def made(path: str) -> bytes:
@@ -188,13 +182,9 @@ def test_a_journal_of_form_1_that_is_damaged_is_refused() -> None:
             pathlib.Path(folder, "journal.form1").unlink()
 
 
-class Killed(BaseException):
-    """The front end was killed at a call."""
-
-
 def test_killed_at_each_call_of_writing_anew_there_is_one_whole_journal() -> None:
     text = older([HEAD.line(), NOW.start(), NOW.clock(), *LINES])
-    for name in ("open", "write", "fsync", "link", "rename", "unlink"):
+    for name in CALLS:
         for at in range(1, 20):
             if not killed_at(text, name, at):
                 break
@@ -203,33 +193,18 @@ def test_killed_at_each_call_of_writing_anew_there_is_one_whole_journal() -> Non
 def killed_at(text: bytes, name: str, at: int) -> bool:
     """Whether a front end made so many of these calls before it was killed at the last of them; what it leaves is
     whole."""
-    call, count = getattr(os, name), [0]
-
-    def counted(*words: object, **more: object) -> object:
-        count[0] += 1
-        if count[0] == at:
-            raise Killed
-        return call(*words, **more)
-
     with tempfile.TemporaryDirectory() as folder:
         path = pathlib.Path(folder, "journal")
         path.write_bytes(text)
         pathlib.Path(folder, "journal.new").write_bytes(b"of an earlier kill")
-        try:
-            with mock.patch(f"os.{name}", counted):
-                kept(str(path))
-        except Killed:
-            pass
-        is_killed = count[0] >= at
-        for file in map(int, os.listdir("/proc/self/fd")):  # a kill closes what is open
-            if os.path.exists(f"/proc/self/fd/{file}") and os.readlink(f"/proc/self/fd/{file}").startswith(folder):
-                os.close(file)
+        with killed_in(name, at, pathlib.Path(folder)) as count:
+            kept(str(path))
         anew = records.records([HEAD._replace(form=2).line(), NOW.start(), NOW.clock(), *LINES])
         assert path.read_bytes() in (text, anew)
         assert kept(str(path)) == LINES
         asides = [one for one in os.listdir(folder) if one.startswith("journal.form1")]
         assert asides == ["journal.form1"] and pathlib.Path(folder, asides[0]).read_bytes() == text
-    return is_killed
+    return count[0] >= at
 
 
 def test_another_file_is_refused_and_left_as_it_is() -> None:

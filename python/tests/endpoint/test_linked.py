@@ -18,11 +18,11 @@ from wisangub.endpoint.shortening import Shortening
 from wisangub.output import LOG
 from wisangub.snmp import wire
 
+from .ends import SIGN
 from .form1 import older
 from .test_journal import HEAD, LINES, NOW, kept, made, refused
-from .test_short_journals import COUNTER, count
 from .test_shortening import Sign, Taken
-from .test_states import STATE
+from .with_objects import COUNTER
 from .with_objects import refused as refused_start
 from .with_objects import served
 
@@ -78,10 +78,10 @@ def test_shortened(linked: Linked, tmp_path: pathlib.Path, told: list[str]) -> N
         with mock.patch("signal.signal"):
             shortening = Shortening(1, Taken(), Archive(str(tmp_path / "kept")), None)
         shortening.is_asked = True
-        shortening.turn(Sign([*STATE, b"ok"]), keeper)
+        shortening.turn(Sign([*SIGN.state, b"ok"]), keeper)
         assert linked.stands() and linked.real.stat().st_ino != before.st_ino and not linked.others
     keeper.journal.close()
-    assert kept(str(linked.path)) == [] and Journal.opened(str(linked.real), HEAD).state() == STATE
+    assert kept(str(linked.path)) == [] and Journal.opened(str(linked.real), HEAD).state() == SIGN.state
     assert [name[:8] for name in sorted(os.listdir(tmp_path / "kept"))] == ["journal."] * 2
     assert all(line.startswith(f"{linked.path}: shortened from") for line in told) and len(told) == 2
 
@@ -131,7 +131,7 @@ def test_one_front_end_by_either_name(linked: Linked) -> None:
         ):
             assert refused(open_other) == f"{other}: another front end holds this journal"
         journal.keep([NOW.start(), NOW.clock()])
-        journal.exchange(STATE, lambda: None)
+        journal.exchange(SIGN.state, lambda: None)
         assert refused(lambda: opened(Place.of(str(other)))) == f"{other}: another front end holds this journal"
         journal.close()
     assert linked.stands()
@@ -147,7 +147,7 @@ def test_a_link_that_leads_elsewhere_is_another_hands(linked: Linked) -> None:
         linked.path.symlink_to(elsewhere)
         words = refused(lambda: journal.keep([b"tick"]))
         assert words.startswith(f"{linked.path}: another hand moved or changed it")
-        assert refused(lambda: journal.exchange(STATE, lambda: None)).startswith(f"{linked.path}: another hand")
+        assert refused(lambda: journal.exchange(SIGN.state, lambda: None)).startswith(f"{linked.path}: another hand")
         journal.close()
         linked.path.unlink()
         linked.path.symlink_to(linked.real)
@@ -170,9 +170,9 @@ def test_what_is_no_journal_is_told_by_the_path_that_was_given(linked: Linked) -
 def test_a_front_end_over_the_model(linked: Linked) -> None:
     words = ("--journal", str(linked.path), "--no-ticks")
     with served(*words) as front_end:
-        count(front_end, range(1, 4))
+        front_end.count(range(1, 4))
         front_end.hang_up(f"{linked.path}: shortened from")
-        count(front_end, range(4, 6))
+        front_end.count(range(4, 6))
         status, said = refused_start("--journal", str(linked.real))
         assert (status, said) == (2, f"{linked.real}: another front end holds this journal\n")
         front_end.process.kill()

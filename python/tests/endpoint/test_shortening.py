@@ -17,8 +17,8 @@ from wisangub.process import description
 from wisangub.process.coprocess import CoProcess
 from wisangub.process.places import TOP
 
+from .ends import SIGN
 from .test_journal import HEAD, LINES, NOW, Refusing, kept, refused
-from .test_states import STATE, opened
 from .waiting import PROGRAMS
 
 LATER = Moment("one", 1030, 40)
@@ -72,7 +72,7 @@ def test_sizes() -> None:
 
 
 def test_a_journal_is_shortened_when_it_is_longer_and_not_before(keeper: Keeper, told: list[str]) -> None:
-    shortening, sign = Shortening(1000, Taken(), None, None), Sign([*STATE, b"ok"])
+    shortening, sign = Shortening(1000, Taken(), None, None), Sign([*SIGN.state, b"ok"])
     sizes = []
     for at in range(200):
         before = keeper.journal.size
@@ -94,27 +94,21 @@ def test_a_journal_is_shortened_when_it_is_longer_and_not_before(keeper: Keeper,
 
 
 def test_the_lines_before_are_in_the_state_and_those_after_it_behind(keeper: Keeper, told: list[str]) -> None:
-    shortening, sign, path = Shortening(1, Taken(), None, None), Sign([*STATE, b"ok"]), keeper.journal.path
+    shortening, sign, path = Shortening(1, Taken(), None, None), Sign([*SIGN.state, b"ok"]), keeper.journal.path
     keeper.tick(7, 17.0)
     keeper.heard(by_kept=False)
     keeper.tick(3, 20.0)
     shortening.turn(sign, keeper)
-    assert keeper.seconds == 0 and not keeper.journal.owed and opened_beside(path).last == NOW.later(10)
+    assert keeper.seconds == 0 and not keeper.journal.owed and SIGN.opened_beside(path).last == NOW.later(10)
     keeper.heard(by_kept=False)
     keeper.tick(2, 22.0)
     keeper.keep([b"datagram 30"])
     keeper.journal.close()
-    assert opened(path).state() == STATE and kept(path) == [b"heard", b"ticks 2", b"datagram 30"] and told
-
-
-def opened_beside(path: str) -> Journal:
-    """What a start finds in a copy of a file."""
-    pathlib.Path(f"{path}.copy").write_bytes(pathlib.Path(path).read_bytes())
-    return opened(f"{path}.copy")
+    assert SIGN.opened(path).state() == SIGN.state and kept(path) == [b"heard", b"ticks 2", b"datagram 30"] and told
 
 
 def test_a_state_that_another_process_does_not_take_is_not_used(keeper: Keeper, told: list[str]) -> None:
-    sign, trial, path = Sign([*STATE, b"ok"]), Taken("it is another"), keeper.journal.path
+    sign, trial, path = Sign([*SIGN.state, b"ok"]), Taken("it is another"), keeper.journal.path
     shortening = Shortening(1, trial, None, None)
     keeper.keep(LINES)
     before = pathlib.Path(path).read_bytes()
@@ -122,7 +116,7 @@ def test_a_state_that_another_process_does_not_take_is_not_used(keeper: Keeper, 
         for now in (100.0, 130.0, 159.0, 161.0, 250.0):
             running.return_value = now
             shortening.turn(sign, keeper)
-        assert trial.states == [STATE] * 3, "it is tried again each minute"
+        assert trial.states == [SIGN.state] * 3, "it is tried again each minute"
         assert pathlib.Path(path).read_bytes() == before and told == [f"{path} is not shortened: it is another"]
         shortening.is_asked = True
         shortening.turn(sign, keeper)
@@ -130,7 +124,7 @@ def test_a_state_that_another_process_does_not_take_is_not_used(keeper: Keeper, 
         trial.why = ""
         running.return_value = 400.0
         shortening.turn(sign, keeper)
-    assert opened_beside(path).state() == STATE and "shortened from" in told[-1]
+    assert SIGN.opened_beside(path).state() == SIGN.state and "shortened from" in told[-1]
 
 
 def test_a_program_that_cannot_say_its_state_is_left_alone(keeper: Keeper, told: list[str]) -> None:
@@ -140,7 +134,7 @@ def test_a_program_that_cannot_say_its_state_is_left_alone(keeper: Keeper, told:
 
 
 def test_what_is_owed_comes_first(keeper: Keeper, told: list[str]) -> None:
-    shortening, sign, path = Shortening(1, Taken(), None, None), Sign([*STATE, b"ok"]), keeper.journal.path
+    shortening, sign, path = Shortening(1, Taken(), None, None), Sign([*SIGN.state, b"ok"]), keeper.journal.path
     keeper.journal.__class__ = Refusing
     keeper.tick(5, 15.0)
     before = pathlib.Path(path).read_bytes()
@@ -149,13 +143,13 @@ def test_what_is_owed_comes_first(keeper: Keeper, told: list[str]) -> None:
     keeper.journal.__class__ = Journal
     shortening.is_asked = True
     shortening.turn(sign, keeper)
-    assert sign.asked and opened_beside(path).last == NOW.later(5)
+    assert sign.asked and SIGN.opened_beside(path).last == NOW.later(5)
 
 
 def test_a_sighup_asks_for_it_and_others_see_it_too(keeper: Keeper, told: list[str]) -> None:
     seen: list[int] = []
     signal.signal(signal.SIGHUP, lambda number, _: seen.append(number))
-    shortening, sign = Shortening(10**6, Taken(), None, None), Sign([*STATE, b"ok"])
+    shortening, sign = Shortening(10**6, Taken(), None, None), Sign([*SIGN.state, b"ok"])
     shortening.turn(sign, keeper)
     assert not sign.asked
     signal.raise_signal(signal.SIGHUP)
@@ -192,11 +186,11 @@ def test_another_process_that_does_not_answer_is_not_waited_for(tmp_path: pathli
     slow.write_text("#!/bin/sh\nexec sleep 60\n", encoding="ascii")
     slow.chmod(0o755)
     with mock.patch("wisangub.endpoint.shortening._PATIENCE", 0.1):
-        assert "timed out" in Trial(str(slow), None).fault(STATE)
+        assert "timed out" in Trial(str(slow), None).fault(SIGN.state)
 
 
 def test_without_a_record_of_the_time_nothing_is_shortened(tmp_path: pathlib.Path) -> None:
     journal = Journal.opened(str(tmp_path / "journal"), HEAD)
     with pytest.raises(NotKept, match="no record of it tells the time"):
-        journal.exchange(STATE, lambda: None)
+        journal.exchange(SIGN.state, lambda: None)
     journal.close()

@@ -1,19 +1,21 @@
 """A centre's front end over the model, and the model's bench sign that it speaks to, for tests of its journal."""
 
 import contextlib
-import signal
 import socket
 import subprocess
-import sys
 import threading
 from collections.abc import Iterator
-from dataclasses import dataclass, field
+from dataclasses import dataclass
+from typing import Any, Self
 
 from model import text, wire
 from model.sign import Sign
-from wisangub.process.places import TOP, environment
 
-from .waiting import MODEL, PATIENCE, until
+from . import started
+from .started import Started
+from .waiting import PATIENCE, until
+
+BLANK = "blank 1 65535 255 127.0.0.1"
 
 
 class BenchSign(threading.Thread):
@@ -29,11 +31,15 @@ class BenchSign(threading.Thread):
 
     def run(self) -> None:
         while octets := (found := self.socket.recvfrom(2048))[0]:
-            self.heard.append(octets)
-            self.model.tick()
-            reply = None if self.is_silent else self.model.receive(octets)[0]
-            if reply:
+            for reply in self.replies(octets, found[1]):
                 self.socket.sendto(reply, found[1])
+
+    def replies(self, octets: bytes, _peer: Any) -> list[bytes]:
+        """What it says to a datagram of a peer."""
+        self.heard.append(octets)
+        self.model.tick()
+        reply = None if self.is_silent else self.model.receive(octets)[0]
+        return [reply] if reply else []
 
     def port(self) -> int:
         return int(self.socket.getsockname()[1])
@@ -46,7 +52,7 @@ class BenchSign(threading.Thread):
             assert asked.setdefault(number, octets) == octets, f"number {number} went out twice"
         return [*asked]
 
-    def __enter__(self) -> "BenchSign":
+    def __enter__(self) -> Self:
         self.start()
         return self
 
@@ -58,17 +64,8 @@ class BenchSign(threading.Thread):
 
 
 @dataclass
-class Operated:
-    """The front end's process, and what it printed and said."""
-
-    process: subprocess.Popen[bytes]
-    printed: list[str] = field(default_factory=list)
-    said: list[str] = field(default_factory=list)
-
-    def collect(self, file: str, lines: list[str]) -> threading.Thread:
-        """Reads what it prints."""
-        pipe = getattr(self.process, file)
-        return threading.Thread(target=lambda: lines.extend(line.decode().rstrip("\n") for line in pipe), daemon=True)
+class Operated(Started):
+    """The front end's process, which an operator speaks to."""
 
     def order(self, line: str) -> None:
         """An operator's line."""
@@ -88,15 +85,15 @@ class Operated:
         self.order("status")
         until(lambda: self.printed[before:], "a status")
 
-    def hang_up(self, words: str) -> None:
-        """A SIGHUP, and the words that follow it."""
-        before = len(self.said)
-        self.process.send_signal(signal.SIGHUP)
-        until(lambda: any(words in line for line in self.said[before:]), words)
-
-    def shortened(self) -> int:
-        """How often it said so."""
-        return sum(": shortened from " in line for line in self.said)
+    def ledger(self) -> list[str]:
+        """The ledger's lines of a status, which a command comes after: what a status printed comes before that."""
+        before = len(self.printed)
+        self.order("status")
+        until(lambda: "idle" in self.printed[before:], "a status")
+        self.accepted(BLANK)
+        lines = self.printed[before:]
+        at = next(at for at, line in enumerate(lines) if at > 1 and line == "idle")
+        return [line for line in lines[:at] if line.startswith("ledger ")]
 
     def end(self) -> int:
         """The exit status behind the last command."""
@@ -106,41 +103,18 @@ class Operated:
 
 
 def call(*words: str) -> list[str]:
-    return [sys.executable, str(TOP / "bin/wisangub-centre"), "--signtool", MODEL, "--tick", "1", *words]
+    return started.call("wisangub-centre", "--tick", "1", *words)
 
 
 def refused(*words: str) -> tuple[int, str]:
     """The exit status of a front end that does not start, and what it says."""
-    ended = subprocess.run(
-        call("--to", "127.0.0.1:9", *words),
-        stdin=subprocess.DEVNULL,
-        capture_output=True,
-        text=True,
-        env=environment(),
-        timeout=PATIENCE,
-        check=False,
-    )
-    return ended.returncode, ended.stderr
+    return started.refused(call("--to", "127.0.0.1:9", *words))
 
 
 @contextlib.contextmanager
 def operated(sign: BenchSign, *words: str) -> Iterator[Operated]:
     """A front end that is there."""
-    with subprocess.Popen(
-        call("--to", f"127.0.0.1:{sign.port()}", *words),
-        stdin=subprocess.PIPE,
-        stdout=subprocess.PIPE,
-        stderr=subprocess.PIPE,
-        env=environment(),
-    ) as process:
+    with started.begun(call("--to", f"127.0.0.1:{sign.port()}", *words), subprocess.PIPE) as process:
         front_end = Operated(process)
-        readers = [front_end.collect("stdout", front_end.printed), front_end.collect("stderr", front_end.said)]
-        for reader in readers:
-            reader.start()
-        try:
+        with front_end.heard():
             yield front_end
-        finally:
-            process.kill()
-            process.wait()
-            for reader in readers:
-                reader.join()
