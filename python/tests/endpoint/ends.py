@@ -94,6 +94,18 @@ def centre_state(number: int) -> list[bytes]:
     return [b"state 1 centre", b"next %d" % number, b"last accepted", b"idle", b"ledger 5 %b accepted" % _CODE, b"end"]
 
 
+def long_state(octets: int) -> list[bytes]:
+    """The state of an idle centre whose text has just so many octets, by the entries of its ledger."""
+    state, size = [b"state 1 centre", b"next 2000000", b"last accepted", b"idle"], len(b"end\n")
+    entries, size = list[bytes](), size + sum(len(line) + 1 for line in state)
+    while size < octets:
+        entries.append(b"ledger %d %b accepted" % (1_000_000 + len(entries), _CODE))
+        size += len(entries[-1]) + 1
+    for at in range(size - octets):  # each has a shorter word
+        entries[at] = entries[at].replace(b"accepted", b"unknown")
+    return [*state, *entries, b"end"]
+
+
 SIGN = End(
     HEAD,
     LINES,

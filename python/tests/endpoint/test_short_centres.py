@@ -6,8 +6,9 @@ import pathlib
 import pytest
 
 from model import wire
+from wisangub.endpoint import records
 
-from .ends import CENTRE
+from .ends import CENTRE, long_state
 from .started import are_shortened, cut_off
 from .test_journal import kept
 from .waiting import until
@@ -146,3 +147,19 @@ def test_a_job_goes_on_though_each_reply_shortens(path: pathlib.Path) -> None:
         assert front_end.end() == 0 and front_end.shortened() > 2
         kinds = [wire.read(octets).kind for octets in sign.heard]
         assert kinds.count(wire.SET) >= 4 and max(sign.numbers()) == len(sign.numbers())
+
+
+def test_a_centre_goes_on_though_its_state_is_too_long(path: pathlib.Path) -> None:
+    path.write_bytes(records.records(CENTRE.begun(long_state(1_048_570))))  # with one entry more it is too long
+    words = f"{path} is not shortened: the state of the centre has more than 1048576 octets: the journal only grows"
+    with BenchSign() as sign:
+        with operated(sign, "--journal", str(path)) as front_end:
+            front_end.accepted(BLANK)
+            front_end.hang_up(words)
+            front_end.accepted(BLANK)
+            assert front_end.end() == 0 and front_end.said == [words]
+        assert sign.numbers() == [2_000_000, 2_000_001]
+    journal = CENTRE.opened(path)
+    is_same = journal.state() == long_state(1_048_570)
+    assert is_same, "the state is the old one"  # thousands of lines, of which nobody reads the difference
+    assert [line.split(b" ")[0] for line in kept(str(path), CENTRE.head)] == [b"blank", b"datagram"] * 2

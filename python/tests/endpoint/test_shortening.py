@@ -2,6 +2,7 @@
 
 import pathlib
 import signal
+import subprocess
 from collections.abc import Iterator
 from unittest import mock
 
@@ -11,15 +12,15 @@ from wisangub.endpoint.clock import Moment
 from wisangub.endpoint.files import NotKept
 from wisangub.endpoint.journal import Journal
 from wisangub.endpoint.keeper import Keeper
-from wisangub.endpoint.shortening import Shortening, Trial, octets_of
+from wisangub.endpoint.shortening import Shortening, Synced, Trial, octets_of
 from wisangub.output import LOG
 from wisangub.process import description
 from wisangub.process.coprocess import CoProcess
 from wisangub.process.places import TOP
 
-from .ends import SIGN
+from .ends import CENTRE, SIGN, long_state
 from .test_journal import HEAD, LINES, NOW, Refusing, kept, refused
-from .waiting import PROGRAMS
+from .waiting import MODEL, PROGRAMS
 
 LATER = Moment("one", 1030, 40)
 
@@ -125,6 +126,36 @@ def test_a_state_that_another_process_does_not_take_is_not_used(keeper: Keeper, 
         running.return_value = 400.0
         shortening.turn(sign, keeper)
     assert SIGN.opened_beside(path).state() == SIGN.state and "shortened from" in told[-1]
+
+
+TOO_LONG = "the state of the centre has more than 1048576 octets: the journal only grows"
+
+
+@pytest.mark.parametrize("program", PROGRAMS)
+def test_a_state_of_a_megabyte_is_taken_and_a_longer_one_is_not(program: str) -> None:
+    most, trial = long_state(1_048_576), Trial(program, None, "centre")
+    assert len(most) > 20_000 and trial.fault(most) == ""
+    with mock.patch.object(subprocess, "run", side_effect=AssertionError("no process is begun for it")):
+        assert trial.fault(long_state(1_048_577)) == TOO_LONG
+
+
+def test_a_state_that_is_too_long_is_said_once_and_looked_at_once_a_minute(
+    tmp_path: pathlib.Path, told: list[str]
+) -> None:
+    path = str(tmp_path / "journal")
+    journal, sign = Journal.opened(path, CENTRE.head), Sign([*long_state(1_048_577), b"ok"])
+    shortening = Shortening(100, Trial(MODEL, None, "centre"), None, None)
+    with mock.patch("wisangub.endpoint.shortening.running") as running:
+        for at in range(300):
+            running.return_value = 100.0 + at
+            journal.keep([b"tick"])
+            shortening.turn(sign, Synced(journal))
+        assert sign.asked == 5 and told == [f"{path} is not shortened: {TOO_LONG}"]
+        shortening.is_asked = True
+        shortening.turn(sign, Synced(journal))
+        assert sign.asked == 6 and told[1:] == told[:1], "who asks for it is told each time"
+        journal.close()
+    assert not CENTRE.opened(path).state() and kept(path, CENTRE.head) == [b"tick"] * 300
 
 
 def test_a_program_that_cannot_say_its_state_is_left_alone(keeper: Keeper, told: list[str]) -> None:

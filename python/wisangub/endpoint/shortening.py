@@ -23,6 +23,7 @@ if TYPE_CHECKING:
 MOST = 1_000_000  # octets of a journal, where nothing is said
 _AGAIN = 60.0  # seconds after which it is tried again where it was refused
 _PATIENCE = 10.0  # seconds that another process may take to go on from a state
+_MOST_STATE = 1_048_576  # octets of a state that a process takes: a ledger of some 20,000 entries is longer
 _SIZE = re.compile(r"([0-9]{1,12})([kM]?)", re.ASCII)
 _TIMES = {"": 1, "k": 1000, "M": 1_000_000}
 _OK = b"ok"
@@ -48,6 +49,8 @@ class Trial:
         """Why it does not go on from these lines to the same state, in words; nothing where it does."""
         other = f"another process of the {self.end}"
         octets = b"\n".join(state) + b"\n"
+        if len(octets) > _MOST_STATE:
+            return f"the state of the {self.end} has more than {_MOST_STATE} octets: the journal only grows"
         try:
             ended = subprocess.run(
                 self.call,
