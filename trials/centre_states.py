@@ -3,7 +3,6 @@ line, or is the state whose text it is, and never another."""
 
 import random
 import re
-import subprocess
 from collections.abc import Callable, Iterator
 
 from model.description import Description
@@ -11,7 +10,8 @@ from model.restored_centre import restored
 from model.saved_centre import saved
 from model.state_text import Refused
 
-_PATIENCE = 60.0  # seconds
+from .states import begun
+
 _OCTETS = b"0123456789abcdef -.\n\r\0#A"
 Answer = Callable[[bytes], bytes | None]  # the text of the state that goes on from a text; None where it is refused
 
@@ -33,9 +33,8 @@ def of_model(described: Description, octets: bytes) -> bytes | None:
 
 def of_program(program: str, description: bytes | None, octets: bytes) -> bytes | None:
     """The same of the program. What stands behind the first line `end` is no part of a state there."""
-    call = [program, "centre", "--restore", *(["--sign"] if description is not None else [])]
-    handed = (description or b"") + octets + (b"" if octets.endswith(b"\n") else b"\n") + b"save\n"
-    ended = subprocess.run(call, input=handed, capture_output=True, timeout=_PATIENCE, check=False)
+    end = b"" if octets.endswith(b"\n") else b"\n"
+    ended = begun(program, "centre", description, b"%b%bsave\n" % (octets, end))
     found = re.fullmatch(rb"state line ([0-9]+)\n", ended.stdout)
     if found and ended.returncode == 1 and ended.stderr.startswith(b"state line %b: " % found[1]):
         if 1 <= int(found[1]) <= octets.count(b"\n") + 1:

@@ -36,11 +36,16 @@ def of_model(described: Description, octets: str) -> Told:
     return [one for line in lines for one in coprocess.answered(answer, coprocess.without_newline(line))], ""
 
 
+def begun(program: str, end: str, description: bytes | None, octets: bytes) -> subprocess.CompletedProcess[bytes]:
+    """The program, of an end that begins in the state of these octets, which lines may follow."""
+    call = [program, end, "--restore", *(["--sign"] if description is not None else [])]
+    handed = (description or b"") + octets
+    return subprocess.run(call, input=handed, capture_output=True, timeout=_PATIENCE, check=False)
+
+
 def of_program(program: str, description: bytes | None, octets: str) -> Told:
     """The same of the program."""
-    call = [program, "sign", "--restore", *(["--sign"] if description is not None else [])]
-    handed = (description or b"") + octets.encode("latin-1")
-    ended = subprocess.run(call, input=handed, capture_output=True, timeout=_PATIENCE, check=False)
+    ended = begun(program, "sign", description, octets.encode("latin-1"))
     found = re.search(r"line \d+: .*", ended.stderr.decode("latin-1"))
     return ended.stdout.decode("latin-1").splitlines(), found[0] if found else ""
 

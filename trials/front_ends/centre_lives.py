@@ -15,7 +15,7 @@ from .bench import FrontEnd, Trial
 from .follower import lines_of
 from .kills import killed_later
 from .numbers import numbers
-from .refusals import refusing
+from .refusals import built, refusing
 from .relay import Relay
 
 _FAULTS = (("write", errno.ENOSPC), ("write", errno.EIO), ("fdatasync", errno.EIO), ("open", errno.EACCES))
@@ -73,10 +73,14 @@ class Centres:
         told = os.strerror(error).encode() in front_end.errors
         self.trial.holds(
             f"a centre whose {call} {at} is refused says why",
-            not told or status == 1 or call == "write" or (call, status) == ("open", 2),
+            not told or status == 1 or (call, status) == ("open", 2) or self.may_go_on(call, front_end.errors),
             (status, front_end.errors.decode()),
         )
         self.over(front_end)
+
+    def may_go_on(self, call: str, _errors: bytes) -> bool:
+        """Whether a front end may go on that said why this call was refused."""
+        return call == "write"
 
     def life(self, which: str | None, command: str, *words: str) -> FrontEnd:
         """A life with a command, which is killed at a random moment, or ends by itself."""
@@ -91,6 +95,18 @@ class Centres:
                 self.takes = time.monotonic() - begun
         self.over(front_end)
         return front_end
+
+    def lives(self, count: int) -> None:
+        """So many kills, now and then a disk that refuses, and a last life that tells the ledger."""
+        library = built(self.trial)
+        while self.killed < count and self.commands < 3 * count and not self.trial.is_late():
+            if library and self.trial.chance.random() < 0.3:
+                self.refused(library)
+            else:
+                self.life(self.trial.chance.choice(["front end", "co-process", "both"]), self.command())
+        status = self.life(None, "status").output.decode().splitlines()
+        begin = max(at for at, line in enumerate(status) if line in ("idle", "busy"))
+        self.look([line.split(",")[0] for line in status[begin:]])
 
     def over(self, front_end: FrontEnd) -> None:
         """What holds of a life that is over."""

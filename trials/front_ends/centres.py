@@ -1,31 +1,51 @@
 """A centre's front end, its co-process, or both are killed again and again over one journal, while it publishes to a
 sign."""
 
+import contextlib
+import pathlib
 import subprocess
 import time
+from collections.abc import Iterator
 
 from model import wire
 
 from .bench import Trial
 from .centre_lives import Centres
 from .numbers import numbers
-from .refusals import built
 from .relay import Relay
 
 
-def _fresh_lives(trial: Trial, port: int, count: int) -> int:
+@contextlib.contextmanager
+def between(trial: Trial, folder: pathlib.Path) -> Iterator[Relay | None]:
+    """What stands between a centre and a sign, which outlives all lives of the centre; none where no sign starts. What
+    holds of all requests is looked at when all lives are over."""
+    sign = trial.sign("--journal", str(folder / "sign"))
+    if not trial.holds("a sign for the centre", sign.port != 0, sign.errors.decode()):
+        yield None
+        return
+    relay = Relay(trial, sign.port)
+    relay.start()
+    try:
+        yield relay
+    finally:
+        relay.end()
+    numbers(trial, relay.requests)
+    trial.holds("the sign goes on", sign.stop() == 0, sign.errors.decode())
+
+
+def _fresh_lives(trial: Trial, count: int) -> int:
     """Centres that begin anew again and again, and are killed at random moments: no number is used again. How many were
     killed."""
-    relay = Relay(trial, port)
-    relay.start()
-    centres = Centres(trial, relay, trial.new_folder() / "centre")
-    for at in range(count):
-        if trial.is_late():
-            break
-        centres.life("front end", centres.command(), *(["--fresh"] if at % 3 else []))
-    relay.end()
-    numbers(trial, relay.requests)
-    aside = [path.read_bytes() for path in centres.path.parent.iterdir()]
+    folder = trial.new_folder()
+    with between(trial, trial.new_folder()) as relay:
+        if relay is None:
+            return 0
+        centres = Centres(trial, relay, folder / "centre")
+        for at in range(count):
+            if trial.is_late():
+                break
+            centres.life("front end", centres.command(), *(["--fresh"] if at % 3 else []))
+    aside = [path.read_bytes() for path in folder.iterdir()]
     trial.holds("no journal of a centre that began anew is lost", len(set(aside)) == len(aside), len(aside))
     return centres.killed
 
@@ -61,29 +81,14 @@ def again(trial: Trial, centres: Centres) -> None:
 
 def run(trial: Trial, count: int) -> None:
     """So many kills, and a last life that tells the ledger."""
-    begun = time.monotonic()
-    folder = trial.new_folder()
-    sign = trial.sign("--journal", str(folder / "sign"))
-    if not trial.holds("a sign for the centre", sign.port != 0, sign.errors.decode()):
-        return
-    relay = Relay(trial, sign.port)
-    relay.start()
-    centres = Centres(trial, relay, folder / "centre")
-    library = built(trial)
-    while centres.killed < count and centres.commands < 3 * count and not trial.is_late():
-        if library and trial.chance.random() < 0.3:
-            centres.refused(library)
-        else:
-            centres.life(trial.chance.choice(["front end", "co-process", "both"]), centres.command())
-    front_end = centres.life(None, "status")
-    status = front_end.output.decode().splitlines()
-    centres.look(
-        [line.split(",")[0] for line in status[max(at for at, line in enumerate(status) if line in ("idle", "busy")) :]]
-    )
-    again(trial, centres)
-    relay.end()
-    begun_anew = _fresh_lives(trial, sign.port, 3 if trial.is_short else 60)
-    trial.holds("the sign goes on", sign.stop() == 0, sign.errors.decode())
+    begun, folder = time.monotonic(), trial.new_folder()
+    with between(trial, folder) as relay:
+        if relay is None:
+            return
+        centres = Centres(trial, relay, folder / "centre")
+        centres.lives(count)
+        again(trial, centres)
+    begun_anew = _fresh_lives(trial, 3 if trial.is_short else 60)
     print(
         f"kills of a centre: {centres.killed}, {len(relay.requests)} requests, and {begun_anew} of centres that began "
         f"anew, {time.monotonic() - begun:.0f} s",

@@ -8,16 +8,13 @@ from model import text
 from model.restored_centre import restored
 from model.saved_centre import saved
 from wisangub.endpoint.records import Head
-from wisangub.endpoint.shortening import Trial as Looked
 
 from .bench import Trial
 from .centre_lives import Centres, status_of, take
-from .centres import again
+from .centres import again, between
 from .follower import lines_of
-from .numbers import numbers
-from .refusals import built
 from .relay import Relay
-from .shortened import number
+from .shortened import cutting, goes_on, number
 
 _KEEP = "1k"  # an idle state has some 100 octets, and a job is more
 _FIRST, _END = b"state 1 centre", b"end"
@@ -28,9 +25,12 @@ class _Shortened(Centres):
 
     def __init__(self, trial: Trial, relay: Relay, folder: pathlib.Path) -> None:
         super().__init__(trial, relay, folder / "centre")
-        self.kept, self.times = folder / "kept", 0
-        self.kept.mkdir()
-        self.words = ["--journal", str(self.path), "--keep", _KEEP, "--archive", str(self.kept)]
+        self.kept, words = cutting(folder, _KEEP)
+        self.words, self.times = ["--journal", str(self.path), *words], 0
+
+    def may_go_on(self, call: str, errors: bytes) -> bool:
+        """Where it is the shorter file that the disk refuses, the old one stays in force."""
+        return super().may_go_on(call, errors) or b" is not shortened: " in errors
 
     def foretold(self) -> list[str]:
         """The status that the model has after the lines of all files that the journal had, by their numbers. The state
@@ -65,42 +65,15 @@ class _Shortened(Centres):
         return [path.read_bytes() for path in names if not os.path.samefile(path, self.path)] + [self.path.read_bytes()]
 
 
-def _goes_on(trial: Trial) -> bool:
-    """Whether the program goes on from a centre's state."""
-    state = [line.encode() for line in saved(text.World(text.bench()).centre)]
-    why = Looked(trial.program, None, "centre").fault(state)
-    if why:
-        trial.skip("a centre's journal that is shortened", why)
-    return not why
-
-
-def _lives(trial: Trial, centres: _Shortened, count: int) -> None:
-    """So many kills, and now and then a disk that refuses."""
-    library = built(trial)
-    while centres.killed < count and centres.commands < 3 * count and not trial.is_late():
-        if library and trial.chance.random() < 0.3:
-            centres.refused(library)
-        else:
-            centres.life(trial.chance.choice(["front end", "co-process", "both"]), centres.command())
-
-
 def run(trial: Trial, count: int) -> None:
     """Kills, a last life that tells the ledger, and one that begins afresh."""
-    if not _goes_on(trial):
+    if not goes_on(trial, "centre", saved(text.World(text.bench()).centre)):
         return
     folder = trial.new_folder()
-    sign = trial.sign("--journal", str(folder / "sign"))
-    if not trial.holds("a sign for the centre", sign.port != 0, sign.errors.decode()):
-        return
-    relay = Relay(trial, sign.port)
-    relay.start()
-    centres = _Shortened(trial, relay, folder)
-    _lives(trial, centres, count)
-    status = centres.life(None, "status").output.decode().splitlines()
-    begin = max(at for at, line in enumerate(status) if line in ("idle", "busy"))
-    centres.look([line.split(",")[0] for line in status[begin:]])
-    again(trial, centres)
-    relay.end()
-    numbers(trial, relay.requests)
-    trial.holds("the sign goes on", sign.stop() == 0, sign.errors.decode())
+    with between(trial, folder) as relay:
+        if relay is None:
+            return
+        centres = _Shortened(trial, relay, folder)
+        centres.lives(count)
+        again(trial, centres)
     print(f"kills of a centre: {centres.killed}, shortened {centres.times} times between them", flush=True)

@@ -41,6 +41,21 @@ def number(path: pathlib.Path) -> int:
     return int(path.name.rpartition("-")[2])
 
 
+def cutting(folder: pathlib.Path, keep: str) -> tuple[pathlib.Path, list[str]]:
+    """A new folder that keeps what is cut off, and the options by which a journal is cut so at each such size."""
+    kept = folder / "kept"
+    kept.mkdir()
+    return kept, ["--keep", keep, "--archive", str(kept)]
+
+
+def goes_on(trial: Trial, end: str, state: list[str]) -> bool:
+    """Whether the program goes on from a state of this end."""
+    why = Looked(trial.program, None, end).fault([line.encode() for line in state])
+    if why:
+        trial.skip(f"journals of a {end} that are shortened", why)
+    return not why
+
+
 class _Follower(Follower):
     """The same over all files that a journal had: those that are kept, by their numbers, and the one in force. The
     state that one begins with is that in which the one before it left the model."""
@@ -85,9 +100,8 @@ class _Faults(Faults):
 
     def __init__(self, trial: Trial, library: pathlib.Path) -> None:
         super().__init__(trial, library)
-        kept = self.path.parent / "kept"
-        kept.mkdir()
-        self.words += ["--keep", _KEEP, "--archive", str(kept)]
+        kept, words = cutting(self.path.parent, _KEEP)
+        self.words += words
         self.follower: _Follower = _Follower(self.path, kept)
 
     def may_end(self, call: str, has_ended: bool, is_cut: bool) -> bool:
@@ -133,9 +147,8 @@ class _Kills(Kills):
 
     def __init__(self, trial: Trial, folder: pathlib.Path) -> None:
         super().__init__(trial, folder)
-        kept = folder / "kept"
-        kept.mkdir()
-        self.words = ["--journal", str(self.path), "--keep", _KEEP, "--archive", str(kept)]
+        kept, words = cutting(folder, _KEEP)
+        self.words = ["--journal", str(self.path), *words]
         self.follower: _Follower = _Follower(self.path, kept)
 
 
@@ -189,21 +202,12 @@ def _year(trial: Trial) -> None:
     path.unlink()
 
 
-def _goes_on(trial: Trial) -> bool:
-    """Whether the program goes on from a state, which all but the year needs."""
-    state = [line.encode() for line in saved(Sign(text.bench()).state)]
-    why = Looked(trial.program, None).fault(state)
-    if why:
-        trial.skip("journals that are shortened", why)
-    return not why
-
-
 def run(trial: Trial) -> None:
     """Kills, faults of the disk, starts, and a day or a year."""
     if not trial.has("--keep"):
         trial.skip("journals that are shortened", "the front end has no --keep")
         return
-    if trial.other or _goes_on(trial):
+    if trial.other or goes_on(trial, "sign", saved(Sign(text.bench()).state)):
         kills = _Kills(trial, trial.new_folder())
         kills.run(12 if trial.is_short else 1000)
         print(f"shortened at least {kills.follower.done} times between them", flush=True)
