@@ -38,8 +38,8 @@ SLOW = (  # a minute each
     "tools/tries/tests/test_planted.py",
 )
 
-# of the control room: where one is not here, mypy finds faults in all that is made of its classes and calls
-TYPED = ("aiohttp", "jinja2", "markupsafe", "prometheus_client", "yarl")
+# of the control room: where one is not here, mypy finds faults in what is made of its classes and calls
+TYPED = ("aiohttp", "jinja2", "markupsafe", "psycopg", "yarl")
 
 _CONFIGURED = "python/pyproject.toml"
 _LAYOUTS: dict[str, list[str]] = {  # .flake8 has the options of flake8

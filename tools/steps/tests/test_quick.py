@@ -202,7 +202,7 @@ def test_what_the_control_room_imports_of_others_is_looked_for() -> None:
     found = set[str]()
     for path in (TOP / "python/wisangub/room").rglob("*.py"):
         found |= set(re.findall(r"(?m)^ *(?:import|from) (\w+)", path.read_text(encoding="utf-8")))
-    others = found - set(sys.stdlib_module_names) - {"wisangub", "psycopg"}  # it may go without PostgreSQL
+    others = found - set(sys.stdlib_module_names) - {"wisangub", "prometheus_client"}  # what of this is used fits any
     assert others <= set(python_tests.TYPED)
 
 
