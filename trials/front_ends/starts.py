@@ -28,9 +28,9 @@ _MOST_START, _MOST_OTHER = 0.2, 0.03  # seconds, of wisangub-sign and of signd
 _BETWEEN = 0.001  # seconds from one Get to the next
 
 
-def _longest(now: Moment) -> Iterator[bytes]:
-    """A state, and as many records as a journal takes that is not shortened yet."""
-    state, size = [line.encode() for line in saved(Sign(text.bench()).state)], 0
+def longest(sign: Sign, now: Moment) -> Iterator[bytes]:
+    """The state of a sign, and as many records as a journal takes that is not shortened yet."""
+    state, size = [line.encode() for line in saved(sign.state)], 0
     for number, line in enumerate(itertools.chain(state, year.year(now, year.MINUTES)), 2):
         size += len(records.record(line, number, number))
         if size > MOST - 1000:
@@ -50,11 +50,11 @@ def _free_port(trial: Trial) -> int:
 def _is_answered(port: int, ends: float) -> bool:
     """Whether a Get is answered before that moment; it is sent again and again."""
     octets = wire.written(wire.Message(wire.GET, b"public", 7, 0, 0, [(_COUNTER, (wire.NULL, b""))]))
-    while time.monotonic() < ends:
-        with socket.socket(socket.AF_INET, socket.SOCK_DGRAM) as one:
-            one.connect(("127.0.0.1", port))
-            one.send(octets)
+    with socket.socket(socket.AF_INET, socket.SOCK_DGRAM) as one:
+        one.connect(("127.0.0.1", port))
+        while time.monotonic() < ends:
             try:
+                one.send(octets)
                 if select.select([one], [], [], _BETWEEN)[0] and one.recv(2048):
                     return True
             except ConnectionRefusedError:
@@ -62,11 +62,11 @@ def _is_answered(port: int, ends: float) -> bool:
     return False
 
 
-def _start(trial: Trial, path: pathlib.Path) -> float | None:
+def once(trial: Trial, path: pathlib.Path, *more: str) -> float | None:
     """The seconds of a start; None where another program took its port meanwhile. Python keeps the code that it
     compiled, as it does for a user, also where the trials have it keep none."""
     port, begun = _free_port(trial), time.monotonic()
-    words = ("--journal", str(path), "--down", "process", "--no-ticks")
+    words = ("--journal", str(path), "--down", "process", "--no-ticks", *more)
     kept = {"PYTHONDONTWRITEBYTECODE": "", "PYTHONPYCACHEPREFIX": str(path.parent / "code")}
     front_end = trial.front_end("wisangub-sign", "--port", str(port), *words, environment=kept)
     is_answered = _is_answered(port, begun + PACE.patience())
@@ -80,23 +80,33 @@ def _start(trial: Trial, path: pathlib.Path) -> float | None:
     return taken
 
 
-def run(trial: Trial) -> None:
-    """The median of some starts, before which there was one."""
-    path, taken = trial.new_folder() / "journal", list[float]()
-    year.write(trial.head(), path, _longest(Moment.now()))
-    octets = path.read_bytes()
-    while len(taken) < (4 if trial.is_short else 21):
+def starts(trial: Trial, path: pathlib.Path, count: int, *more: str) -> list[float]:
+    """The seconds of so many starts over a journal of these octets, before which there was one."""
+    octets, taken = path.read_bytes(), list[float]()
+    while len(taken) <= count:
         path.write_bytes(octets)
-        seconds = _start(trial, path)
+        seconds = once(trial, path, *more)
         taken += [] if seconds is None else [seconds]
-    del taken[0]
-    median, load = statistics.median(taken), os.getloadavg()[0]
-    print(
-        f"{len(octets)} octets: the first Get is answered after {1000 * median:.0f} ms, the median of {len(taken)} "
-        f"({1000 * min(taken):.0f} to {1000 * max(taken):.0f}), load {load:.1f} of {os.cpu_count()} processors",
-        flush=True,
-    )
-    is_busy = trial.is_short or load > 1  # then the clock tells of the machine
-    most = _MOST_OTHER if trial.other else _MOST_START
-    trial.holds("a long journal: it starts at once", is_busy or median < most, median)
     path.unlink()
+    return taken[1:]
+
+
+def in_words(taken: list[float]) -> str:
+    """What some starts took."""
+    median, load = statistics.median(taken), os.getloadavg()[0]
+    return (
+        f"the first Get is answered after {1000 * median:.0f} ms, the median of {len(taken)} "
+        f"({1000 * min(taken):.0f} to {1000 * max(taken):.0f}), load {load:.1f} of {os.cpu_count()} processors"
+    )
+
+
+def run(trial: Trial) -> None:
+    """The median of some starts."""
+    path = trial.new_folder() / "journal"
+    year.write(trial.head(), path, longest(Sign(text.bench()), Moment.now()))
+    size = path.stat().st_size
+    taken = starts(trial, path, 3 if trial.is_short else 20)
+    print(f"{size} octets: {in_words(taken)}", flush=True)
+    is_busy = trial.is_short or os.getloadavg()[0] > 1  # then the clock tells of the machine
+    median, most = statistics.median(taken), _MOST_OTHER if trial.other else _MOST_START
+    trial.holds("a long journal: it starts at once", is_busy or median < most, median)
