@@ -5,10 +5,13 @@ use super::states::{
     BLANK_STATE, FILLING_STATE, LATE_STATE, REFUSED_STATE, USED_UP_STATE, VALIDATING_STATE,
     WRITTEN_STATE,
 };
-use dms_centre::{Centre, CentreFault, EndFault, Ended, EntryFault, Outcome, Settings, Why};
+use dms_centre::{
+    Centre, CentreFault, Command, EndFault, Ended, EntryFault, JobFault, Outcome, SavedJob,
+    SavedStage, Settings, Step, Why,
+};
 use dms_centre_restored::{RestoreFault, StateRefusal, restored};
 use dms_centre_state::saved;
-use dms_codes::{Activation, Order};
+use dms_codes::{Activation, MessageId, Order};
 use std::alloc::Global;
 use std::test::Fail;
 
@@ -247,6 +250,93 @@ fn parts_that_no_centre_comes_to_are_not_put(rt: HostRuntime) -> Result<(), Fail
     assert!(rt;
         centre.put_last(Ended::Failed(8, Why::Cause(-2147483649))) == Err(EndFault::Number)
     );
+    Ok(())
+}
+
+const SHOWING: Command<'static> = Command::Activate(Activation {
+    minutes: 1,
+    priority: 2,
+    id: MessageId {
+        memory: 3,
+        number: 1,
+        crc: 0x2121,
+    },
+    address: [0; 4],
+});
+
+const BLANK_OF_NO_NUMBER: Command<'static> = Command::Blank {
+    number: 0,
+    minutes: 1,
+    priority: 2,
+    address: [0; 4],
+};
+
+fn waits(sends: u8, ticks: u8) -> SavedStage {
+    SavedStage::Waits { sends, ticks }
+}
+
+/// Puts a job into a central system whose next request has this number.
+fn put(
+    alloc: Global,
+    next: u32,
+    command: Command<'_>,
+    step: Step,
+    polls: u8,
+    stage: SavedStage,
+) -> Result<Option<JobFault>, &'static str> {
+    let mut centre = centre_of(alloc, Order::High, next)?;
+    let job = SavedJob {
+        command,
+        step,
+        polls,
+        stage,
+    };
+    Ok(centre.put_job(&job).err())
+}
+
+#[test]
+fn jobs_that_no_centre_comes_to_are_not_put(rt: HostRuntime) -> Result<(), Fail> {
+    let alloc = rt.alloc();
+    let activating = Step::Activating;
+    assert!(rt; put(alloc, 7, SHOWING, activating, 9, waits(3, 2))? == None);
+    for (next, stage, fault) in [
+        (0, waits(1, 0), JobFault::Number),
+        (2_147_483_649, waits(1, 0), JobFault::Number),
+        (7, waits(0, 0), JobFault::Sends),
+        (7, waits(4, 0), JobFault::Sends),
+        (7, waits(1, 3), JobFault::Ticks),
+    ] {
+        assert!(rt; put(alloc, next, SHOWING, activating, 0, stage)? == Some(fault));
+    }
+    for (step, stage) in [
+        (Step::Explaining, SavedStage::Due),
+        (Step::Polling, waits(1, 0)),
+    ] {
+        assert!(rt; put(alloc, 7, SHOWING, step, 0, stage)? == Some(JobFault::Step));
+    }
+    let fault = put(alloc, 7, BLANK_OF_NO_NUMBER, activating, 0, SavedStage::Due)?;
+    assert!(rt; fault == Some(JobFault::Command));
+    let fault = put(alloc, 7, SHOWING, activating, 10, SavedStage::Due)?;
+    assert!(rt; fault == Some(JobFault::Polls));
+    Ok(())
+}
+
+#[test]
+fn one_job_is_put_behind_the_ledger(rt: HostRuntime) -> Result<(), Fail> {
+    let mut centre = centre_of(rt.alloc(), Order::High, 7)?;
+    let code = Activation::of_octets(Order::High, &[0; 12]);
+    let mut job = SavedJob {
+        command: SHOWING,
+        step: Step::Activating,
+        polls: 0,
+        stage: waits(1, 0),
+    };
+    assert!(rt; centre.put_entry(6, code, Outcome::Accepted) == Ok(()));
+    assert!(rt; centre.put_job(&job) == Err(JobFault::Entry));
+    job.stage = SavedStage::Due;
+    assert!(rt; centre.put_job(&job) == Ok(()));
+    assert!(rt; centre.put_job(&job) == Err(JobFault::Busy));
+    assert!(rt; centre.put_entry(6, code, Outcome::Accepted) == Err(EntryFault::Busy));
     Ok(())
 }
 
