@@ -58,13 +58,8 @@ fn made(alloc: Global) -> Result<Device, &'static str> {
     }
 }
 
-/// What comes of a Set of these bindings.
-fn set(
-    device: &mut Device,
-    may_write: bool,
-    binds: &[Bind<'_>],
-) -> Result<Result<(), Refusal>, &'static str> {
-    let mut request = Out::new();
+/// Writes a Set of these bindings.
+fn put_request(request: &mut Out, binds: &[Bind<'_>]) -> Result<(), &'static str> {
     let parts = MessageParts {
         community: b"admin",
         kind: Kind::Set,
@@ -73,9 +68,20 @@ fn set(
         index: 0,
         binds,
     };
-    if write(&parts, &mut request).is_err() {
-        return Err("no request");
+    match write(&parts, request) {
+        Ok(()) => Ok(()),
+        Err(_) => Err("no request"),
     }
+}
+
+/// What comes of a Set of these bindings.
+fn set(
+    device: &mut Device,
+    may_write: bool,
+    binds: &[Bind<'_>],
+) -> Result<Result<(), Refusal>, &'static str> {
+    let mut request = Out::new();
+    put_request(&mut request, binds)?;
     match read(request.as_slice()) {
         Ok(message) => {
             few_bindings();
@@ -83,6 +89,33 @@ fn set(
         }
         Err(_) => Err("no message"),
     }
+}
+
+/// What comes of a Set of these bindings, where it is the device's own.
+fn set_own(
+    device: &mut Device,
+    may_write: bool,
+    binds: &[Bind<'_>],
+) -> Result<Option<Result<(), Refusal>>, &'static str> {
+    let mut request = Out::new();
+    put_request(&mut request, binds)?;
+    match read(request.as_slice()) {
+        Ok(message) => {
+            few_bindings();
+            Ok(device.set_own(may_write, &message.binds))
+        }
+        Err(_) => Err("no message"),
+    }
+}
+
+/// Whether the objects read what was published, and none was set.
+fn is_untouched(device: &Device) -> Result<bool, &'static str> {
+    Ok(
+        device.value(&named(&LEVEL)?) == Some(Value::Integer(7))
+            && device.value(&named(&CONTACT)?) == Some(Value::Octets(b"noc"))
+            && device.value(&named(&DESCRIPTION)?) == Some(Value::Octets(b"a sign"))
+            && device.first_set().is_none(),
+    )
 }
 
 fn bind<'a>(name: &'a [u8], value: Value<'a>) -> Result<Bind<'a>, &'static str> {
@@ -154,6 +187,71 @@ fn a_refused_set_changes_nothing(rt: HostRuntime) -> Result<(), Fail> {
     );
     assert!(rt; device.value(&named(&LEVEL)?) == Some(Value::Integer(7)));
     assert!(rt; device.first_set().is_none());
+    Ok(())
+}
+
+#[test]
+fn a_set_of_its_own_names_is_the_devices(rt: HostRuntime) -> Result<(), Fail> {
+    let mut device = made(rt.alloc())?;
+    let level = bind(&LEVEL, Value::Integer(0))?;
+    let contact = bind(&CONTACT, Value::Octets(b"A1 north"))?;
+    assert_eq!(rt;
+        set_own(&mut device, true, &[level, contact])?,
+        Some(Ok(()))
+    );
+    assert!(rt; device.value(&named(&LEVEL)?) == Some(Value::Integer(0)));
+    assert!(rt; device.value(&named(&CONTACT)?) == Some(Value::Octets(b"A1 north")));
+    assert!(rt; device.value(&named(&DESCRIPTION)?) == Some(Value::Octets(b"a sign")));
+    assert!(rt; device.first_set() == Some(bind(&CONTACT, Value::Octets(b"A1 north"))?));
+    device.tell_first();
+    assert!(rt; device.first_set() == Some(bind(&LEVEL, Value::Integer(0))?));
+    Ok(())
+}
+
+/// Where the device has not the name of each binding, the Set is another's, whatever else is wrong with it.
+#[test]
+fn a_set_of_a_strangers_name_is_not_the_devices(rt: HostRuntime) -> Result<(), Fail> {
+    let mut device = made(rt.alloc())?;
+    let other: [u8; 3] = [43, 6, 1];
+    let stranger = bind(&other, Value::Integer(3))?;
+    assert_eq!(rt; set_own(&mut device, true, &[stranger])?, None);
+    assert_eq!(rt; set_own(&mut device, true, &[])?, None);
+    for (may_write, first, number, second) in [
+        (true, other.as_slice(), 3, other.as_slice()),
+        (true, other.as_slice(), 3, LEVEL.as_slice()),
+        (true, LEVEL.as_slice(), 3, other.as_slice()),
+        (true, LEVEL.as_slice(), 16, other.as_slice()),
+        (false, LEVEL.as_slice(), 3, other.as_slice()),
+    ] {
+        let both = [
+            bind(first, Value::Integer(number))?,
+            bind(second, Value::Integer(4))?,
+        ];
+        assert_eq!(rt; set_own(&mut device, may_write, &both)?, None);
+    }
+    assert!(rt; is_untouched(&device)?);
+    Ok(())
+}
+
+/// The first binding is in order, and is not written where the second is refused.
+#[test]
+fn a_refused_set_of_its_own_names_changes_nothing(rt: HostRuntime) -> Result<(), Fail> {
+    let mut device = made(rt.alloc())?;
+    for (may_write, index, name, number, status) in [
+        (false, 1, LEVEL.as_slice(), 3, ErrorStatus::NoSuchName),
+        (true, 2, DESCRIPTION.as_slice(), 3, ErrorStatus::NoSuchName),
+        (true, 2, CONTACT.as_slice(), 3, ErrorStatus::BadValue),
+        (true, 2, LEVEL.as_slice(), 16, ErrorStatus::BadValue),
+        (true, 2, LEVEL.as_slice(), 4, ErrorStatus::GenErr),
+    ] {
+        let both = [
+            bind(&LEVEL, Value::Integer(3))?,
+            bind(name, Value::Integer(number))?,
+        ];
+        let found = set_own(&mut device, may_write, &both)?;
+        assert_eq!(rt; found, Some(Err(Refusal { index, status })));
+        assert!(rt; is_untouched(&device)?);
+    }
     Ok(())
 }
 
