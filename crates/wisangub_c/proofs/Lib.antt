@@ -1,6 +1,3 @@
 mod Entries
 pub mod Given
-mod Heap
-mod Places
 mod RowLaws
-mod Values

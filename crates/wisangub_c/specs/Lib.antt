@@ -1,4 +1,3 @@
-pub mod Place
 pub mod Answers
 pub mod Codes
 pub mod Shown

@@ -17,9 +17,9 @@ ghost use Rattle.wisangub_c_causes.specs.Telling.{IsWhyNotShown};
 ghost use Rattle.wisangub_c_causes.specs.declared.text_causes.TextRefusal.{TextRefusal};
 ghost use Rattle.wisangub_c.specs.Answers.{done, nothing_sent, too_small, no_memory, unless_memory, put_first, size_of};
 
-use crate::sign_handle::SignHandle;
 use std::alloc::Global;
 use wisangub_c_causes::{Cause, TextCause, tell_command, tell_description, tell_text};
+use wisangub_c_places::SignHandle;
 
 /// Why a description is refused: the line and the first cause in numbers, and the cause in words. Nothing, where it is
 /// a sign's.

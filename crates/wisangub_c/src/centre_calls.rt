@@ -22,13 +22,11 @@ ghost use Rattle.wisangub_c.specs.Centre.{command_buffer, after_command, enters_
 ghost use Rattle.wisangub_c.specs.Centre.{entry_answer, entry_after};
 ghost use Rattle.wisangub_c_values.specs.Ledger.{centre_status};
 
-use crate::centre_handle::CentreHandle;
-use crate::centre_place::CentrePlace;
-use crate::loose::Loose;
 use dms_centre::{Centre, CentreFault, Command, CommandFault, Settings};
 use dms_centre_text::read_command;
 use dms_wire::{MAX_DATAGRAM, Out};
 use std::alloc::Global;
+use wisangub_c_places::{CentreHandle, CentrePlace};
 use wisangub_c_values::{
     AT_FAULT, BUSY, CentreStatus, DONE, LedgerEntry, NO_MEMORY, NOTHING_SENT, NUMBERS_USED_UP,
     OUT_OF_RANGE, TOO_SMALL, centre_status, ledger_entry, order_of, put_first,
@@ -84,7 +82,7 @@ pub extern "C" fn wisangub_centre_new_at(
     let settings = Settings { community, order };
     match made(alloc, settings, first) {
         Ok(made) => {
-            centre.put(CentrePlace::of(Loose::of(made)));
+            centre.keep(made);
             DONE
         }
         Err(MakeFault::Community) => AT_FAULT,
@@ -364,5 +362,5 @@ pub extern "C" fn wisangub_centre_free_at(alloc: Global, centre: &mut CentrePlac
     ensures centre { centre.new.value ≡ None }
     ensures pointer { centre.new.at ≡ null_ptr }
 {
-    centre.put(CentrePlace::none(alloc));
+    centre.clear(alloc);
 }

@@ -10,20 +10,11 @@
 
 pub mod cause_calls;
 pub mod centre_calls;
-pub mod centre_handle;
-pub mod centre_place;
 pub mod code_calls;
-mod lent_centre;
-mod lent_sign;
-mod loose;
 pub mod object_calls;
 pub mod page_calls;
-mod placed_centre;
-mod placed_sign;
 pub mod row_calls;
 pub mod shown_calls;
 pub mod sign_calls;
-pub mod sign_handle;
-pub mod sign_place;
 pub mod state_calls;
 pub mod time_calls;

@@ -12,13 +12,13 @@ ghost use Rattle.wisangub_c.specs.Objects.{value_read, read_answer, read_size, r
 ghost use Rattle.wisangub_c.specs.Objects.{next_set, taken_answer, taken_name_size, taken_size, taken_name};
 ghost use Rattle.wisangub_c.specs.Objects.{taken_octets, taken_parts, after_taken};
 
-use crate::sign_handle::SignHandle;
 use dms_agent::{Agent, PublishFault};
 use dms_agent_watched::Watched;
 use dms_device::{Access, Device, Object, ObjectFault};
 use dms_mib_replies::Objects;
 use dms_wire::{Bind, Value};
 use std::alloc::Global;
+use wisangub_c_places::SignHandle;
 use wisangub_c_values::{
     AT_FAULT, AccessParts, DONE, NO_MEMORY, NOTHING_SENT, OUT_OF_RANGE, TOO_SMALL, ValueParts,
     access_given, give, name_given, octets_of, parts_of, put_first, value_given,

@@ -9,10 +9,10 @@ ghost use Rattle.wisangub_c.specs.Answers.{ranged_answer, ranged_size, ranged_bu
 ghost use Rattle.wisangub_c.specs.Pages.{layer_at, shown_octets, drawn_answer, drawn_size, drawn_buffer, drawn_fault};
 
 use crate::shown_calls::{TextFault, text_fault};
-use crate::sign_handle::SignHandle;
 use dms_face_pages::{Layer, Page, PagesFault, bits_needed, pages, pages_octets, put_bits};
 use dms_sign_lines::shown_pages;
 use std::alloc::Global;
+use wisangub_c_places::SignHandle;
 use wisangub_c_values::{AT_FAULT, DONE, NO_MEMORY, OUT_OF_RANGE, TOO_SMALL, give};
 
 /// What an octet says of its cell: 0, 1 or 2, and no other number.

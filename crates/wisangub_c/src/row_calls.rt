@@ -7,10 +7,10 @@ ghost use Rattle.wisangub_c.specs.Pages.{layer_at};
 ghost use Rattle.wisangub_c.specs.Rows.{shown_page, row_answer, row_size, row_buffer};
 
 use crate::page_calls::layer_at;
-use crate::sign_handle::SignHandle;
 use dms_face_pages::Layer;
 use dms_face_rows::put_row;
 use dms_sign::Sign;
+use wisangub_c_places::SignHandle;
 use wisangub_c_values::{AT_FAULT, DONE, OUT_OF_RANGE, TOO_SMALL};
 
 /// Puts a row of a page of what the sign shows in a buffer that has room for it, and returns its size.

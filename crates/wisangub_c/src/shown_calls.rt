@@ -6,9 +6,9 @@ ghost use Rattle.wisangub_c.specs.Answers.{given_answer, given_buffer};
 ghost use Rattle.wisangub_c.specs.Shown.{shown_now, tenths_of, ends_answer, ends_after};
 ghost use Rattle.wisangub_c.specs.Shown.{text_fault, fault_after, check_answer, count_after};
 
-use crate::sign_handle::SignHandle;
 use dms_face::{MultiFault, check};
 use dms_sign::Sign;
+use wisangub_c_places::SignHandle;
 use wisangub_c_values::{AT_FAULT, DONE, NOTHING_SENT, give};
 
 /// What a sign shows, but for its text.

@@ -17,14 +17,12 @@ ghost use Rattle.wisangub_c.specs.Answers.{fault_answer, line_after};
 ghost use Rattle.wisangub_c.specs.Answers.{datagram_answer, datagram_size, datagram_buffer};
 ghost use Rattle.dms_agent_watched.specs.Watched.{unchanged, watched};
 
-use crate::loose::Loose;
-use crate::sign_handle::SignHandle;
-use crate::sign_place::SignPlace;
 use dms_agent_watched::Watched;
 use dms_sign::Receipt;
 use dms_sign_text::{DescriptionFault, Setup, description};
 use dms_wire::{MAX_DATAGRAM, Out};
 use std::alloc::Global;
+use wisangub_c_places::{SignHandle, SignPlace};
 use wisangub_c_values::{AT_FAULT, DONE, NO_MEMORY, NOTHING_SENT, TOO_SMALL, put_first};
 
 /// A sign on the heap, beside which nothing is published, and the number of the first request of its centre.
@@ -71,7 +69,7 @@ pub extern "C" fn wisangub_sign_new_at(
     match made(alloc, text) {
         Ok(made) => {
             *first = made.first;
-            sign.put(SignPlace::of(Loose::of(made.sign)));
+            sign.keep(made.sign);
             DONE
         }
         Err(fault) => fault_answer(fault, line),
@@ -177,5 +175,5 @@ pub extern "C" fn wisangub_sign_free_at(alloc: Global, sign: &mut SignPlace)
     ensures sign { sign.new.value ≡ None }
     ensures pointer { sign.new.at ≡ null_ptr }
 {
-    sign.put(SignPlace::none(alloc));
+    sign.clear(alloc);
 }

@@ -13,10 +13,7 @@ ghost use Rattle.dms_agent_watched.specs.Watched.{unchanged};
 ghost use Rattle.wisangub_c.specs.Answers.{done, no_memory, at_fault, given_answer, given_buffer};
 ghost use Rattle.wisangub_c.specs.States.{state_refused, IsNoSign, IsRefusedAt, refusal_answer, line_after_refusal};
 
-use crate::loose::Loose;
 use crate::sign_calls::{NewSign, fault_answer};
-use crate::sign_handle::SignHandle;
-use crate::sign_place::SignPlace;
 use dms_agent_watched::Watched;
 use dms_codes::memory;
 use dms_sign::Sign;
@@ -25,6 +22,7 @@ use dms_sign_restored::{StateRefusal, put_state};
 use dms_sign_state::put_saved;
 use dms_sign_text::{DescriptionFault, Setup, description};
 use std::alloc::Global;
+use wisangub_c_places::{SignHandle, SignPlace};
 use wisangub_c_values::{DONE, NO_MEMORY, STATE_REFUSED, TOO_SMALL};
 
 /// Gives the text of a sign's state.
@@ -133,7 +131,7 @@ pub extern "C" fn wisangub_sign_restore_at(
     match restored(alloc, text, state) {
         Ok(made) => {
             *first = made.first;
-            sign.put(SignPlace::of(Loose::of(made.sign)));
+            sign.keep(made.sign);
             DONE
         }
         Err(NoSign::Description(fault)) => fault_answer(fault, line),

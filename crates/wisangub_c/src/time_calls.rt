@@ -6,11 +6,11 @@ ghost use Rattle.wisangub_c.specs.Times.{shown_times, page_now, page_answer, pag
 ghost use Rattle.wisangub_c.specs.Times.{picture_due, end_due, next_due, due_answer, due_after};
 
 use crate::shown_calls::tenths_of;
-use crate::sign_handle::SignHandle;
 use arrayvec::ArrayVec;
 use dms_face::{MAX_PAGES, check_with};
 use dms_face_times::{PageTimes, due, page_times, sooner};
 use dms_sign::Sign;
+use wisangub_c_places::SignHandle;
 use wisangub_c_values::{AT_FAULT, DONE, NOTHING_SENT};
 
 /// A page of what a sign shows, but for its cells.
