@@ -13,6 +13,7 @@
 #define REFUSED(call) assert((call) == WISANGUB_NULL)
 #define OUT_OF_RANGE(call) assert((call) == WISANGUB_RANGE)
 #define FAULT(call) assert((call) == WISANGUB_FAULT)
+#define NO_STATE(call) assert((call) == WISANGUB_STATE)
 #define TOO_SMALL(call) assert((call) == WISANGUB_TOO_SMALL)
 #define NOTHING(call) assert((call) == WISANGUB_NOTHING)
 #define DONE(call) assert((call) == WISANGUB_DONE)
@@ -407,6 +408,7 @@ static void values_out_of_range(void)
         OUT_OF_RANGE(wisangub_message_code(order, &parts, room, 5, &size));
         OUT_OF_RANGE(wisangub_activation_code(order, &parts, room, 12, &size));
         OUT_OF_RANGE(wisangub_centre_new(&centre, "a", 1, order, 1));
+        OUT_OF_RANGE(wisangub_centre_restore(&centre, "", 0, order, "", 0, &size));
     }
     for (size_t at = 0; at < sizeof memories; at++) {
         parts.memory = memories[at];
@@ -567,6 +569,8 @@ static void without_a_centre(void)
         REFUSED(wisangub_centre_restart(none));
         REFUSED(wisangub_centre_status(none, &status));
         REFUSED(wisangub_centre_entry(none, 0, &entry));
+        REFUSED(wisangub_centre_save(none, buffer, sizeof buffer, &size));
+        REFUSED(wisangub_centre_save_size(none, &size));
         wisangub_centre_free(none);
     }
     REFUSED(wisangub_centre_new(NULL, "a", 1, WISANGUB_HIGH, 1));
@@ -751,6 +755,51 @@ static void states(const char *description, size_t description_size)
     wisangub_sign_free(&other);
 }
 
+/* Of what no central system is made, and the line that is told. */
+static void centres_refused(const void *state, size_t state_size)
+{
+    static const char of_sign[] = "state 1 sign\n", cut[] = "state 1 centre\nnext 7\n";
+    static struct wisangub_centre none = {NULL};
+    size_t line = 9;
+    REFUSED(wisangub_centre_restore(NULL, "a", 1, WISANGUB_HIGH, state, state_size, &line));
+    REFUSED(wisangub_centre_restore(&centre, "a", 1, WISANGUB_HIGH, state, state_size, &line));
+    REFUSED(wisangub_centre_restore(&none, NULL, 1, WISANGUB_HIGH, state, state_size, &line));
+    REFUSED(wisangub_centre_restore(&none, "a", 1, WISANGUB_HIGH, NULL, state_size, &line));
+    REFUSED(wisangub_centre_restore(&none, "a", 1, WISANGUB_HIGH, state, state_size, NULL));
+    FAULT(wisangub_centre_restore(&none, "", 0, WISANGUB_HIGH, state, state_size, &line));
+    FAULT(wisangub_centre_restore(&none, buffer, 33, WISANGUB_HIGH, cut, sizeof cut - 1, &line));
+    assert(line == 9 && none.at == NULL);
+    NO_STATE(wisangub_centre_restore(&none, "a", 1, WISANGUB_HIGH, of_sign, sizeof of_sign - 1, &line));
+    assert(line == 1 && none.at == NULL);
+    NO_STATE(wisangub_centre_restore(&none, "a", 1, WISANGUB_HIGH, cut, sizeof cut - 1, &line));
+    assert(line == 3 && none.at == NULL);
+}
+
+/* The state of the central system as text, with room and without; one made of it has the same one, and goes on. */
+static void centre_states(void)
+{
+    static struct wisangub_centre other = {NULL};
+    size_t line = 9, wanted = 0;
+    uint8_t *state = room + sizeof room / 2;
+    REFUSED(wisangub_centre_save(&centre, NULL, 1, &size));
+    REFUSED(wisangub_centre_save(&centre, buffer, sizeof buffer, NULL));
+    REFUSED(wisangub_centre_save_size(&centre, NULL));
+    spread();
+    TOO_SMALL(wisangub_centre_save(&centre, NULL, 0, &size));
+    DONE(wisangub_centre_save_size(&centre, &wanted));
+    assert(size == wanted);
+    TOO_SMALL(wisangub_centre_save(&centre, room, wanted - 1, &size));
+    assert(size == wanted && untouched(0, wanted));
+    DONE(wisangub_centre_save(&centre, room, wanted, &size));
+    assert(size == wanted && untouched(wanted, 16));
+    assert(memcmp(room, "state 1 centre\n", 15) == 0 && memcmp(room + wanted - 4, "end\n", 4) == 0);
+    centres_refused(room, wanted);
+    DONE(wisangub_centre_restore(&other, "a", 1, WISANGUB_HIGH, room, wanted, &line));
+    DONE(wisangub_centre_save(&other, state, wanted, &size));
+    assert(size == wanted && memcmp(state, room, wanted) == 0 && line == 9);
+    wisangub_centre_free(&other);
+}
+
 /* Seconds one by one and at once are the same to a message that is shown for a minute. */
 static void seconds(void)
 {
@@ -814,8 +863,11 @@ int main(int count, char **words)
     without_a_centre();
     command_causes();
     commands();
+    centre_states();
     waiting();
+    centre_states();
     published();
+    centre_states();
     shown_text();
     states(text, text_size);
     seconds();

@@ -46,21 +46,27 @@ static uint64_t slot_read(const struct slots *slots, size_t slot, size_t *size)
     return number_at(room + NUMBER_AT, 8);
 }
 
-enum wisangub_answer slots_start(struct slots *slots, struct wisangub_sign *sign, const void *text, size_t text_size,
-                                 enum slots_begin *begin)
+/* Reads the newest whole slot into the room, with the size of its state. Whether there is one. */
+static int newest_read(struct slots *slots, size_t *size)
 {
     uint64_t numbers[SLOTS];
-    uint32_t first;
-    size_t line, size = 0;
-    sha256_digits(text, text_size, slots->digest);
     for (size_t slot = 0; slot < SLOTS; slot++) {
-        numbers[slot] = slot_read(slots, slot, &size);
+        numbers[slot] = slot_read(slots, slot, size);
     }
     size_t newest = numbers[1] > numbers[0];
     slots->newest = numbers[newest];
     slots->next = 1 - newest;
+    return slots->newest != 0 && slot_read(slots, newest, size) == slots->newest;
+}
+
+enum wisangub_answer slots_start(struct slots *slots, struct wisangub_sign *sign, const void *text, size_t text_size,
+                                 enum slots_begin *begin)
+{
+    uint32_t first;
+    size_t line, size = 0;
+    sha256_digits(text, text_size, slots->digest);
     *begin = SLOTS_NEW;
-    if (slots->newest != 0 && slot_read(slots, newest, &size) == slots->newest) {
+    if (newest_read(slots, &size)) {
         enum wisangub_answer answer =
             wisangub_sign_restore(sign, text, text_size, slots->room + SLOT_HEAD, size, &first, &line);
         *begin = answer == WISANGUB_STATE ? SLOTS_REFUSED : SLOTS_RESTORED;
@@ -71,14 +77,24 @@ enum wisangub_answer slots_start(struct slots *slots, struct wisangub_sign *sign
     return wisangub_sign_new(sign, text, text_size, &first, &line);
 }
 
-int slots_keep(struct slots *slots, const struct wisangub_sign *sign)
+enum wisangub_answer slots_start_centre(struct slots *slots, struct wisangub_centre *centre, const void *community,
+                                        size_t community_size, enum wisangub_order order, uint32_t first,
+                                        enum slots_begin *begin)
+{
+    size_t line, size = 0;
+    sha256_digits(community, community_size, slots->digest);
+    *begin = newest_read(slots, &size) ? SLOTS_RESTORED : SLOTS_NEW;
+    return *begin == SLOTS_NEW ? wisangub_centre_new(centre, community, community_size, order, first)
+                               : wisangub_centre_restore(centre, community, community_size, order,
+                                                         slots->room + SLOT_HEAD, size, &line);
+}
+
+/* Writes the state of this size that stands in the room. */
+static int slot_written(struct slots *slots, size_t size)
 {
     const struct flash *flash = slots->flash;
     uint8_t *room = slots->room;
-    size_t size = 0, at = slots->next * flash->slot;
-    if (wisangub_sign_save(sign, room + SLOT_HEAD, flash->slot - SLOT_HEAD, &size) != WISANGUB_DONE) {
-        return 0;
-    }
+    size_t at = slots->next * flash->slot;
     put_number(room + NUMBER_AT, slots->newest + 1, 8);
     put_number(room + SIZE_AT, size, 4);
     memcpy(room + DIGEST_AT, slots->digest, SUM_AT - DIGEST_AT);
@@ -89,4 +105,17 @@ int slots_keep(struct slots *slots, const struct wisangub_sign *sign)
     slots->newest++;
     slots->next = 1 - slots->next;
     return 1;
+}
+
+int slots_keep(struct slots *slots, const struct wisangub_sign *sign)
+{
+    size_t size = 0, room = slots->flash->slot - SLOT_HEAD;
+    return wisangub_sign_save(sign, slots->room + SLOT_HEAD, room, &size) == WISANGUB_DONE && slot_written(slots, size);
+}
+
+int slots_keep_centre(struct slots *slots, const struct wisangub_centre *centre)
+{
+    size_t size = 0, room = slots->flash->slot - SLOT_HEAD;
+    return wisangub_centre_save(centre, slots->room + SLOT_HEAD, room, &size) == WISANGUB_DONE
+           && slot_written(slots, size);
 }

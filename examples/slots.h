@@ -1,6 +1,6 @@
 /*
- * The state of a sign in flash without a file system: two slots that are written in turn, so that a loss of power at
- * any octet of a write leaves the other one whole. The newest whole slot counts.
+ * The state of a sign, or of a central system, in flash without a file system: two slots that are written in turn, so
+ * that a loss of power at any octet of a write leaves the other one whole. The newest whole slot counts.
  */
 #ifndef SLOTS_H
 #define SLOTS_H
@@ -14,7 +14,8 @@ enum { SLOTS = 2, SLOT_HEAD = 80 };
 
 /*
  * A slot begins with its head: the number of its writing, from 1 (8 octets, the low one first), the size of the state
- * (4), the SHA-256 of the description as 64 digits, and the CRC-32 of all this and the state (4); then the state.
+ * (4), the SHA-256 of the description, or of the community, as 64 digits, and the CRC-32 of all this and the state (4);
+ * then the state.
  */
 
 /* A part of a chip's flash that is written octet by octet where it was erased. Each call answers 1, or 0 at a fault. */
@@ -35,9 +36,9 @@ struct slots {
     size_t next;     /* the slot that is written next */
 };
 
-/* What a sign begins with. */
+/* What a sign or a central system begins with. */
 enum slots_begin {
-    SLOTS_NEW,      /* as its description says: no slot is whole and of this description */
+    SLOTS_NEW,      /* as its description says: no slot is whole and of this description, or community */
     SLOTS_RESTORED, /* in the state of the newest whole slot */
     SLOTS_REFUSED   /* as its description says: the library refuses the state of the newest whole slot */
 };
@@ -51,5 +52,16 @@ enum wisangub_answer slots_start(struct slots *slots, struct wisangub_sign *sign
 
 /* Writes the sign's state into the slot that is not the newest one. Answers 1, or 0 where the newest is the one before. */
 int slots_keep(struct slots *slots, const struct wisangub_sign *sign);
+
+/*
+ * Makes a central system in the state of the newest whole slot, or with its first number `first`. Answers as
+ * wisangub_centre_restore does: at STATE none is made, for its next number is not known.
+ */
+enum wisangub_answer slots_start_centre(struct slots *slots, struct wisangub_centre *centre, const void *community,
+                                        size_t community_size, enum wisangub_order order, uint32_t first,
+                                        enum slots_begin *begin);
+
+/* As slots_keep, of a central system, before what it sends goes out; 0 too where its ledger has outgrown the slot. */
+int slots_keep_centre(struct slots *slots, const struct wisangub_centre *centre);
 
 #endif

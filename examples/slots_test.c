@@ -2,7 +2,8 @@
  * Slots of a simulated flash that loses its power at any octet: slots_test DESCRIPTION STEP. Of the states that a sign
  * is in, one after the other, the writing is cut at each STEP-th octet that is erased or written: what starts then is
  * the sign in the state before, octet for octet, and after the last octet in the new one. Each STEP-th bit is flipped,
- * and another description and a state that the library refuses are looked at too. It prints `ok`.
+ * and another description and a state that the library refuses are looked at too; and so is a central system while its
+ * ledger grows, until it has outgrown the slot. It prints `ok`.
  */
 #undef NDEBUG
 #include <assert.h>
@@ -192,6 +193,83 @@ static void refused(void)
     chip = as;
 }
 
+/* ---- central systems */
+
+static struct state saved_centre(const struct wisangub_centre *of)
+{
+    struct state found = {.size = 0};
+    assert(wisangub_centre_save(of, found.octets, sizeof found.octets, &found.size) == WISANGUB_DONE);
+    return found;
+}
+
+/* What starts from the chip is a central system in this state, or a new one where there is none. */
+static void centre_starts_in(const struct state *wanted)
+{
+    struct slots found = {.flash = &flash, .room = room};
+    struct wisangub_centre made = {NULL};
+    enum slots_begin begin;
+    chip.left = SIZE_MAX;
+    assert(slots_start_centre(&found, &made, "a", 1, WISANGUB_HIGH, 1, &begin) == WISANGUB_DONE);
+    assert(begin == (wanted->size == 0 ? SLOTS_NEW : SLOTS_RESTORED));
+    if (wanted->size != 0) {
+        struct state now = saved_centre(&made);
+        assert(is_same(&now, wanted));
+    }
+    wisangub_centre_free(&made);
+}
+
+/* The writing of its state is cut at an octet: what starts then is in the state before. Whether it was whole. */
+static int is_centre_whole_at(size_t octet, const struct chip *as, const struct wisangub_centre *of,
+                              const struct state *before)
+{
+    struct state now = saved_centre(of);
+    struct slots trial = slots;
+    chip = *as;
+    chip.left = octet;
+    int is_whole = slots_keep_centre(&trial, of);
+    centre_starts_in(is_whole ? &now : before);
+    return is_whole;
+}
+
+/* A code more of the ledger, and its state is kept before the request would go out. Whether there was room for it. */
+static int is_centre_kept(size_t step, struct wisangub_centre *of, struct state *before)
+{
+    static const char command[] = "blank 1 5 255 192.0.2.1";
+    uint8_t request[WISANGUB_DATAGRAM];
+    struct chip as = chip;
+    size_t size = 0;
+    wisangub_centre_restart(of);
+    assert(wisangub_centre_command(of, command, sizeof command - 1, request, sizeof request, &size) == WISANGUB_DONE);
+    if (wisangub_centre_save_size(of, &size) != WISANGUB_DONE || size > SLOT - SLOT_HEAD) {
+        return slots_keep_centre(&slots, of);
+    }
+    for (size_t octet = 0; octet < SLOT + SLOT_HEAD + size; octet += step) {
+        assert(!is_centre_whole_at(octet, &as, of, before));
+    }
+    assert(is_centre_whole_at(SLOT + SLOT_HEAD + size, &as, of, before));
+    chip = as;
+    assert(slots_keep_centre(&slots, of));
+    *before = saved_centre(of);
+    return 1;
+}
+
+static void centres(size_t step)
+{
+    struct wisangub_centre made = {NULL};
+    struct state before = {.size = 0};
+    enum slots_begin begin;
+    unsigned codes = 0;
+    memset(chip.octets, 255, CHIP);
+    chip.left = SIZE_MAX;
+    assert(slots_start_centre(&slots, &made, "a", 1, WISANGUB_HIGH, 1, &begin) == WISANGUB_DONE && begin == SLOTS_NEW);
+    while (is_centre_kept(codes < 3 ? step : SLOT, &made, &before)) {
+        codes++;
+    }
+    centre_starts_in(&before);
+    assert(codes > 50);
+    wisangub_centre_free(&made);
+}
+
 static void begin(const char *name)
 {
     uint8_t writer[32];
@@ -222,6 +300,7 @@ int main(int count, char **words)
     flipped(step, &before, &older);
     of_another_description();
     refused();
+    centres(step);
     wisangub_centre_free(&centre);
     wisangub_sign_free(&sign);
     wisangub_sign_free(&started);

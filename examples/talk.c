@@ -4,9 +4,9 @@
  * system, whose community is the one that may write. Beside the lines of docs/PROFILE.md there are `check OCTETS` and
  * `pages OCTETS` of a text, `bits`, which is `show` with each row as bits, `code ORDER MEMORY NUMBER TEXT BEACON PIXEL
  * MINUTES PRIORITY ADDRESS`, `why text OCTETS`, `why description OCTETS` and `why command OCTETS`, which are answered
- * `ok` where they are not refused, and `anew`, which frees both and makes them again. After `save` the sign is one that was
- * made of its text. An activation that is accepted is answered `reply OCTETS`, too. What memory is wanting for is
- * answered `memory`.
+ * `ok` where they are not refused, and `anew`, which frees both and makes them again. After `save` the sign is one that
+ * was made of its text, and after `centre save` the central system is one that was. An activation that is accepted is
+ * answered `reply OCTETS`, too. What memory is wanting for is answered `memory`.
  */
 #include <inttypes.h>
 #include <stdio.h>
@@ -22,6 +22,8 @@ enum { TEXT_MOST = 1 << 20, LINE_MOST = 140000, PAGES_MOST = 6 * (WISANGUB_PAGE_
 static char text[TEXT_MOST], line[LINE_MOST];
 static size_t described; /* the octets of the text */
 static uint8_t octets[LINE_MOST / 2], pages[PAGES_MOST], sent[WISANGUB_DATAGRAM];
+static uint8_t community[32];
+static size_t community_size;
 static uint16_t width, height;
 static enum wisangub_order order;
 static struct wisangub_sign sign = {NULL};
@@ -402,6 +404,31 @@ static void give(const char *words)
     }
 }
 
+/* The state as text; what goes on then is a central system that is made of it. */
+static void save_centre(void)
+{
+    struct wisangub_centre made = {NULL};
+    size_t size = 0, fault = 0;
+    wisangub_centre_save_size(&centre, &size);
+    uint8_t *saved = malloc(size);
+    enum wisangub_answer answer =
+        saved == NULL ? WISANGUB_MEMORY : wisangub_centre_save(&centre, saved, size, &size);
+    if (answer == WISANGUB_DONE) {
+        answer = wisangub_centre_restore(&made, community, community_size, order, saved, size, &fault);
+    }
+    if (answer == WISANGUB_MEMORY) {
+        puts("memory");
+    } else if (answer != WISANGUB_DONE) {
+        printf("answer %d line %zu\n", (int)answer, fault);
+    } else {
+        wisangub_centre_free(&centre);
+        centre = made;
+        fwrite(saved, 1, size, stdout);
+        puts("ok");
+    }
+    free(saved);
+}
+
 static void answer_centre(const char *words)
 {
     size_t size = 0;
@@ -417,6 +444,8 @@ static void answer_centre(const char *words)
         puts("ok");
     } else if (strcmp(words, "status") == 0) {
         print_status();
+    } else if (strcmp(words, "save") == 0) {
+        save_centre();
     } else {
         give(words);
     }
@@ -454,14 +483,13 @@ static size_t read_description(void)
 /* Makes the sign and the central system of the text; nothing is made where one of them is not. */
 static enum wisangub_answer make(size_t size)
 {
-    uint8_t community[32];
     uint32_t first = 0;
-    size_t fault = 0, written = 0;
+    size_t fault = 0;
     enum wisangub_answer made = wisangub_sign_new(&sign, text, size, &first, &fault);
     if (made == WISANGUB_DONE) {
-        wisangub_sign_writer(&sign, community, sizeof community, &written);
+        wisangub_sign_writer(&sign, community, sizeof community, &community_size);
         wisangub_sign_matrix(&sign, &width, &height);
-        made = wisangub_centre_new(&centre, community, written, order, first);
+        made = wisangub_centre_new(&centre, community, community_size, order, first);
     }
     if (made == WISANGUB_FAULT) {
         printf("fault line %zu\n", fault);

@@ -19,13 +19,13 @@
  *   - A pointer that comes with a size points to at least so many octets, and no two pointers of one call overlap.
  *   - The heap keeps what is said of rattle_alloc below.
  *
- * There is no global state, no thread, no exit and no abort. wisangub_sign_new, wisangub_sign_restore and
- * wisangub_centre_new take memory (by rattle_alloc), and wisangub_sign_free and wisangub_centre_free give it back;
- * wisangub_sign_publish takes memory for an object, which is given back as the object is withdrawn or another stands in
- * its place; the two calls that draw pages, the three that say why something is refused, and the command of a central
- * system, take memory and give it back before they answer; a central system takes some for its ledger, where its
- * command or tick answers MEMORY if there is none; no other call takes any. Sizes are octets and times are seconds. The
- * functions answer one of enum wisangub_answer. What is `const` is only read.
+ * There is no global state, no thread, no exit and no abort. The two `_new` and the two `_restore` take memory (by
+ * rattle_alloc), and wisangub_sign_free and wisangub_centre_free give it back; wisangub_sign_publish takes memory for
+ * an object, which is given back as the object is withdrawn or another stands in its place; the two calls that draw
+ * pages, the three that say why something is refused, and the command of a central system, take memory and give it back
+ * before they answer; a central system takes some for its ledger, where its command or tick answers MEMORY if there is
+ * none; no other call takes any. Sizes are octets and times are seconds. The functions answer one of enum
+ * wisangub_answer. What is `const` is only read.
  *
  * A call that fills a buffer gives the size that it needs in *size. Where the room is smaller it answers TOO_SMALL and
  * does nothing else, and may be called again; null with a room of 0 asks for the size alone.
@@ -87,7 +87,7 @@ enum wisangub_answer {
     WISANGUB_BUSY = 6,      /* a job is not done yet; the command is not taken */
     WISANGUB_USED_UP = 7,   /* no request number is left; the command is not taken */
     WISANGUB_RANGE = 8,     /* a value is out of its range, of a command too, which is not taken; nothing is done */
-    WISANGUB_STATE = 9      /* a text is no state of the sign; nothing is done */
+    WISANGUB_STATE = 9      /* a text is no state of the sign, or of a central system; nothing is done */
 };
 
 /* A sign. Set `at` to null before the first use: `struct wisangub_sign sign = {NULL};` */
@@ -455,6 +455,11 @@ uint32_t wisangub_activation_code_at(uint8_t order, const struct wisangub_code *
 
 uint32_t wisangub_centre_new_at(const uint8_t *community, size_t community_size, uint8_t order, uint32_t first,
                                 struct wisangub_centre *centre);
+uint32_t wisangub_centre_restore_at(const uint8_t *community, size_t community_size, uint8_t order,
+                                    const uint8_t *state, size_t state_size, struct wisangub_centre *centre,
+                                    size_t *line);
+uint32_t wisangub_centre_save_at(const struct wisangub_centre *centre, uint8_t *state, size_t room, size_t *size);
+void wisangub_centre_save_size_at(const struct wisangub_centre *centre, size_t *size);
 uint32_t wisangub_command_cause_at(const uint8_t *line, size_t line_size, struct wisangub_cause *cause, uint8_t *words,
                                    size_t room, size_t *size);
 uint32_t wisangub_centre_command_at(struct wisangub_centre *centre, const uint8_t *line, size_t line_size,
@@ -996,6 +1001,54 @@ WISANGUB_INLINE enum wisangub_answer wisangub_centre_new(struct wisangub_centre 
     }
     return (enum wisangub_answer)wisangub_centre_new_at((const uint8_t *)community, community_size,
                                                         wisangub_octet((unsigned)order), first, centre);
+}
+
+/*
+ * The state of a central system as text, from its line `state 1 centre` to `end`: the next number, how the last job
+ * ended, the job that is on and the ledger, as the line `save` answers it (docs/PROFILE.md). Not in it are what it is
+ * made with, its community and its order. Answers DONE, with the text in `state` and its size in *size; TOO_SMALL; or
+ * NULL. No memory is taken.
+ */
+WISANGUB_INLINE enum wisangub_answer wisangub_centre_save(const struct wisangub_centre *centre, void *state,
+                                                          size_t room, size_t *size)
+{
+    uint8_t none = 0, *buffer = wisangub_buffer(state, room, &none);
+    if (centre == NULL || centre->at == NULL || buffer == NULL || size == NULL) {
+        return WISANGUB_NULL;
+    }
+    return (enum wisangub_answer)wisangub_centre_save_at(centre, buffer, room, size);
+}
+
+/*
+ * How many octets wisangub_centre_save gives of the central system as it is now: there is no most, since each code that
+ * is sent adds a line. Answers DONE or NULL. No memory is taken.
+ */
+WISANGUB_INLINE enum wisangub_answer wisangub_centre_save_size(const struct wisangub_centre *centre, size_t *size)
+{
+    if (centre == NULL || centre->at == NULL || size == NULL) {
+        return WISANGUB_NULL;
+    }
+    wisangub_centre_save_size_at(centre, size);
+    return WISANGUB_DONE;
+}
+
+/*
+ * Makes a central system, as wisangub_centre_new does, in the state of a text that wisangub_centre_save gave of one
+ * with this community and this order: each call answers afterwards what it would have answered there. Keep its state
+ * before a request is sent: of an older state the numbers of requests would be used twice. Answers as
+ * wisangub_centre_new does, and STATE, with the line for which the text is refused in *line, counted from 1.
+ */
+WISANGUB_INLINE enum wisangub_answer wisangub_centre_restore(struct wisangub_centre *centre, const void *community,
+                                                             size_t community_size, enum wisangub_order order,
+                                                             const void *state, size_t state_size, size_t *line)
+{
+    if (centre == NULL || centre->at != NULL || community == NULL || state == NULL || line == NULL
+        || !WISANGUB_OF_THIS_VERSION) {
+        return WISANGUB_NULL;
+    }
+    return (enum wisangub_answer)wisangub_centre_restore_at((const uint8_t *)community, community_size,
+                                                            wisangub_octet((unsigned)order), (const uint8_t *)state,
+                                                            state_size, centre, line);
 }
 
 /*

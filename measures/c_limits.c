@@ -31,7 +31,7 @@ static uint8_t octets[TEXT_MOST], sent[WISANGUB_DATAGRAM], pages[PAGES_MOST], no
 static _Alignas(16) unsigned char stack[STACK];
 static size_t description_size, sent_size, last_page, live, most, calls, used;
 static struct wisangub_sign sign = {NULL}, other = {NULL};
-static struct wisangub_centre centre = {NULL};
+static struct wisangub_centre centre = {NULL}, restored = {NULL};
 static enum wisangub_answer answered;
 
 /* ---- a heap that counts; the size of a block stands before it */
@@ -296,6 +296,17 @@ static enum wisangub_answer centre_tick(const struct call *call)
     return (void)call, wisangub_centre_tick(&centre, sent, sizeof sent, &sent_size);
 }
 
+static enum wisangub_answer centre_save(const struct call *call)
+{
+    return (void)call, wisangub_centre_save(&centre, pages, sizeof pages, &sent_size);
+}
+
+static enum wisangub_answer centre_restore(const struct call *call)
+{
+    size_t at = 0;
+    return wisangub_centre_restore(&restored, "admin", 5, WISANGUB_HIGH, call->octets, call->size, &at);
+}
+
 /* ---- lines */
 
 /* What was sent, where the next call does not overwrite it. */
@@ -310,6 +321,9 @@ static void carry_out(const char *words)
         while (sends == WISANGUB_DONE && measured("sign_receive", receive, kept(), sent_size) == WISANGUB_DONE) {
             sends = measured("centre_receive", centre_receive, kept(), sent_size);
         }
+        measured("centre_save", centre_save, NULL, 0);
+        measured("centre_restore", centre_restore, pages, sent_size);
+        wisangub_centre_free(&restored);
         measured("sign_tick", tick, NULL, 0);
         sends = measured("centre_tick", centre_tick, NULL, 0);
     }

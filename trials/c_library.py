@@ -7,11 +7,12 @@ passed, N failed`.
 Without --library it is taken as it stands, and made where it is of other sources, by tools/static_library.py. Needed is
 a C compiler; what else is not here is printed as `skipped NAME: why`. Every datagram, request, text, code and script of
 vectors/ goes through the library, with the sanitizers of addresses and of undefined behaviour and under valgrind; talks
-of many lines are compared with the program's, with the whole walk after every call, and so is why something is refused;
-each allocation of a talk is refused once; signd and wisangub-sign go on from each other's journals, which are changed,
-cut, and refused by the disk; strangers do not fill them; C++, CMake, pkg-config, Python and Rust build with it; a
-panel's lamps are looked at; and mutated datagrams go in for --seconds, and what libFuzzer makes too. With --aarch64 the
-vectors go through that library too, for ARM64, under qemu-user, and with --plain through that for any x86-64.
+of many lines are compared with the program's, with the whole walk after every call, and so is why something is refused,
+and what is made of changed states of a central system; each allocation of a talk is refused once; signd and
+wisangub-sign go on from each other's journals, which are changed, cut, and refused by the disk; strangers do not fill
+them; C++, CMake, pkg-config, Python and Rust build with it; a panel's lamps are looked at; and mutated datagrams go in
+for --seconds, and what libFuzzer makes too. With --aarch64 the vectors go through that library too, for ARM64, under
+qemu-user, and with --plain through that for any x86-64.
 
 The short form makes the library over crates that stand proved alone, in 1000 seconds at most. Once it is there nothing
 begins after 230 seconds, and all is stopped after 280: what there is no time for is skipped by name. In the long form
@@ -38,6 +39,7 @@ from trials.library import (
     against_vectors,
     builds,
     causes,
+    centre_states,
     disks,
     fuzzed,
     hostile,
@@ -174,6 +176,7 @@ def all_tried(trial: Trial, library: pathlib.Path, others: Others, seconds: int,
         ("disks", partial(disks.run, trial)),
         ("languages", partial(languages.run, trial)),
         ("causes", partial(causes.run, trial)),
+        ("states of a central system", partial(centre_states.run, trial)),
         ("panel", partial(panels.run, trial)),
         ("arenas", partial(tested.arena, trial, library)),
         ("fuzzing", lambda: fuzzed.run(trial, trial.seconds(seconds), seed)),

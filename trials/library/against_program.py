@@ -48,8 +48,9 @@ def _sign_lines(trial: Trial, count: int = _LINES) -> list[str]:
 
 
 def _centre_lines(trial: Trial, count: int = _LINES) -> list[str]:
+    """Replies of the vectors in any order, commands, ticks, restarts, how it stands, and saves."""
     octets = datagrams("reply")
-    others = (*_COMMANDS, "tick", "tick", "status", "restart")
+    others = (*_COMMANDS, "tick", "tick", "status", "save", "restart")
     return [trial.chance.choice(octets if trial.chance.random() < 0.5 else others) for _ in range(count)]
 
 

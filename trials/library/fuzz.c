@@ -247,6 +247,21 @@ static void call(struct wisangub_sign *sign, struct wisangub_centre *centre, uns
     looked_at(kind, answer, made);
 }
 
+/* A central system goes on from its own state. */
+static void goes_on(const struct wisangub_centre *centre)
+{
+    struct wisangub_centre other = {NULL};
+    size_t size = 0, made = 0, line = 0;
+    must(wisangub_centre_save_size(centre, &size) == WISANGUB_DONE && size <= ROOM, "the size of a state");
+    must(wisangub_centre_save(centre, output - size, size, &made) == WISANGUB_DONE && made == size, "a state as text");
+    const uint8_t *text = put(output - size, size);
+    must(wisangub_centre_restore(&other, "a", 1, WISANGUB_HIGH, text, size, &line) == WISANGUB_DONE, "its own state");
+    memset(output - size, 0, size);
+    must(wisangub_centre_save(&other, output - size, size, &made) == WISANGUB_DONE && made == size, "its text");
+    must(memcmp(output - size, text, size) == 0, "the same text");
+    wisangub_centre_free(&other);
+}
+
 static void datagrams(const uint8_t *octets, size_t size)
 {
     struct wisangub_sign sign = {NULL};
@@ -262,6 +277,7 @@ static void datagrams(const uint8_t *octets, size_t size)
         call(&sign, &centre, at[0] % CALLS, at + 3, part);
     }
     draw(&sign);
+    goes_on(&centre);
     wisangub_centre_free(&centre);
     wisangub_sign_free(&sign);
 }
@@ -369,6 +385,23 @@ static void descriptions(const uint8_t *octets, size_t size)
 
 /* ---- states */
 
+/* A text is the state of the central system that is made of it, or names a line; and it goes on. */
+static void centre_states(const uint8_t *text, size_t size)
+{
+    struct wisangub_centre centre = {NULL};
+    size_t line = 0, made = 0;
+    enum wisangub_answer answer = wisangub_centre_restore(&centre, "a", 1, WISANGUB_HIGH, text, size, &line);
+    must(answer == WISANGUB_DONE || (answer == WISANGUB_STATE && centre.at == NULL && line > 0), "a state of a centre");
+    seen(1, answer, line);
+    if (answer == WISANGUB_DONE) {
+        must(wisangub_centre_save(&centre, NULL, 0, &made) == WISANGUB_TOO_SMALL && made == size, "its size");
+        must(wisangub_centre_save(&centre, output - size, size, &made) == WISANGUB_DONE && made == size, "its text");
+        must(memcmp(output - size, text, size) == 0, "the same text");
+        wisangub_centre_tick(&centre, output - WISANGUB_DATAGRAM, WISANGUB_DATAGRAM, &made);
+    }
+    wisangub_centre_free(&centre);
+}
+
 /* A text is the state of the sign that is made of it, or names a line; and the sign goes on. */
 static void states(const uint8_t *octets, size_t size)
 {
@@ -376,6 +409,7 @@ static void states(const uint8_t *octets, size_t size)
     uint32_t first = 0;
     size_t line = 0, most = 0, needed = 0, made = 0;
     const uint8_t *text = put(octets, size);
+    centre_states(text, size);
     enum wisangub_answer answer =
         wisangub_sign_restore(&sign, description, description_size, text, size, &first, &line);
     must(answer == WISANGUB_DONE || (answer == WISANGUB_STATE && sign.at == NULL && line > 0), "a state");

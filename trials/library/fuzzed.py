@@ -4,10 +4,12 @@ from __future__ import annotations
 
 import pathlib
 import re
+from functools import partial
 
-from model import text, wire
+from model import coprocess, text, wire
 from model.objects import DMS
 from model.saved import saved
+from model.saved_centre import saved as saved_centre
 from model.sign import Sign
 from wisangub.snmp.wire import name_content
 
@@ -76,9 +78,20 @@ def besides() -> list[bytes]:
     return [*found, call(FONTS) + call(OBJECT, name_content((*DMS, 3, 1, 0))) + call(TO_SIGN, first)]
 
 
+def centre_states() -> list[bytes]:
+    """Those that a central system is in while nobody answers."""
+    found = []
+    for command in ("publish 3 1 41 6d65 0 0 200 5 255 192.0.2.1", "blank 1 60 255 192.0.2.1"):
+        world = text.World(text.bench())
+        for line in (command, *["tick"] * 5, "restart", command):
+            coprocess.answered(partial(coprocess.centre_answer, world), line.encode("ascii"))
+            found.append("\n".join([*saved_centre(world.centre), ""]).encode("ascii"))
+    return found
+
+
 def states() -> list[bytes]:
-    """Those that a sign is in after each of the vectors' requests, and without power."""
-    sign, found = Sign(text.bench()), []
+    """Those that a sign is in after each of the vectors' requests, and without power; those of a central system."""
+    sign, found = Sign(text.bench()), centre_states()
     for case in cases("requests"):
         sign.receive(bytes.fromhex(case["request"]))
         sign.tick()

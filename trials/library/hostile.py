@@ -10,7 +10,8 @@ from .trial import PLAIN, REFUSING, TOP, UNDER_VALGRIND, Trial, Way, described
 _MOST_CALLS = 2000  # allocations of a talk
 _MOST_START = 60  # seconds beside those that are asked for
 _ROADSIDE = str(TOP / "signs" / "roadside.sign")
-_MANY = ("show", "bits", "state", "save", "centre status", "pages 415b6e705d42")  # lines that are answered by many
+# lines that are answered by many
+_MANY = ("show", "bits", "state", "save", "centre status", "centre save", "pages 415b6e705d42")
 
 
 def _lines_of_a_talk() -> list[str]:
@@ -38,6 +39,7 @@ def _lines_of_a_talk() -> list[str]:
         "centre tick",
         "centre restart",
         "centre publish 3 1 41 42 0 0 200 65535 255 192.0.2.1",
+        "centre save",
         "centre restart",
         "centre status",
         "code 0 3 1 41 0 0 65535 255 192.0.2.1",

@@ -1,3 +1,4 @@
 mod Entries
 pub mod Given
 mod RowLaws
+pub mod SavedSizes

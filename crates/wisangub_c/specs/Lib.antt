@@ -7,3 +7,4 @@ pub mod Times
 pub mod States
 pub mod Objects
 pub mod Centre
+pub mod CentreStates

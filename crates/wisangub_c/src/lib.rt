@@ -10,6 +10,7 @@
 
 pub mod cause_calls;
 pub mod centre_calls;
+pub mod centre_state_calls;
 pub mod code_calls;
 pub mod object_calls;
 pub mod page_calls;
