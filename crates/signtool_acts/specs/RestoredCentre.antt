@@ -3,9 +3,10 @@
 use Rattle.std.specs.Prelude.{◌≡◌, ℕ, List, [], ◌++◌, codes, Option, None, Some}
 use Rattle.dms_centre_jobs.specs.Job.{SettingsModel}
 use Rattle.dms_centre.specs.State.{CentreState, start}
-use Rattle.dms_centre_restored.specs.Restored.{IsRestored}
+use Rattle.dms_centre_restored.specs.Restored.{IsRestored, IsNoneOf, IsToldOf}
 use Rattle.dms_centre_restored.specs.RestoredTexts.{refused_line, refusal_text}
 use Rattle.dms_centre_restored.specs.declared.refusal.StateRefusal.{StateRefusal}
+use Rattle.dms_centre_restored.specs.declared.refusal.RestoreFault.TheVariants.{State}
 use Rattle.dms_sign_text.specs.ReadingFaults.{replay_fault}
 use Rattle.dms_sign_text.specs.declared.setup.Setup.{Setup}
 use Rattle.dms_text_streams.specs.DescriptionText.{TakesDescription}
@@ -25,9 +26,11 @@ abbrev pub CentreBefore : Option (List ℕ) → Setup → CentreState → Option
 CentreBefore before setup s after =
     (text : List ℕ) × TakesDescription before text after × IsRestored (settings_in setup) text s
 
--- a text that stands before the conversation is taken
-abbrev pub TakesState : Option (List ℕ) → Option (List ℕ) → Type 0
-TakesState before after = (text : List ℕ) × TakesDescription before text after
+-- that text is taken, no central system of the settings comes to its state, or memory ran out, and this line is told
+abbrev pub IsRefusedCentre : Option (List ℕ) → Setup → StateRefusal → Option (List ℕ) → Type 0
+IsRefusedCentre before setup refusal after =
+    (text : List ℕ) × TakesDescription before text after × IsNoneOf (settings_in setup) text (State refusal)
+    × IsToldOf text refusal
 
 -- the central system with which a conversation begins, and what is left for it
 abbrev pub CentreBegins : StateWanted → Option (List ℕ) → Setup → CentreState → Option (List ℕ) → Type 0

@@ -7,7 +7,7 @@ ghost use Rattle.dms_text_streams.specs.DescriptionText.{longest_input};
 ghost use Rattle.dms_text_streams.specs.Lines.{left};
 ghost use Rattle.dms_text_streams.specs.declared.fault.InputFault.TheVariants as faults;
 ghost use Rattle.dms_centre_restored.specs.RestoredTexts.{refused_line};
-ghost use Rattle.signtool_acts.specs.RestoredCentre.{CentreBefore, TakesState, centre_said};
+ghost use Rattle.signtool_acts.specs.RestoredCentre.{CentreBefore, IsRefusedCentre, centre_said};
 ghost use Rattle.signtool_acts.specs.declared.restored_centre.CentreRefusal.TheVariants as refusals;
 
 use crate::centre::settings_of;
@@ -41,7 +41,7 @@ pub fn centre_restored_before<S: Source>(
     ensures state { IfOk result
         (λ s. CentreBefore (left S.remaining input.old) setup.now s (left S.remaining input.new)) }
     ensures refused { (refusal : StateRefusal) → result ≡ Err (refusals.State refusal)
-        → TakesState (left S.remaining input.old) (left S.remaining input.new) }
+        → IsRefusedCentre (left S.remaining input.old) setup.now refusal (left S.remaining input.new) }
     ensures too_long { result ≡ Err (refusals.Input faults.TooLong)
         → IfSome (left S.remaining input.old) (λ octets. longest_input < length octets) }
     ensures read { result ≡ Err (refusals.Input faults.Read)
