@@ -1,5 +1,5 @@
 #!/usr/bin/env python3
-"""What the gate does after `rt ci`, on the program that it built: tools/after_gate.py
+"""What the gate does after tools/prove.py, on the program that it built: tools/after_gate.py
 
     tools/after_gate.py [--program crates/signtool/out/signtool] [--list] [STEP..]
     tools/after_gate.py --gate 'N passed, M failed' ..  the counts of what ran before, which are added
@@ -20,6 +20,7 @@ import argparse
 import os
 import sys
 
+from steps.cost import Cost
 from steps.step import COUNTS, TOP, Outcome, Step, totals
 from steps.together import adopt_orphans, end_children, ended
 
@@ -81,7 +82,9 @@ def main() -> int:
         default=str(TOP / "crates/signtool/out/signtool"),
         help="the program signtool, as tools/build.py makes it",
     )
-    parser.add_argument("--gate", action="append", default=[], help="the last line of `rt ci`, of the wrong bodies")
+    parser.add_argument(
+        "--gate", action="append", default=[], help="the last line of tools/prove.py, of the wrong bodies"
+    )
     parser.add_argument("--list", action="store_true", help="the steps and their limits, and nothing is run")
     parser.add_argument("steps", nargs="*", metavar="STEP", help="the steps of these names alone")
     asked = parser.parse_args()
@@ -94,6 +97,7 @@ def main() -> int:
     if len(steps) < len(set(asked.steps)):
         parser.error("there is no such step: --list names all")
     adopt_orphans()
+    cost = Cost()
     lines = [COUNTS.search(line) for line in asked.gate]
     # what printed no counts did not come to its end
     before = [Outcome(int(counts[1]), int(counts[2])) if counts else Outcome(failed=1) for counts in lines]
@@ -102,8 +106,9 @@ def main() -> int:
         found = _outcomes(steps, os.path.abspath(asked.program))
     else:
         before.append(Outcome(failed=1))
-        print(f"there is no program at {asked.program}: `rt ci` leaves it there, and so does tools/build.py")
+        print(f"there is no program at {asked.program}: tools/prove.py leaves it there, and so does tools/build.py")
     end_children()
+    print(f"steps: {cost}", file=sys.stderr)
     return _told(before, found)
 
 

@@ -34,6 +34,7 @@ from building.kit import Kit
 from building.plan import TOP, Crate, Plan
 from building.proofs import Proofs
 from building.schedule import free_memory
+from steps.cost import Cost
 from tries.check import Checker
 from tries.kept import Kept, folder, sum_of
 from tries.libraries import libraries, whole_plan
@@ -181,12 +182,14 @@ def main() -> int:
     if asked.apply:
         counts = [applicable(name, of) for name, of in edits.items()]
     else:
+        cost = Cost()
         run = Run(whole_plan(), Kit.found(), Kept(folder(), asked.anew), asked.goals)
         works = [run.begin(name, of) for name, of in edits.items()]
         names = [work.crate.name for work in works if work.left]
         with libraries(run.plan, names, asked.libraries, asked.jobs) as below:
             counts = run.side_by_side(works, below, asked.jobs)
         run.kept.shrink()
+        print(f"wrong bodies: {cost}", file=sys.stderr)
     passed, failed, kept = (sum(column) for column in zip(*counts)) if counts else (0, 0, 0)
     if kept:
         print(f"{kept} of them were refused by an earlier run on this machine, over the same files")

@@ -64,7 +64,7 @@ def test_no_release_without_a_gate(tmp_path: pathlib.Path) -> None:
 
 def test_the_gate_names_its_commit_first() -> None:
     text = (TOP / ".ci/run").read_text(encoding="utf-8")
-    assert text.index('echo "commit $commit"') < text.index("rt ci | tee")
+    assert text.index('echo "commit $commit"') < text.index("tools/prove.py | tee")
 
 
 def test_the_readme_of_a_release_says_which_gate() -> None:
