@@ -20,7 +20,6 @@ def test_an_aged_sign_has_a_text_in_each_row_and_a_journal_as_long_as_it_may_be(
     year.write(HEAD, path, starts.longest(sign, Moment.now()))
     assert MOST - 2000 < path.stat().st_size < MOST
     journal = Journal.opened(str(path), HEAD)
-    journal.close()
     rows = [line.split(b" ") for line in journal.state() if line.startswith((b"changeable ", b"volatile "))]
     assert [row[:3] for row in rows] == [
         [name, b"%d" % number, b"4"]
@@ -29,6 +28,7 @@ def test_an_aged_sign_has_a_text_in_each_row_and_a_journal_as_long_as_it_may_be(
     ]
     assert {len(row[3]) for row in rows} == {1024} and {len(row[4]) for row in rows} == {254}
     assert sum(map(len, journal.lines())) > 10_000
+    journal.close()
 
 
 def test_a_journal_of_form_1_is_read_and_written_anew(tmp_path: pathlib.Path) -> None:

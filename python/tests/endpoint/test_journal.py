@@ -8,7 +8,7 @@ import tempfile
 from typing import Callable
 from unittest import mock
 
-from wisangub.endpoint import records
+from wisangub.endpoint import reading, records
 from wisangub.endpoint.clock import Moment
 from wisangub.endpoint.files import NotKept, Place, opened
 from wisangub.endpoint.journal import Journal
@@ -255,6 +255,19 @@ def test_an_old_file_is_put_aside_whole() -> None:
         assert kept(f"{folder}/journal") == [b"tick"]
         aside = [name for name in os.listdir(folder) if name != "journal"]
         assert len(aside) == 1 and pathlib.Path(folder, aside[0]).read_bytes() == text
+
+
+def test_lines_are_refused_of_a_file_that_is_closed_or_was_made_shorter() -> None:
+    for kept_as_read in (0, reading._SHORT):
+        with tempfile.TemporaryDirectory() as folder, mock.patch.object(reading, "_SHORT", kept_as_read):
+            path = f"{folder}/journal"
+            text = made(path)
+            journal = Journal.opened(path, HEAD)
+            assert [line for some in journal.lines() for line in some] == LINES
+            os.truncate(path, len(text) - 1)
+            assert refused(journal.lines) == f"{path}: another hand made it shorter: its lines are not read"
+            journal.close()
+            assert refused(journal.lines) == f"{path}: it is not open: its lines are not read"
 
 
 def test_a_start_without_its_clock_counts_for_nothing() -> None:

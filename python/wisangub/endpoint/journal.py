@@ -117,10 +117,15 @@ class Journal:
         return [*self.found.state] if self.found else []
 
     def lines(self) -> Iterator[list[bytes]]:
-        """The lines that were handed over, many at a time."""
+        """The lines that were handed over, many at a time. Refuses a file that is not open any more, or that another
+        hand made shorter: no lines would come to an end there."""
         if self.found is None:
             return iter(())
-        return self.found._replace(size=self.size).lines(self.text())
+        text = self.text()
+        if len(text) < self.size:
+            why = "it is not open" if self.file < 0 else "another hand made it shorter"
+            raise Refusal(f"{self.path}: {why}: its lines are not read", 1)
+        return self.found._replace(size=self.size).lines(text)
 
     def prepare(self) -> None:
         """What is to be done with the file before the next record."""
