@@ -31,7 +31,7 @@ def main() -> int:
     which.add_argument("--check", action="store_true", help="what has to hold now; so without an option too")
     which.add_argument("--all", action="store_true", help="what is left for later too")
     which.add_argument(
-        "--draw", action="store_true", help="draws the houses, which wants Graphviz, and looks at nothing"
+        "--draw", action="store_true", help="draws the groups of crates, which wants Graphviz, and looks at nothing"
     )
     which.add_argument("--links", action="store_true", help="writes the links of docs/MAP.md, and looks at nothing")
     parser.add_argument("--top", type=pathlib.Path, default=TOP, metavar="FOLDER", help="another repository")

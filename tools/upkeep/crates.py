@@ -1,4 +1,4 @@
-"""Bars of the crates: that pages name each, house by house in the order of crates.txt, and what each of them owes."""
+"""Bars of the crates: that pages name each, group by group in the order of crates.txt, and what each of them owes."""
 
 import re
 
@@ -7,8 +7,8 @@ from .tree import Tree
 LIST = "crates.txt"
 _PAGES = ("docs/ARCHITECTURE.md", "docs/MAP.md", "docs/PROVED.md")
 _REASONS, _OLDER = "docs/DECISIONS.md", "tools/upkeep/older_paths.txt"
-# the line of a house: its name, and the families of its crates
-HOUSE = re.compile(r"## (?P<house>[a-z][a-z ]*): (?P<families>\w+(?:, \w+)*)")
+# the line of a group: its name, and the families of its crates
+GROUP = re.compile(r"## (?P<group>[a-z][a-z ]*): (?P<families>\w+(?:, \w+)*)")
 _FEWEST = 10
 _MOST_FUNCTIONS, MOST_LINES = 130, 2000
 FUNCTION = re.compile(r"(?m)^\s*(?:pub(?:\(\w+\))? )?(?:const )?(?:extern \"C\" )?fn \w+")
@@ -31,13 +31,13 @@ def used(text: str) -> dict[str, list[str]]:
     return {head.split()[0]: below.split() for head, _, below in halves}
 
 
-def houses(tree: Tree) -> dict[str, list[str]]:
-    """The crates of each house: those below its line of crates.txt."""
+def groups(tree: Tree) -> dict[str, list[str]]:
+    """The crates of each group: those below its line of crates.txt."""
     found: dict[str, list[str]] = {}
     for _, line in tree.lines(LIST):
-        house = HOUSE.fullmatch(line)
-        if house:
-            found[house["house"]] = []
+        group = GROUP.fullmatch(line)
+        if group:
+            found[group["group"]] = []
         elif found and re.match(r"\w", line):
             found[list(found)[-1]].append(line.split(":")[0].split()[0])
     return found
@@ -54,7 +54,7 @@ def named(tree: Tree) -> list[str]:
 
 
 def _headings(text: str, wanted: set[str]) -> list[tuple[str, str]]:
-    """The houses of a page in its order, each with its text: a heading, or a row of a table that begins with its
+    """The groups of a page in its order, each with its text: a heading, or a row of a table that begins with its
     name."""
     marks = list(re.finditer(r"(?m)^(?:#+ |\| \*\*)([A-Za-z ]+)", text))
     ends = [mark.start() for mark in marks[1:]] + [len(text)]
@@ -63,14 +63,14 @@ def _headings(text: str, wanted: set[str]) -> list[tuple[str, str]]:
 
 
 def ordered(tree: Tree) -> list[str]:
-    """Pages whose houses are not those of crates.txt in its order, and crates that stand in no part of their house."""
-    wanted = houses(tree)
+    """Pages whose groups are not those of crates.txt in its order, and crates that stand in no part of their group."""
+    wanted = groups(tree)
     found = []
     for page in _PAGES:
         parts = _headings(tree.text(page), set(wanted))
         said = [name for name, _ in parts]
         if said != list(wanted):
-            found.append(f"{page}: the houses are {', '.join(said)}; in {LIST} they are {', '.join(wanted)}")
+            found.append(f"{page}: the groups are {', '.join(said)}; in {LIST} they are {', '.join(wanted)}")
         found += [
             f"{page}: {crate} does not stand under {name}"
             for name, part in parts

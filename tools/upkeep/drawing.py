@@ -1,4 +1,4 @@
-"""The drawing of the houses, docs/pictures/houses.svg: what stands on what, by crates.txt."""
+"""The drawing of the groups, docs/pictures/houses.svg: what stands on what, by crates.txt."""
 
 import re
 import subprocess
@@ -45,14 +45,14 @@ def drawn_crates(tree: Tree) -> set[str]:
 
 
 def as_dot(tree: Tree) -> str:
-    """The drawing for Graphviz: a box a house, and a line from each crate down to what it stands on."""
+    """The drawing for Graphviz: a box a group, and a line from each crate down to what it stands on."""
     shown, lines = drawn_crates(tree), ["digraph houses {", "rankdir=TB; nodesep=0.25; ranksep=0.35;"]
     lines.append('node [shape=box, style="rounded,filled", fillcolor=white, fontname="sans-serif", fontsize=12];')
     lines.append('edge [arrowsize=0.6]; fontname="sans-serif"; fontsize=14;')
-    for number, (house, members) in enumerate(crates.houses(tree).items()):
+    for number, (group, members) in enumerate(crates.groups(tree).items()):
         shade = SHADES[number % len(SHADES)]
         inside = " ".join(f"{crate};" for crate in members if crate in shown)
-        lines.append(f'subgraph cluster_{number} {{ label="{house}"; style=filled; color="{shade}"; {inside} }}')
+        lines.append(f'subgraph cluster_{number} {{ label="{group}"; style=filled; color="{shade}"; {inside} }}')
     for crate, lowers in nearest(tree).items():
         lines += [f"{crate} -> {lower};" for lower in sorted(lowers) if crate in shown]
     return "\n".join([*lines, "}"]) + "\n"

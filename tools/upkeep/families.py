@@ -10,9 +10,9 @@ _SAID = re.compile(r"# (?P<what>[^\[\]]+?)(?: \[(?P<apart>[^\[\]]+)\])?")
 
 
 def families(tree: Tree) -> dict[str, list[str]]:
-    """The families of each house, by its line of crates.txt."""
-    lines = (crates.HOUSE.fullmatch(line) for _, line in tree.lines(crates.LIST))
-    return {line["house"]: line["families"].split(", ") for line in lines if line}
+    """The families of each group, by its line of crates.txt."""
+    lines = (crates.GROUP.fullmatch(line) for _, line in tree.lines(crates.LIST))
+    return {line["group"]: line["families"].split(", ") for line in lines if line}
 
 
 def family(crate: str, known: list[str]) -> str | None:
@@ -33,14 +33,14 @@ def said(tree: Tree) -> dict[str, tuple[str, str]]:
 
 
 def _of_names(tree: Tree) -> list[str]:
-    """Crates whose name is that of no family of their house, and families without a crate of their name."""
-    by_house, houses = families(tree), crates.houses(tree)
-    known = [name for names in by_house.values() for name in names]
+    """Crates whose name is that of no family of their group, and families without a crate of their name."""
+    by_group, groups = families(tree), crates.groups(tree)
+    known = [name for names in by_group.values() for name in names]
     found = [f"{crates.LIST}: there is no crate {name}" for name in known if name not in crates.names(tree)]
-    for house, members in houses.items():
+    for group, members in groups.items():
         for crate in members:
-            if family(crate, known) not in by_house[house]:
-                found.append(f"{crates.LIST}: {crate} begins with none of {', '.join(by_house[house])}")
+            if family(crate, known) not in by_group[group]:
+                found.append(f"{crates.LIST}: {crate} begins with none of {', '.join(by_group[group])}")
     return found
 
 

@@ -74,16 +74,16 @@ def test_crates(made: MakesTree) -> None:
     assert crates.named(tree) == ["docs/MAP.md: one is not named", "docs/PROVED.md: one is not named"]
 
 
-def test_houses(made: MakesTree) -> None:
+def test_pages_have_the_groups_of_the_list_in_its_order(made: MakesTree) -> None:
     listed = "# NAME: a sentence.\n\n## octets: one\n\n# words\none: two\n\n## both ends: two\n\ntwo:\n"
     table = "| **Octets**: one | |\n| **Both ends**: none | |\n"
     other = "## Both ends\none two\n## Octets\ntwo\n"
     heads = "# Page\n## Octets\none\n## Both ends\ntwo\n"
     tree = made(crates_txt=listed, docs__ARCHITECTURE_md=heads, docs__MAP_md=table, docs__PROVED_md=other)
-    assert crates.houses(tree) == {"octets": ["one"], "both ends": ["two"]}
+    assert crates.groups(tree) == {"octets": ["one"], "both ends": ["two"]}
     assert crates.ordered(tree) == [
         "docs/MAP.md: two does not stand under both ends",
-        "docs/PROVED.md: the houses are both ends, octets; in crates.txt they are octets, both ends",
+        "docs/PROVED.md: the groups are both ends, octets; in crates.txt they are octets, both ends",
         "docs/PROVED.md: one does not stand under octets",
     ]
 

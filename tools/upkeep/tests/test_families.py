@@ -44,7 +44,7 @@ def test_what_agrees_is_kept(tmp_path: pathlib.Path) -> None:
     assert families.kept(tree) == []
 
 
-def test_a_name_begins_with_a_family_of_its_house(tmp_path: pathlib.Path) -> None:
+def test_a_name_begins_with_a_family_of_its_group(tmp_path: pathlib.Path) -> None:
     assert families.family("sign_text_tests", ["sign", "sign_text", "sign_te"]) == "sign_text"
     assert families.family("signtool", ["sign"]) is None
     listed = LISTED.replace("wire_ber", "ber").replace("sign_access", "wire_access")
