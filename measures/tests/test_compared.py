@@ -18,7 +18,7 @@ def test_no_more_than_half_a_per_cent() -> None:
     assert compared(RECORDED, measures) == (2, [])
 
 
-def test_more_instructions() -> None:
+def test_more_instructions_are_found() -> None:
     measures = [_row(SIGN, "Get of one", 2011.0), _row(SIGN, "tick", 60.0)]
     line = f"{SIGN}: Get of one: 2,011 instructions, 2,000 recorded, 0.6 per cent more"
     assert compared(RECORDED, measures) == (2, [line])

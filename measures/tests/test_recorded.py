@@ -29,7 +29,7 @@ def test_what_was_measured_again() -> None:
     assert renewed(ROWS, [again, Row("sign", "Get of two", (1.0, 1.0), (1.0, 1.0))]) == [ROWS[0], again, ROWS[2]]
 
 
-def test_a_table() -> None:
+def test_a_topic_has_a_table() -> None:
     assert table(ROWS, "sign") == (
         "## sign\n\n"
         "| measure | proved, ns | by hand, ns | ratio | proved, instructions | by hand, instructions | ratio |\n"

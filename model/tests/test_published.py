@@ -94,7 +94,7 @@ def answers(*lines: str) -> list[list[str]]:
         ("1.3 INTEGER 3 Number 0 9", NO_ACCESS),
     ],
 )
-def test_object(words: str, wanted: str) -> None:
+def test_a_line_of_an_object_is_answered_or_told_why_not(words: str, wanted: str) -> None:
     assert answers(f"object {words}".rstrip(" ")) == [[wanted]]
 
 

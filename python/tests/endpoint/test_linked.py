@@ -67,7 +67,7 @@ def asked(linked: Linked, **more: object) -> argparse.Namespace:
     return argparse.Namespace(journal=str(linked.path), need_journal=True, **more)
 
 
-def test_shortened(linked: Linked, tmp_path: pathlib.Path, told: list[str]) -> None:
+def test_a_link_stays_where_its_journal_is_shortened(linked: Linked, tmp_path: pathlib.Path, told: list[str]) -> None:
     (tmp_path / "kept").mkdir()
     keeper = Keeper(Journal.opened(str(linked.path), HEAD))
     keeper.start(NOW, None)
@@ -86,7 +86,7 @@ def test_shortened(linked: Linked, tmp_path: pathlib.Path, told: list[str]) -> N
     assert all(line.startswith(f"{linked.path}: shortened from") for line in told) and len(told) == 2
 
 
-def test_put_aside(linked: Linked, told: list[str]) -> None:
+def test_a_link_stays_where_its_journal_is_put_aside(linked: Linked, told: list[str]) -> None:
     text = made(str(linked.path))
     journal = journal_of(asked(linked, fresh=True), HEAD)
     journal.keep([b"tick"])

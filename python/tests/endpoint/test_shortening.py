@@ -66,7 +66,7 @@ def keeper_of(tmp_path: pathlib.Path) -> Iterator[Keeper]:
     keeper.journal.close()
 
 
-def test_sizes() -> None:
+def test_a_size_is_a_number_above_nought_with_k_or_M_or_none() -> None:
     assert [octets_of(word) for word in ("1", "500k", "1M", "3000000")] == [1, 500_000, 1_000_000, 3_000_000]
     for word in ("0", "0k", "-1", "1m", "1kB", "1.5M", "1 k", "", "k", "9999999999999", "٣"):
         assert refused(lambda: octets_of(word)).startswith(f"--keep {word} is no size: ")

@@ -24,7 +24,7 @@ def test_what_is_not_answered_or_changes_nothing_is_told_by_the_datagram() -> No
             assert all(sign.objects.value(name) == value for name, value in before.items()), one.hex()
 
 
-def test_each_sort() -> None:
+def test_each_datagram_is_of_its_sort() -> None:
     def written(kind: int, community: bytes, bindings: int = 1) -> bytes:
         value = (wire.INTEGER, 7)
         return bytes(wire.written(wire.Message(kind, community, 5, 0, 0, [(COUNTER, value)] * bindings)))

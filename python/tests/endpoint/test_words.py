@@ -56,7 +56,7 @@ def refused(line: str) -> str:
         return str(found)
 
 
-def test_addresses() -> None:
+def test_an_address_is_a_host_and_a_port_or_refused() -> None:
     for words, wanted in ADDRESSES:
         try:
             found = host_and_port(words)
@@ -66,7 +66,7 @@ def test_addresses() -> None:
         assert found is None or named(found) == words
 
 
-def test_readable_texts() -> None:
+def test_a_readable_text_is_published_or_refused_in_words() -> None:
     for line, wanted in PUBLISHED:
         assert published(line) == wanted
     for line, words in REFUSED:

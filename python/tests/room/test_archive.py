@@ -278,7 +278,7 @@ def called(*words: str) -> subprocess.CompletedProcess[str]:
     )
 
 
-def test_the_command(tmp_path: pathlib.Path, where: str) -> None:
+def test_the_command_writes_checks_reads_and_finishes_an_archive(tmp_path: pathlib.Path, where: str) -> None:
     room = Room(tmp_path / "room", where)
     room.held.close()
     done = called("write", "--database", where, "--older-than", "400d", "--to", str(room.file))

@@ -20,7 +20,7 @@ from .visits import Bench, Visitors, run
 SAMPLE = re.compile(r"^(\w+)(?:\{([^}]*)\})? (\S+)$", re.MULTILINE)
 
 
-def test_health(tmp_path: pathlib.Path, where: str, monkeypatch: pytest.MonkeyPatch) -> None:
+def test_health_is_ok_while_a_worker_looks(tmp_path: pathlib.Path, where: str, monkeypatch: pytest.MonkeyPatch) -> None:
     monkeypatch.setattr(health, "_KEPT", 0.0)
 
     async def act(bench: Bench, visitor: Visitors) -> None:
@@ -59,7 +59,7 @@ def samples(text: str) -> dict[str, float]:
     return {f"{name}{{{labels}}}" if labels else name: float(value) for name, labels, value in SAMPLE.findall(text)}
 
 
-def test_metrics(tmp_path: pathlib.Path, where: str) -> None:
+def test_metrics_want_the_word_of_a_system(tmp_path: pathlib.Path, where: str) -> None:
     needs.modules("prometheus_client")
 
     async def act(bench: Bench, visitor: Visitors) -> None:

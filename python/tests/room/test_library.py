@@ -56,7 +56,7 @@ def test_no_command_shows_a_forbidden_word(where: str) -> None:
     assert said == ["“darn it” may be shown again", "“darn it” may not be shown"], "once each"
 
 
-def test_purposes(where: str) -> None:
+def test_a_purpose_out_of_its_range_is_refused(where: str) -> None:
     store, _, _ = two_stores(where)
     held = store.database
     names = [one.name for one in rules.purposes(held)]

@@ -164,7 +164,7 @@ def test_what_is_over_or_seen_is_not_told(where: str) -> None:
         assert web.heard == []
 
 
-def test_quiet_times(where: str) -> None:
+def test_nothing_is_told_in_quiet_times(where: str) -> None:
     at = [datetime.time(hour) for hour in (0, 5, 6, 12, 21, 22, 23)]
     night, day = Quiet(datetime.time(22), datetime.time(6)), Quiet(datetime.time(6), datetime.time(22), ("failed",))
     assert [night.is_now(one) for one in at] == [True, True, False, False, False, True, True]

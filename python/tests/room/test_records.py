@@ -114,7 +114,7 @@ async def rows(one: Visitor, path: str) -> list[dict[str, str]]:
     return list(csv.DictReader(io.StringIO(await answer.text())))
 
 
-def test_csv(tmp_path: pathlib.Path, where: str) -> None:
+def test_a_row_of_csv_is_no_formula(tmp_path: pathlib.Path, where: str) -> None:
     async def act(bench: Bench, visitor: Visitors) -> None:
         filled(bench)
         one = await bench.logged_in(visitor, "operator")

@@ -316,7 +316,7 @@ def test_who_is_logged_in_twice_ends_the_other_one(tmp_path: pathlib.Path, where
     run(tmp_path, where, act)
 
 
-def test_passwords(monkeypatch: pytest.MonkeyPatch) -> None:
+def test_of_a_password_its_salted_sum_is_kept(monkeypatch: pytest.MonkeyPatch) -> None:
     monkeypatch.setattr(passwords, "COST", 2**4)
     kept = passwords.secret_of("correct horse")
     assert kept.startswith("scrypt 16 8 3 ") and "correct" not in kept

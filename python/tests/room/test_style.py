@@ -50,7 +50,7 @@ def ratio(one: str, other: str) -> float:
     return (high + 0.05) / (low + 0.05)
 
 
-def test_the_formula() -> None:
+def test_a_ratio_is_that_of_the_formula() -> None:
     assert round(ratio("#000000", "#ffffff"), 2) == 21.0 and round(ratio("#777777", "#ffffff"), 2) == 4.48
 
 

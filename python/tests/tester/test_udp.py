@@ -282,7 +282,7 @@ def test_a_lossy_way_tells_what_of_a_silence_is_the_sign_s() -> None:
         assert through(0.0, [b"no message"], seconds=0.3)[1].slowest == 0
 
 
-def test_nobody_answers() -> None:
+def test_where_nobody_answers_it_says_so_and_ends() -> None:
     with tempfile.TemporaryDirectory() as folder:
         described = pathlib.Path(folder) / "bench.sign"
         described.write_bytes(text.BENCH)

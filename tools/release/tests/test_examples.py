@@ -8,7 +8,7 @@ FOLDER = pathlib.Path(__file__).resolve().parents[1]
 EXAMPLES = FOLDER.parents[1] / "examples"
 
 
-def test_examples(tmp_path: pathlib.Path) -> None:
+def test_each_example_is_shipped(tmp_path: pathlib.Path) -> None:
     subprocess.run([FOLDER / "examples.py", EXAMPLES, tmp_path], check=True)
     names = {path.name for path in tmp_path.iterdir()}
     assert {

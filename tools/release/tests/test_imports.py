@@ -29,7 +29,7 @@ def imported(path: pathlib.Path) -> Iterator[str]:
             yield str(node.module).split(".")[0]
 
 
-def test_imports() -> None:
+def test_what_is_imported_is_shipped_or_recommended() -> None:
     shipped = {pathlib.PurePath(package).name for package in PACKAGES}
     recommended = set(re.findall(r"(\w+):python3-\w+", SCRIPT))
     known = set(sys.stdlib_module_names) | shipped | recommended

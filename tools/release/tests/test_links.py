@@ -50,7 +50,7 @@ def test_paths_and_manuals(tmp_path: pathlib.Path) -> None:
     assert len(looked_at(tmp_path)) == 2
 
 
-def test_symbolic_links(tmp_path: pathlib.Path) -> None:
+def test_a_symbolic_link_that_leads_nowhere_is_found(tmp_path: pathlib.Path) -> None:
     written(tmp_path, {"usr/there": ""})
     (tmp_path / "usr/one").symlink_to("/usr/there")
     (tmp_path / "usr/two").symlink_to("there")

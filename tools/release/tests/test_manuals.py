@@ -39,7 +39,7 @@ def in_manual(name: str) -> set[str]:
 
 
 @pytest.mark.parametrize("name", COMMANDS)
-def test_options(name: str) -> None:
+def test_a_manual_has_the_options_of_its_help(name: str) -> None:
     wanted = set().union(*(options(said(words)) for words in COMMANDS[name]))
     parts = {"port", "seconds", "characters", "by-texts", "into", "jobs"}  # those of the parts of wisangub-conform
     more = parts if name == "wisangub-conform" else set()
@@ -47,7 +47,7 @@ def test_options(name: str) -> None:
 
 
 @pytest.mark.skipif(not PROGRAM.exists(), reason="the program is not built")
-def test_options_of_the_program() -> None:
+def test_the_manual_of_the_program_has_the_options_of_its_help() -> None:
     wanted = set().union(*(options(said([str(PROGRAM), part])) for part in PARTS))
     assert wanted == in_manual("wisangub-signtool") - {"version"}  # of the program itself
 

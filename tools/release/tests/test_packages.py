@@ -19,7 +19,7 @@ def test_there_are_three() -> None:
 
 
 @pytest.mark.parametrize("name", PACKAGES)
-def test_control(name: str) -> None:
+def test_a_package_says_its_name_and_version(name: str) -> None:
     text = (RELEASE / "debian" / name / "control").read_text(encoding="utf-8")
     fields = dict(re.findall(r"(?m)^([A-Z][\w-]*): (.*)$", text))
     assert fields["Package"] == name and fields["Version"] == "@DEBIAN_VERSION@"
@@ -34,7 +34,7 @@ def test_no_script_begins_a_service(path: pathlib.Path) -> None:
 
 
 @pytest.mark.parametrize("path", UNITS, ids=[path.name for path in UNITS])
-def test_units(path: pathlib.Path) -> None:
+def test_each_unit_starts_its_front_end_as_hardened_as_the_others(path: pathlib.Path) -> None:
     text = path.read_text(encoding="utf-8")
     commands = re.findall(r"(?m)^ExecStart=/usr/bin/(\S+)", text)
     assert len(commands) == 1 and (TOP / "bin" / commands[0]).exists()

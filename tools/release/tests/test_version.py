@@ -48,7 +48,7 @@ def test_each_part_of_a_command_says_it(command: str, folder: str) -> None:
         assert ended.stdout == f"{command} {part} {version()}\n"
 
 
-def test_one_place(tmp_path: pathlib.Path) -> None:
+def test_the_version_stands_in_one_place(tmp_path: pathlib.Path) -> None:
     folder = tmp_path / "crates/one/src"
     folder.mkdir(parents=True)
     with pytest.raises(ValueError, match="0 places"):

@@ -31,7 +31,7 @@ def top(tmp_path: pathlib.Path) -> pathlib.Path:
     return tmp_path
 
 
-def test_nothing_changed(top: pathlib.Path) -> None:
+def test_where_nothing_changed_no_crate_is_named(top: pathlib.Path) -> None:
     assert changed(top) == []
 
 

@@ -17,7 +17,7 @@ def told(monkeypatch: pytest.MonkeyPatch, *steps: Step) -> int:
     return after_gate.main()
 
 
-def test_what_passes(monkeypatch: pytest.MonkeyPatch, capsys: pytest.CaptureFixture[str]) -> None:
+def test_what_passes_is_counted(monkeypatch: pytest.MonkeyPatch, capsys: pytest.CaptureFixture[str]) -> None:
     assert told(monkeypatch, Step("model", "true", 30)) == 0
     assert capsys.readouterr().out.splitlines()[-2:] == ["0 skipped: none", "4 passed, 0 failed"]
 

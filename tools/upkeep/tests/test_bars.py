@@ -27,19 +27,19 @@ def made(tmp_path: pathlib.Path) -> MakesTree:
     return tree
 
 
-def test_widths(made: MakesTree) -> None:
+def test_a_wide_line_of_prose_is_found(made: MakesTree) -> None:
     wide = "a " * 61
     tree = made(README_md=f"{wide}\n```\n{wide}\n```\n", other_md=f"```\n{wide}\n```\n{'b' * 130}\n{'c ' * 60}\n")
     assert documents.wide_lines(tree) == [f"README.md:{line}: 122 columns, 120 at most" for line in (1, 3)]
 
 
-def test_rows(made: MakesTree) -> None:
+def test_a_row_of_a_table_may_be_wider(made: MakesTree) -> None:
     tree = made(page_md=f"| {'a' * 194} |\n| {'a' * 197} |\n```\n| {'a' * 300} |\n```\n")
     assert documents.wide_rows(tree) == ["page.md:2: a row of 201 columns, 200 at most"]
     assert documents.wide_lines(tree) == []
 
 
-def test_lengths(made: MakesTree) -> None:
+def test_a_page_that_is_too_long_is_found(made: MakesTree) -> None:
     tree = made(README_md="a\n" * 201, docs__MAP_md="a\n" * 200)
     assert documents.long_pages(tree) == ["README.md: 201 lines, 200 at most"]
 
@@ -54,7 +54,7 @@ def test_pages_have_2200_lines_together(made: MakesTree) -> None:
     ]
 
 
-def test_links(made: MakesTree) -> None:
+def test_a_link_that_leads_nowhere_is_found(made: MakesTree) -> None:
     tree = made(
         docs__one_md="# First part, `x`\n[a](two.md) [b](three.md) [c](#first-part-x) [d](#second) <x>\n",
         docs__two_md="[e](one.md#first-part-x) [f](one.md#no) ![g](picture.png) [h](https://nobody)\n",
@@ -67,7 +67,7 @@ def test_links(made: MakesTree) -> None:
     ]
 
 
-def test_crates(made: MakesTree) -> None:
+def test_a_crate_that_a_page_does_not_name_is_found(made: MakesTree) -> None:
     pages = {"docs__ARCHITECTURE_md": "one two", "docs__MAP_md": "two", "docs__PROVED_md": "one_more two"}
     tree = made(crates_txt="# a comment\none: two\ntwo staticlib:\n", **pages)
     assert crates.names(tree) == ["one", "two"]
@@ -88,7 +88,7 @@ def test_pages_have_the_groups_of_the_list_in_its_order(made: MakesTree) -> None
     ]
 
 
-def test_what_crates_owe(made: MakesTree) -> None:
+def test_a_crate_owes_a_reason_to_be_small_an_example_and_words_of_its_calls(made: MakesTree) -> None:
     pages = {
         "crates__one__src__lib_rt": "//! A crate.\n//!\n//! ```\n//! call();\n//! ```\n",
         "docs__DECISIONS_md": "one is small",
@@ -105,7 +105,7 @@ def test_what_crates_owe(made: MakesTree) -> None:
     assert crates.unsaid(tree) == ["crates/two/src/lib.rt: nothing uses, names or documents unsaid"]
 
 
-def test_paths(made: MakesTree) -> None:
+def test_a_second_path_to_a_name_is_found(made: MakesTree) -> None:
     modules = "pub mod meant;\npub mod kept;\npub mod open;\nmod shut;\n"
     page = f"{modules}\npub use kept::A;\npub use open::{{B, C}};\npub use shut::D;\n"
     tree = made(
@@ -117,7 +117,7 @@ def test_paths(made: MakesTree) -> None:
     ]
 
 
-def test_sizes(made: MakesTree) -> None:
+def test_a_crate_that_is_too_large_is_found(made: MakesTree) -> None:
     texts = {
         "crates__one__src__lib_rt": "fn called() {}\n" * 130 + "// a line\n" * 1000,
         "crates__one__src__more_rt": "// a line\n" * 870,
@@ -133,14 +133,14 @@ def test_sizes(made: MakesTree) -> None:
 LISTED = "## low: first\nfirst:\nsecond: first\n## high: third\nthird: first second other\nthird_tests: third\n"
 
 
-def test_nearest(made: MakesTree) -> None:
+def test_a_crate_that_others_bring_is_not_drawn_below(made: MakesTree) -> None:
     tree = made(crates_txt=LISTED)
     assert drawing.nearest(tree)["third"] == {"second"}
     assert "third -> second;" in drawing.as_dot(tree)
     assert "third_tests" not in drawing.as_dot(tree)
 
 
-def test_drawing(made: MakesTree) -> None:
+def test_a_drawing_of_other_crates_is_found(made: MakesTree) -> None:
     titles = (
         "<title>first</title><title>second</title><title>second&#45;&gt;first</title><title>third-&gt;first</title>"
     )
@@ -152,7 +152,7 @@ def test_drawing(made: MakesTree) -> None:
     ]
 
 
-def test_passed(made: MakesTree) -> None:
+def test_a_file_that_octets_pass_no_more_is_found(made: MakesTree) -> None:
     passed = "- room/send.py -> first way.rt and\n  far/end.rt -> second gone.rt\n"
     page = f"### File by file\n\n{passed}\n## More\n\nother.rt\n"
     texts = {"crates__first__src__way_rt": "", "crates__first__src__far__end_rt": "", "crates__second__src__lib_rt": ""}
@@ -166,13 +166,13 @@ def test_passed(made: MakesTree) -> None:
     ]
 
 
-def test_options(made: MakesTree) -> None:
+def test_an_option_without_help_is_found(made: MakesTree) -> None:
     lines = ('parser.add_argument("--told", help="what it does")', 'parser.add_argument(\n    "--port", type=int)')
     tree = made(tools__one_py="\n".join(lines) + "\n", tools__other_py="pass\n")
     assert tools.has_words(tree) == ["tools/one.py:2: --port has no help"]
 
 
-def test_tools(made: MakesTree, tmp_path: pathlib.Path) -> None:
+def test_a_tool_is_listed_can_be_called_and_has_a_help(made: MakesTree, tmp_path: pathlib.Path) -> None:
     script = "#!/usr/bin/env python3\n"
     texts = {"tools__first_py": f"{script}argparse.ArgumentParser()\n", "tools__second_py": script}
     tree = made(
@@ -188,7 +188,7 @@ def test_tools(made: MakesTree, tmp_path: pathlib.Path) -> None:
     assert tools.executable(tree) == ["tools/second.py: not executable"]
 
 
-def test_words(made: MakesTree) -> None:
+def test_what_is_put_off_or_gone_is_found(made: MakesTree) -> None:
     later = "TO" "DO"
     tree = made(
         tools__a_py=f"# {later}: more\n# {later}S is another word\n",
@@ -198,7 +198,7 @@ def test_words(made: MakesTree) -> None:
     assert words.gone(tree) == ["page.md:1: there is no tools/b.py"]
 
 
-def test_what_is_left_for_later(made: MakesTree) -> None:
+def test_what_is_left_for_later_is_found_with_all(made: MakesTree) -> None:
     bar = Bar("two", lambda tree: ["docs/MAP.md: one", "README.md: two"], ("docs/MAP.md",))
     assert bar.findings(made()) == ["README.md: two"]
     assert bar.findings(made(), is_all=True) == ["docs/MAP.md: one", "README.md: two"]

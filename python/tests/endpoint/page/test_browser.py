@@ -58,7 +58,7 @@ def test_the_lamps_follow_without_a_reload(one: Bench, browser: Browser) -> None
     browser.says("127.0.0.1", "#facts")
 
 
-def test_buttons(one: Bench, browser: Browser) -> None:
+def test_buttons_do_what_they_say(one: Bench, browser: Browser) -> None:
     one.publish(b"FOG")
     browser.shows("#lamps", "roadside", "FOG")
     browser.click("[data-press=power-lost]")
