@@ -4,14 +4,15 @@ from model.objects import DMS, Objects
 from model.state import State
 from model.text import bench
 from wisangub.snmp import names
-from wisangub.snmp.mib import Mib
+from wisangub.snmp.mib import FILE, Mib
 
 
 def test_names_are_those_of_the_mib() -> None:
-    mib = Mib.read()
+    mib, of_sign = Mib.read(), Mib(FILE.read_text(encoding="utf-8")).objects
     for word, name in names.OBJECTS.items():
         assert mib.objects[name] == word
-    assert set(mib.words) >= set(names.OBJECTS)
+    above = {name[:size] for name in of_sign for size in range(len(name))}
+    assert {word for name, word in of_sign.items() if name not in above} == set(names.OBJECTS)
     assert mib.name(names.scalar("dmsActivateMessage")) == "dmsActivateMessage.0"
     assert mib.name(names.cell("dmsMessageStatus", names.Memory.CHANGEABLE, 7)) == "dmsMessageStatus.3.7"
 
