@@ -2,6 +2,7 @@
 
 import ast
 import random
+import re
 
 from model import text
 from trials.wrong_signs import bench
@@ -9,13 +10,14 @@ from trials.wrong_signs.load import edited
 from trials.wrong_signs.table import MUTANTS
 from wisangub.process.places import TOP
 from wisangub.snmp import wire
+from wisangub.snmp.mib import FILE
 from wisangub.snmp.names import scalar
 from wisangub.tester.chapters import ALL, ASKED
 from wisangub.tester.context import Context
 from wisangub.tester.findings.classify import rule_of
 from wisangub.tester.findings.compare import Kind, fields, mismatch
 from wisangub.tester.findings.rules import CHAPTERS, RULES, is_in_profile
-from wisangub.tester.requests.objects import integer
+from wisangub.tester.requests.objects import RANGES, integer
 from wisangub.tester.requests.steps import Wait, datagrams, get, put
 from wisangub.tester.runs.repeat import steps_of
 from wisangub.tester.sign.clock import SimulatedClock
@@ -54,6 +56,14 @@ def test_every_rule_stands_in_the_profile() -> None:
     assert not [key for key, said in sentences.items() if said.split()[0].isalpha() and said.split()[0].islower()]
     assert {rule.chapter for rule in RULES.values()} <= {"before", *CHAPTERS}
     assert [chapter.name for chapter in ALL] == list(CHAPTERS) == list(ASKED)
+
+
+def test_numbers_that_are_set_are_those_of_the_mib() -> None:
+    blocks = [block.partition("ACCESS  ") for block in FILE.read_text(encoding="utf-8").split("\n\n")]
+    syntaxes = [syntax for syntax, _, rest in blocks if "SYNTAX  INTEGER" in syntax and rest.startswith("read-write")]
+    found = {syntax.split()[0]: [int(number) for number in re.findall(r"\d+", syntax)] for syntax in syntaxes}
+    others = {"defaultFont", "dmsMessageStatus"}  # of fonts that the sign has, and what a row is asked
+    assert {word: (numbers[0], numbers[-1]) for word, numbers in found.items() if word not in others} == RANGES
 
 
 def test_replies_differ_by_kind() -> None:
