@@ -93,6 +93,13 @@ def _restarts(count: int) -> Iterator[str]:
     return _entries(count, True)
 
 
+def _restored(count: int) -> Iterator[str]:
+    """The state of a centre with so many entries."""
+    yield from ("state 1 centre", f"next {count + 1}", "last none", "idle")
+    yield from (f"ledger {number} 003cff0700050000{number:08x} accepted" for number in range(1, count + 1))
+    yield "end"
+
+
 def _cell(column: int, row: int) -> wire.Name:
     return (1, 3, 6, 1, 4, 1, 1206, 4, 2, 3, 5, 8, 1, column, 3, row)
 
@@ -118,6 +125,13 @@ def _rows(count: int) -> Iterator[str]:
     for row in range(1, count + 1):
         yield _datagram(wire.SET, [(_cell(_STATUS, row), (wire.INTEGER, _MODIFY))])
         yield from [_asked(wire.GET_NEXT, [_cell(_STATUS, row)])] * 20
+
+
+def _objects(count: int) -> Iterator[str]:
+    """So many objects beside a sign's, published in the order of their names; each of them is read."""
+    names = [(1, 3, 6, 1, 4, 1, 99, number, 0) for number in range(1, count + 1)]
+    yield from (f"object {'.'.join(map(str, name))} INTEGER 7" for name in names)
+    yield from (_asked(wire.GET, [name]) for name in names)
 
 
 def _names(kind: int, count: int) -> Iterator[str]:
@@ -148,7 +162,9 @@ KINDS = (
     Kind("publications of a script", 500, ("replay",), _publications),
     Kind("entries of a ledger", 2_000, ("replay",), _ledger),
     Kind("restarts, with a ledger", 2_000, ("replay",), _restarts),
+    Kind("entries of a ledger, restored", 4_000, ("centre", "--restore"), _restored),
     Kind("rows of a sign", _ROWS // 2, ("sign", "--sign"), _rows),
+    Kind("objects beside a sign's", 1_000, ("sign",), _objects),
     Kind("names of a Get", 25, ("sign", "--sign"), _gets),
     Kind("names of a GetNext", 25, ("sign", "--sign"), _next_ones),
     Kind("names of a SET", 25, ("sign", "--sign"), _sets),
