@@ -5,7 +5,8 @@ python/wisangub/objects/known.py, those beside a sign's, the objects of mibs/DMS
 With --code it writes what the crates have of the first too: the types of objects and of columns, the rows, and the
 matches of their numbers. That table is crates/dms_mib/specs/Objects.antt, whose limits have their numbers in
 crates/dms_codes/specs/Limits.antt. What is made stands between two marks; all else in a file is kept.
-With --check nothing is written, and the status is 1 where one of these files is not up to date."""
+With --check nothing is written, and the status is 1 where one of these files is not up to date, or where two names that
+can be set share a slot of those in which a SET marks names."""
 
 import argparse
 import pathlib
@@ -15,6 +16,7 @@ from collections.abc import Callable
 from mib_table import device
 from mib_table.code import CODE
 from mib_table.pages import mib_objects
+from mib_table.slots import shared
 from mib_table.table import TABLE, BadTable, Object, read
 
 TOP = pathlib.Path(__file__).resolve().parent.parent
@@ -49,12 +51,14 @@ def main() -> int:
     for name, begin, end, make in parts:
         new[name] = _filled(new[name], begin, end, make(objects), name)
     old = [name for name in texts if texts[name] != new[name]]
+    found = shared(TOP, objects)
+    print("".join(f"{line}\n" for line in found), end="")
     for name in old:
         if asked.check:
             print(f"{name} is not what tools/objects.py makes of {TABLE}; run it (--code for crates)")
         else:
             (TOP / name).write_text(new[name], encoding="utf-8")
-    return 1 if asked.check and old else 0
+    return 1 if asked.check and (old or found) else 0
 
 
 if __name__ == "__main__":

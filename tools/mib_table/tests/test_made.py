@@ -6,6 +6,7 @@ import shutil
 import pytest
 from mib_table.code import CODE, COLUMN, OBJECTS, OCTETS, SCALAR
 from mib_table.pages import mib_objects
+from mib_table.slots import SLOTS, shared
 from mib_table.table import TABLE, BadTable, Object, read
 
 TOP = pathlib.Path(__file__).resolve().parents[3]
@@ -53,3 +54,14 @@ def test_an_object_of_the_table_is_in_each_file_that_is_made(tmp_path: pathlib.P
 def test_a_table_that_lacks_something_is_refused(tmp_path: pathlib.Path, changes: list[tuple[str, str]]) -> None:
     with pytest.raises(BadTable):
         objects_of(tmp_path, *changes)
+
+
+def test_a_name_that_can_be_set_and_has_the_slot_of_another_is_found(tmp_path: pathlib.Path) -> None:
+    listed = (PLACE, f"{PLACE} ∷ One Trial")
+    assert shared(TOP, objects_of(tmp_path / "one", (ROW, ROW + TRIAL), listed)) == []
+    other = TRIAL.replace("VmsCfg 7", "SignControl 21")
+    assert shared(TOP, objects_of(tmp_path / "other", (ROW, ROW + other), listed)) == [
+        f"{SLOTS}: vmsTrial 0 and dmsMessageStatus 3.46 share a slot: other factors are wanted"
+    ]
+    only_read = other.replace("Write", "Read")
+    assert shared(TOP, objects_of(tmp_path / "read", (ROW, ROW + only_read), listed)) == []
