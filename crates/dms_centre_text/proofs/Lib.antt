@@ -1,4 +1,5 @@
 pub mod CommandLaws
+pub mod CommandCauses
 mod LedgerLines
 pub mod CodeDigits
 pub mod WantedWords

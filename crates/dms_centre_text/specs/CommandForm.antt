@@ -1,8 +1,6 @@
 -- What the words of a command's line are to be, and why a line is no command (this profile).
-use Rattle.std.specs.Prelude.{ℕ, ◌+◌, List, [], ◌∷◌, ◌++◌, codes, Option, Some, None, option_map}
-use Rattle.dms_text.specs.Words.{words_of}
-use Rattle.dms_text.specs.Reading.{word_at}
-use Rattle.dms_text_forms.specs.Form.{fault_from}
+use Rattle.std.specs.Prelude.{ℕ, List, [], ◌∷◌, ◌++◌, codes, Option}
+use Rattle.dms_text_causes.specs.LineCauses.{line_cause, form_cause}
 use Rattle.dms_text_forms.specs.Texts.{fault_text}
 use Rattle.dms_text_forms.specs.declared.vocabulary.WordName.TheVariants as names
 use Rattle.dms_text_forms.specs.declared.wanted.Wanted.{Wanted}
@@ -33,18 +31,9 @@ form_after key.Activate = wanted.Code ∷ []
 
 -- ---- lines
 
--- the keyword is the first word of its line
-abbrev pub cause_after : List (List ℕ) → Option CommandWord → Option CommandCause
-cause_after words None = Some causes.Keyword
-cause_after words (Some keyword) = option_map causes.Word (fault_from 2 (form_after keyword) words)
-
-abbrev pub cause_at : Option (List ℕ × List (List ℕ)) → Option CommandCause
-cause_at None = Some causes.Keyword
-cause_at (Some found) = cause_after found.1 (command_word found.0)
-
 -- the line begins with no word of a command, or the first word that is not what is wanted there
 abbrev pub command_cause : List ℕ → Option CommandCause
-command_cause line = cause_at (word_at (words_of line))
+command_cause line = line_cause causes.Keyword command_word (form_cause causes.Word form_after) line
 
 -- ---- texts
 

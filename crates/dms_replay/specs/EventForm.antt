@@ -1,7 +1,7 @@
 -- What the words of an event's line are to be, and why a line is no event (this profile).
-use Rattle.std.specs.Prelude.{ℕ, List, [], ◌∷◌, codes, Option, Some, None, option_map}
+use Rattle.std.specs.Prelude.{ℕ, List, [], ◌∷◌, codes, Option, option_map}
 use Rattle.dms_text.specs.Words.{words_of}
-use Rattle.dms_text.specs.Reading.{word_at}
+use Rattle.dms_text_causes.specs.LineCauses.{line_cause, form_cause}
 use Rattle.dms_text_forms.specs.Form.{fault_from}
 use Rattle.dms_text_forms.specs.Texts.{fault_text}
 use Rattle.dms_text_forms.specs.declared.vocabulary.WordName.TheVariants as names
@@ -31,18 +31,9 @@ form_after key.ForgeCentre = wanted.Octets names.Datagram ∷ []
 abbrev pub place_cause : List ℕ → Option EventCause
 place_cause rest = option_map causes.Word (fault_from 2 (wanted.FourOctets ∷ []) (words_of rest))
 
--- the keyword is the first word of its line
-abbrev pub cause_after : List (List ℕ) → Option EventKeyword → Option EventCause
-cause_after words None = Some causes.Keyword
-cause_after words (Some keyword) = option_map causes.Word (fault_from 2 (form_after keyword) words)
-
-abbrev pub cause_at : Option (List ℕ × List (List ℕ)) → Option EventCause
-cause_at None = Some causes.Keyword
-cause_at (Some found) = cause_after found.1 (keyword_of found.0)
-
 -- the line begins with no word of an event, or the first word that is not what is wanted there
 abbrev pub event_cause : List ℕ → Option EventCause
-event_cause line = cause_at (word_at (words_of line))
+event_cause line = line_cause causes.Keyword keyword_of (form_cause causes.Word form_after) line
 
 abbrev pub event_cause_text : EventCause → List ℕ
 event_cause_text causes.Keyword = codes "no event begins with this word"

@@ -1,11 +1,11 @@
 //! The lines of a script's events.
 
-ghost use Rattle.std.specs.Prelude.{◌≡◌, ◌<◌, ◌++◌, [], true, codes, IfOk, IfSome, IfNone, OnErr, IsOk, IsTrue};
+ghost use Rattle.std.specs.Prelude.{◌≡◌, ◌<◌, ◌++◌, true, codes, IfOk, IfSome, IfNone, OnErr, IsOk, IsTrue};
 ghost use Rattle.std.specs.Prelude.{option_map};
 ghost use Rattle.std.specs.Result.{result_ok, result_err};
 ghost use Rattle.dms_text_forms.specs.Form.{fault_from};
 ghost use Rattle.dms_text.specs.Words.{words_of};
-ghost use Rattle.dms_text_forms.specs.FieldsReading.{if_last, last_number_at};
+ghost use Rattle.dms_text_forms.specs.FieldsReading.{last_number_at};
 ghost use Rattle.dms_world.specs.Event.{EventModel, to_sign, to_centre};
 ghost use Rattle.dms_replay.specs.EventForm.{form_after, place_cause, event_cause};
 ghost use Rattle.dms_replay.specs.EventLine.{SpellsEvent};
@@ -19,6 +19,7 @@ use crate::script_event::ScriptEvent;
 use dms_centre_text::{CommandWord, command_after};
 use dms_codes::Order;
 use dms_text::Words;
+use dms_text_causes::alone;
 use dms_text_forms::{LineWords, WordFault, WordName};
 use std::alloc::{AllocError, Global};
 
@@ -246,13 +247,4 @@ fn command(
     ensures spelled { OnErr result (has_octets (event_after order (Command asked) words.entry.words) ≡ true) }
 {
     Ok(command_after(alloc, order, asked, words)?.map(ScriptEvent::Command))
-}
-
-/// The event, where no words are left.
-fn alone(words: LineWords<'_>, event: ScriptEvent) -> Result<ScriptEvent, WordFault>
-    ensures event { result_ok result ≡ if_last event words.entry.words }
-    ensures fault { result_err result ≡ fault_from words.entry.place [] words.entry.words }
-{
-    words.end()?;
-    Ok(event)
 }

@@ -5,8 +5,7 @@ use Rattle.dms_codes.proofs.Options.{is_some_mapped}
 use Rattle.dms_text_forms.specs.Form.{fault_from}
 use Rattle.dms_text_forms.specs.FieldsReading.{last_number_at, last_octets_at}
 use Rattle.dms_text_forms.specs.declared.vocabulary.WordName.TheVariants as names
-use Rattle.dms_text_causes.specs.LineCauses.{form_cause}
-use Rattle.dms_text_causes.proofs.CauseLaws.{end_wanted, octets_wanted, number_wanted, by_fault, line_wanted, some_cause, no_cause}
+use Rattle.dms_text_causes.proofs.CauseLaws.{end_wanted, octets_wanted, number_wanted, form_line_wanted, some_cause, no_cause}
 use Rattle.dms_sign_lines.specs.SignCall.{SignCall, datagram, tick, ticks, heard, power_lost, power_back, show, state, save}
 use Rattle.dms_sign_lines.specs.SignLine.{SpellsSignCall, SpellsNoSignCall}
 use Rattle.dms_sign_lines.specs.SignReading.{keyword_of, call_after, call_of}
@@ -27,12 +26,9 @@ form_wanted key.Show words = end_wanted show 2 words
 form_wanted key.State words = end_wanted state 2 words
 form_wanted key.Save words = end_wanted save 2 words
 
-after_wanted : (keyword : SignKeyword) (words : List (List ℕ)) → is_some (call_after keyword words) ≡ not (is_some (form_cause causes.Word form_after keyword words))
-after_wanted keyword words = form_wanted keyword words ∙ by_fault causes.Word (fault_from 2 (form_after keyword) words)
-
 call_wanted : (line : List ℕ) → is_some (call_of line) ≡ not (is_some (call_cause line))
 unfolding call_of
-call_wanted line = line_wanted causes.Keyword keyword_of call_after (form_cause causes.Word form_after) after_wanted line
+call_wanted line = form_line_wanted causes.Keyword causes.Word keyword_of call_after form_after form_wanted line
 
 -- a line that spells no call has a cause
 pub cause_of_no_call : (line : List ℕ) → SpellsNoSignCall line → IsSome (call_cause line)

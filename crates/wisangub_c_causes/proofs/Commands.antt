@@ -7,7 +7,8 @@ use Rattle.dms_text_forms.specs.Vocabulary.{keyword_text}
 use Rattle.dms_text_forms.specs.Form.{is_wanted, fault_from, word_fault}
 use Rattle.dms_text_forms.specs.declared.wanted.Wanted.{Wanted}
 use Rattle.dms_text_forms.specs.declared.wanted.Wanted.TheVariants as wanted
-use Rattle.dms_centre_text.specs.CommandForm.{form_after, cause_after, cause_at, command_cause}
+use Rattle.dms_text_causes.specs.LineCauses.{cause_after, cause_at, form_cause}
+use Rattle.dms_centre_text.specs.CommandForm.{form_after, command_cause}
 use Rattle.dms_centre_text.specs.CommandReading.{command_word}
 use Rattle.dms_centre_text.specs.declared.command_word.CommandWord.{CommandWord}
 use Rattle.dms_centre_text.specs.declared.cause.CommandCause.TheVariants as causes
@@ -31,4 +32,4 @@ pub whole_line : (line : List ℕ) (found : List ℕ × List (List ℕ)) (keywor
     → option_map causes.Word (word_fault (whole_form keyword) (words_of line)) ≡ command_cause line
 whole_line line found keyword first is =
     ap (option_map causes.Word) (after_a_word 1 (wanted.Keyword (keyword_of keyword)) (form_after keyword) (words_of line) found first (is_its_word found.0 keyword is))
-    ∙ sym (ap cause_at first ∙ ap (cause_after found.1) is)
+    ∙ sym (ap (cause_at causes.Keyword command_word (form_cause causes.Word form_after)) first ∙ ap (cause_after causes.Keyword (form_cause causes.Word form_after) found.1) is)
