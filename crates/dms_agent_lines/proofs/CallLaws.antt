@@ -8,6 +8,7 @@ use Rattle.dms_text.proofs.WordLaws.{begun, goes_on, word_found, word_only, deci
 use Rattle.dms_codes.proofs.Options.{mapped_some}
 use Rattle.dms_text_forms.specs.Fields.{SpellsOne}
 use Rattle.dms_text_causes.specs.LineCauses.{cause_after, cause_at}
+use Rattle.dms_text_causes.proofs.KeywordLines.{line_found, line_read}
 use Rattle.dms_text_forms.proofs.WordReading.{last_found, by_keyword, by_text}
 use Rattle.dms_text_forms.proofs.FieldLaws.{last_octets_found, last_octets_only}
 use Rattle.dms_text_streams.proofs.CallReading.{bare_found, nothing_found}
@@ -194,29 +195,23 @@ after_found key.Objects words call e = bare_found SpellsCallWords (codes "object
 -- what is read of a line is what it spells
 pub call_found : (line : List ℕ) (call : AgentCall) → call_of line ≡ Some call → SpellsAgentCall call line
 unfolding call_of
-call_found line call e =
-    let read = begun _ _ _ e in
-    let keyword = begun _ _ _ read.2 in
-    let words : words_of line ≡ keyword_text keyword.0 ∷ read.0.1 =
-    (word_found (words_of line) read.0 read.1).0 ∙ ap (λ word. word ∷ read.0.1) (keyword_found read.0.0 keyword.0 keyword.1) in
-    subst (SpellsCallWords call) (sym words) (after_found keyword.0 read.0.1 call keyword.2)
+call_found line call e = line_found keyword_of keyword_text call_after SpellsCallWords keyword_found after_found line call e
 
-line_read : (keyword : AgentKeyword) (line : List ℕ) (words : List (List ℕ)) → words_of line ≡ keyword_text keyword ∷ words
+call_read : (keyword : AgentKeyword) (line : List ℕ) (words : List (List ℕ)) → words_of line ≡ keyword_text keyword ∷ words
     → call_of line ≡ call_after keyword words
 unfolding call_of
-line_read keyword line words e =
-    goes_on _ _ _ (ap word_at e ∙ word_only (keyword_text keyword) words (keyword_some keyword)) ∙ goes_on _ _ _ (keyword_only keyword)
+call_read keyword line words e = line_read keyword_of keyword_text call_after keyword_some keyword_only keyword line words e
 
 -- what a line spells is read of it
 pub call_only : (line : List ℕ) (call : AgentCall) → SpellsAgentCall call line → call_of line ≡ Some call
 call_only line (receive octets) spelled =
-    line_read key.Datagram line _ spelled.words_are ∙ ap (option_map receive) (last_octets_only octets spelled.word spelled.spelled)
+    call_read key.Datagram line _ spelled.words_are ∙ ap (option_map receive) (last_octets_only octets spelled.word spelled.spelled)
 call_only line (publish object) spelled =
-    line_read key.Object line _ spelled.words_are ∙ ap (option_map publish) (object_only object (words_of line) spelled)
+    call_read key.Object line _ spelled.words_are ∙ ap (option_map publish) (object_only object (words_of line) spelled)
 call_only line (withdraw name) spelled =
-    line_read key.NoObject line _ spelled.words_are ∙ ap (option_map withdraw) (withdraw_only name spelled.word spelled.spelled)
-call_only line show_fonts spelled = line_read key.Fonts line [] spelled
-call_only line tell spelled = line_read key.Objects line [] spelled
+    call_read key.NoObject line _ spelled.words_are ∙ ap (option_map withdraw) (withdraw_only name spelled.word spelled.spelled)
+call_only line show_fonts spelled = call_read key.Fonts line [] spelled
+call_only line tell spelled = call_read key.Objects line [] spelled
 
 -- a line spells at most one call
 pub one_call : (line : List ℕ) (one other : AgentCall) → SpellsAgentCall one line → SpellsAgentCall other line → one ≡ other

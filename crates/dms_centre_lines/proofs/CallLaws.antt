@@ -4,11 +4,12 @@ use Rattle.std.specs.Prelude.{codes}
 use Rattle.std.proofs.lemmas.Option.{same_Some, none-some}
 use Rattle.dms_text.specs.Words.{words_of}
 use Rattle.dms_text.specs.Reading.{word_at, keyword_at}
-use Rattle.dms_text.proofs.WordLaws.{begun, goes_on, word_found, word_only, keyword_found}
+use Rattle.dms_text.proofs.WordLaws.{begun, keyword_found}
 use Rattle.dms_codes.specs.declared.codes.Order.{Order}
 use Rattle.dms_codes.proofs.Options.{mapped_some}
 use Rattle.dms_text_forms.proofs.WordReading.{by_text, last_found}
 use Rattle.dms_text_forms.proofs.FieldLaws.{last_octets_found, last_octets_only}
+use Rattle.dms_text_causes.proofs.KeywordLines.{line_found, line_read}
 use Rattle.dms_centre_text.specs.CommandReading.{command_word}
 use Rattle.dms_centre_text.specs.declared.command_word.CommandWord.{CommandWord}
 use Rattle.dms_centre_text.proofs.CommandLaws.{command_text, command_some, command_word_found, command_after_found, is_read}
@@ -79,19 +80,14 @@ after_found order key.Save words call e = bare_found (SpellsCallWords order) (co
 pub call_found : (order : Order) (line : List ℕ) (call : CentreCall) → call_of order line ≡ Some call → SpellsCentreCall order call line
 unfolding call_of
 call_found order line call e =
-    let read = begun _ _ _ e in
-    let keyword = begun _ _ _ read.2 in
-    let words : words_of line ≡ keyword_text keyword.0 ∷ read.0.1 =
-    (word_found (words_of line) read.0 read.1).0 ∙ ap (λ word. word ∷ read.0.1) (word_is_keyword read.0.0 keyword.0 keyword.1) in
-    subst (SpellsCallWords order call) (sym words) (after_found order keyword.0 read.0.1 call keyword.2)
+    line_found keyword_of keyword_text (call_after order) (SpellsCallWords order) word_is_keyword (after_found order) line call e
 
 -- ---- what is spelled is read
 
-line_read : (order : Order) (keyword : CentreKeyword) (line : List ℕ) (words : List (List ℕ)) → words_of line ≡ keyword_text keyword ∷ words
+call_read : (order : Order) (keyword : CentreKeyword) (line : List ℕ) (words : List (List ℕ)) → words_of line ≡ keyword_text keyword ∷ words
     → call_of order line ≡ call_after order keyword words
 unfolding call_of
-line_read order keyword line words e =
-    goes_on _ _ _ (ap word_at e ∙ word_only (keyword_text keyword) words (keyword_some keyword)) ∙ goes_on _ _ _ (keyword_only keyword)
+call_read order keyword line words e = line_read keyword_of keyword_text (call_after order) keyword_some keyword_only keyword line words e
 
 last_read : (order : Order) → call_after order key.Status (codes "last" ∷ []) ≡ Some status_last
 unfolding last_alone_at keyword_at word_at
@@ -100,14 +96,14 @@ last_read order = refl
 pub call_only : (order : Order) (line : List ℕ) (call : CentreCall) → SpellsCentreCall order call line → call_of order line ≡ Some call
 call_only order line (command asked) spelled =
     let is = is_read order asked (words_of line) spelled in
-    line_read order (key.Command is.keyword) line is.rest is.words_are ∙ ap (option_map command) is.read
+    call_read order (key.Command is.keyword) line is.rest is.words_are ∙ ap (option_map command) is.read
 call_only order line (datagram octets) spelled =
-    line_read order key.Datagram line _ spelled.words_are ∙ ap (option_map datagram) (last_octets_only octets spelled.word spelled.spelled)
-call_only order line tick spelled = line_read order key.Tick line [] spelled
-call_only order line restart spelled = line_read order key.Restart line [] spelled
-call_only order line status spelled = line_read order key.Status line [] spelled
-call_only order line status_last spelled = line_read order key.Status line (codes "last" ∷ []) spelled ∙ last_read order
-call_only order line save spelled = line_read order key.Save line [] spelled
+    call_read order key.Datagram line _ spelled.words_are ∙ ap (option_map datagram) (last_octets_only octets spelled.word spelled.spelled)
+call_only order line tick spelled = call_read order key.Tick line [] spelled
+call_only order line restart spelled = call_read order key.Restart line [] spelled
+call_only order line status spelled = call_read order key.Status line [] spelled
+call_only order line status_last spelled = call_read order key.Status line (codes "last" ∷ []) spelled ∙ last_read order
+call_only order line save spelled = call_read order key.Save line [] spelled
 
 -- ---- one call a line
 

@@ -9,7 +9,7 @@ use Rattle.hex.specs.Hex.{decode_of, IsBytes}
 use Rattle.hex.specs.declared.error.FromHexError.{FromHexError}
 use Rattle.hex.proofs.HexLemmas.{decode_of-ok}
 use Rattle.dms_text.specs.Words.{words_of, parts_of}
-use Rattle.dms_text.specs.Reading.{word_at, decimal_at}
+use Rattle.dms_text.specs.Reading.{decimal_at}
 use Rattle.dms_text.proofs.WordLaws.{begun, goes_on, word_found, word_only, decimal_found, decimal_only, numeral_found, numeral_only}
 use Rattle.dms_codes.specs.declared.codes.Order.{Order}
 use Rattle.dms_codes.specs.declared.codes.Order.TheVariants.{High, Swapped}
@@ -26,6 +26,7 @@ use Rattle.dms_text_forms.specs.Fields.{SpellsEach, SpellsOctet, SpellsTwoOctets
 use Rattle.dms_text_forms.specs.FieldsReading.{if_last}
 use Rattle.dms_text_forms.proofs.WordReading.{last_found, by_text}
 use Rattle.dms_text_forms.proofs.FieldLaws.{same_rest, next_octets_found, next_octets_only}
+use Rattle.dms_text_causes.proofs.KeywordLines.{line_found, line_read}
 use Rattle.dms_centre_text.specs.CommandFields.{SpellsAddressPart, SpellsAddress, SpellsCode}
 use Rattle.dms_centre_text.specs.CommandLine.{SpellsPublication, SpellsBlank, SpellsCommand}
 use Rattle.dms_centre_text.specs.CommandReading.{address_at, address_of, code_from, code_at, last_code_at, next_address_at, row_at, attributes_at, last_terms_at, publish_at, blank_at, command_word, command_after, command_of}
@@ -473,19 +474,13 @@ is_read order (Activate code) words spelled = record {
 pub command_found : (order : Order) (line : List ℕ) (asked : CommandModel) → command_of order line ≡ Some asked → SpellsCommand order asked (words_of line)
 unfolding command_of
 command_found order line asked e =
-    let read = begun _ _ _ e in
-    let keyword = begun _ _ _ read.2 in
-    let words : words_of line ≡ command_text keyword.0 ∷ read.0.1 =
-    (word_found (words_of line) read.0 read.1).0 ∙ ap (λ word. word ∷ read.0.1) (command_word_found read.0.0 keyword.0 keyword.1) in
-    subst (SpellsCommand order asked) (sym words) (command_after_found order keyword.0 read.0.1 asked keyword.2)
+    line_found command_word command_text (command_after order) (SpellsCommand order) command_word_found (command_after_found order) line asked e
 
 pub command_only : (order : Order) (line : List ℕ) (asked : CommandModel) → SpellsCommand order asked (words_of line) → command_of order line ≡ Some asked
 unfolding command_of
 command_only order line asked spelled =
     let is = is_read order asked (words_of line) spelled in
-    goes_on _ _ _ (ap word_at is.words_are ∙ word_only (command_text is.keyword) is.rest (command_some is.keyword))
-    ∙ goes_on _ _ _ (command_word_only is.keyword)
-    ∙ is.read
+    line_read command_word command_text (command_after order) command_some command_word_only is.keyword line is.rest is.words_are ∙ is.read
 
 -- a line spells at most one command
 pub one_command : (order : Order) (line : List ℕ) (one other : CommandModel) → SpellsCommand order one (words_of line) → SpellsCommand order other (words_of line)

@@ -1,17 +1,16 @@
 -- The event of a line is the one that the line spells.
-use Rattle.std.proofs.Common.{◌≡◌, ℕ, ◌<◌, List, [], ◌∷◌, length, Option, Some, None, option_map, Result, Ok, Err, refl, sym, ap, subst, ◌∙◌, arith}
-use Rattle.std.specs.Prelude.{codes, IfOk, IfSome, IfNone}
+use Rattle.std.proofs.Common.{◌≡◌, ℕ, ◌<◌, List, [], ◌∷◌, length, Option, Some, None, option_map, refl, sym, ap, subst, ◌∙◌, arith}
+use Rattle.std.specs.Prelude.{codes}
 use Rattle.std.proofs.lemmas.Option.{same_Some, none-some}
 use Rattle.dms_text.specs.Words.{words_of}
-use Rattle.dms_text.specs.Reading.{word_at}
-use Rattle.dms_text.proofs.WordLaws.{begun, goes_on, word_found, word_only}
 use Rattle.dms_codes.specs.declared.codes.Order.{Order}
 use Rattle.dms_codes.proofs.Options.{mapped_some}
 use Rattle.dms_world.specs.Event.{EventModel, command, sign_tick, centre_tick, to_sign, to_centre, power_lost, power_back, centre_restart, forge_sign, forge_centre}
 use Rattle.dms_text_forms.specs.Fields.{SpellsEach}
-use Rattle.dms_text_forms.specs.FieldsReading.{if_last}
-use Rattle.dms_text_forms.proofs.WordReading.{last_found, by_text}
+use Rattle.dms_text_forms.proofs.WordReading.{by_text}
 use Rattle.dms_text_forms.proofs.FieldLaws.{last_number_found, last_number_only, last_octets_found, last_octets_only}
+use Rattle.dms_text_causes.proofs.KeywordLines.{line_found, line_read}
+use Rattle.dms_text_streams.proofs.CallReading.{bare_found}
 use Rattle.dms_centre_text.specs.CommandReading.{command_word}
 use Rattle.dms_centre_text.specs.declared.command_word.CommandWord.{CommandWord}
 use Rattle.dms_centre_text.proofs.CommandLaws.{command_text, command_some, command_word_found, command_after_found, is_read}
@@ -69,26 +68,20 @@ keyword_found word keyword e = by_command word keyword (command_word word) refl 
     by_command word keyword (Some asked) is e = command_word_found word asked is ∙ ap keyword_text (same_Some _ _ e)
     by_command word keyword None is e = own_found word keyword e
 
-bare_found : (order : Order) (keyword : List ℕ) (bare event : EventModel) (words : List (List ℕ)) → if_last bare words ≡ Some event
-    → SpellsEventWords order bare (keyword ∷ []) → SpellsEventWords order event (keyword ∷ words)
-bare_found order keyword bare event words e spelled =
-    let end = last_found bare words event e in
-    subst (λ event. SpellsEventWords order event (keyword ∷ words)) end.1 (subst (λ rest. SpellsEventWords order bare (keyword ∷ rest)) (sym end.0) spelled)
-
 after_found : (order : Order) (keyword : EventKeyword) (words : List (List ℕ)) (event : EventModel) → event_after order keyword words ≡ Some event
     → SpellsEventWords order event (keyword_text keyword ∷ words)
 after_found order (key.Command asked) words event e =
     let made = mapped_some _ _ _ e in subst (λ event. SpellsEventWords order event (command_text asked ∷ words)) made.2 (command_after_found order asked words made.0 made.1)
-after_found order key.SignTick words event e = bare_found order (codes "sign-tick") sign_tick event words e refl
-after_found order key.CentreTick words event e = bare_found order (codes "centre-tick") centre_tick event words e refl
+after_found order key.SignTick words event e = bare_found (SpellsEventWords order) (codes "sign-tick") (codes "sign-tick") sign_tick event words refl e refl
+after_found order key.CentreTick words event e = bare_found (SpellsEventWords order) (codes "centre-tick") (codes "centre-tick") centre_tick event words refl e refl
 after_found order key.ToSign words event e =
     let made = mapped_some _ _ _ e in subst (λ event. SpellsEventWords order event (codes "to-sign" ∷ words)) made.2 (last_number_found (codes "to-sign") words made.0 made.1)
 after_found order key.ToCentre words event e =
     let made = mapped_some _ _ _ e in subst (λ event. SpellsEventWords order event (codes "to-centre" ∷ words)) made.2 (last_number_found (codes "to-centre") words made.0 made.1)
-after_found order key.PowerLost words event e = bare_found order (codes "power-lost") power_lost event words e refl
+after_found order key.PowerLost words event e = bare_found (SpellsEventWords order) (codes "power-lost") (codes "power-lost") power_lost event words refl e refl
 after_found order key.PowerBack words event e =
     let made = mapped_some _ _ _ e in subst (λ event. SpellsEventWords order event (codes "power-back" ∷ words)) made.2 (last_number_found (codes "power-back") words made.0 made.1)
-after_found order key.CentreRestart words event e = bare_found order (codes "centre-restart") centre_restart event words e refl
+after_found order key.CentreRestart words event e = bare_found (SpellsEventWords order) (codes "centre-restart") (codes "centre-restart") centre_restart event words refl e refl
 after_found order key.ForgeSign words event e =
     let made = mapped_some _ _ _ e in subst (λ event. SpellsEventWords order event (codes "forge-sign" ∷ words)) made.2 (last_octets_found (codes "forge-sign") words made.0 made.1)
 after_found order key.ForgeCentre words event e =
@@ -97,36 +90,31 @@ after_found order key.ForgeCentre words event e =
 pub event_found : (order : Order) (line : List ℕ) (event : EventModel) → event_of order line ≡ Some event → SpellsEvent order event line
 unfolding event_of
 event_found order line event e =
-    let read = begun _ _ _ e in
-    let keyword = begun _ _ _ read.2 in
-    let words : words_of line ≡ keyword_text keyword.0 ∷ read.0.1 =
-    (word_found (words_of line) read.0 read.1).0 ∙ ap (λ word. word ∷ read.0.1) (keyword_found read.0.0 keyword.0 keyword.1) in
-    subst (SpellsEventWords order event) (sym words) (after_found order keyword.0 read.0.1 event keyword.2)
+    line_found keyword_of keyword_text (event_after order) (SpellsEventWords order) keyword_found (after_found order) line event e
 
-line_read : (order : Order) (keyword : EventKeyword) (line : List ℕ) (words : List (List ℕ)) → words_of line ≡ keyword_text keyword ∷ words
+event_read : (order : Order) (keyword : EventKeyword) (line : List ℕ) (words : List (List ℕ)) → words_of line ≡ keyword_text keyword ∷ words
     → event_of order line ≡ event_after order keyword words
 unfolding event_of
-line_read order keyword line words e =
-    goes_on _ _ _ (ap word_at e ∙ word_only (keyword_text keyword) words (keyword_some keyword)) ∙ goes_on _ _ _ (keyword_only keyword)
+event_read order keyword line words e = line_read keyword_of keyword_text (event_after order) keyword_some keyword_only keyword line words e
 
 pub event_only : (order : Order) (line : List ℕ) (event : EventModel) → SpellsEvent order event line → event_of order line ≡ Some event
 event_only order line (command asked) spelled =
     let is = is_read order asked (words_of line) spelled in
-    line_read order (key.Command is.keyword) line is.rest is.words_are ∙ ap (option_map command) is.read
-event_only order line sign_tick spelled = line_read order key.SignTick line [] spelled
-event_only order line centre_tick spelled = line_read order key.CentreTick line [] spelled
+    event_read order (key.Command is.keyword) line is.rest is.words_are ∙ ap (option_map command) is.read
+event_only order line sign_tick spelled = event_read order key.SignTick line [] spelled
+event_only order line centre_tick spelled = event_read order key.CentreTick line [] spelled
 event_only order line (to_sign place) spelled =
-    line_read order key.ToSign line _ spelled.words_are ∙ ap (option_map to_sign) (last_number_only place spelled.word spelled.spelled)
+    event_read order key.ToSign line _ spelled.words_are ∙ ap (option_map to_sign) (last_number_only place spelled.word spelled.spelled)
 event_only order line (to_centre place) spelled =
-    line_read order key.ToCentre line _ spelled.words_are ∙ ap (option_map to_centre) (last_number_only place spelled.word spelled.spelled)
-event_only order line power_lost spelled = line_read order key.PowerLost line [] spelled
+    event_read order key.ToCentre line _ spelled.words_are ∙ ap (option_map to_centre) (last_number_only place spelled.word spelled.spelled)
+event_only order line power_lost spelled = event_read order key.PowerLost line [] spelled
 event_only order line (power_back seconds) spelled =
-    line_read order key.PowerBack line _ spelled.words_are ∙ ap (option_map power_back) (last_number_only seconds spelled.word spelled.spelled)
-event_only order line centre_restart spelled = line_read order key.CentreRestart line [] spelled
+    event_read order key.PowerBack line _ spelled.words_are ∙ ap (option_map power_back) (last_number_only seconds spelled.word spelled.spelled)
+event_only order line centre_restart spelled = event_read order key.CentreRestart line [] spelled
 event_only order line (forge_sign datagram) spelled =
-    line_read order key.ForgeSign line _ spelled.words_are ∙ ap (option_map forge_sign) (last_octets_only datagram spelled.word spelled.spelled)
+    event_read order key.ForgeSign line _ spelled.words_are ∙ ap (option_map forge_sign) (last_octets_only datagram spelled.word spelled.spelled)
 event_only order line (forge_centre datagram) spelled =
-    line_read order key.ForgeCentre line _ spelled.words_are ∙ ap (option_map forge_centre) (last_octets_only datagram spelled.word spelled.spelled)
+    event_read order key.ForgeCentre line _ spelled.words_are ∙ ap (option_map forge_centre) (last_octets_only datagram spelled.word spelled.spelled)
 
 pub spelled_if_read : (order : Order) (line : List ℕ) (event : ScriptEvent) → Some (script_event_model event) ≡ event_of order line
     → SpellsEvent order (script_event_model event) line

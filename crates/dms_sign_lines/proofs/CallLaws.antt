@@ -3,12 +3,11 @@ use Rattle.std.proofs.Common.{◌≡◌, ℕ, ◌<◌, List, [], ◌∷◌, leng
 use Rattle.std.specs.Prelude.{codes}
 use Rattle.std.proofs.lemmas.Option.{same_Some, none-some}
 use Rattle.dms_text.specs.Words.{words_of}
-use Rattle.dms_text.specs.Reading.{word_at}
-use Rattle.dms_text.proofs.WordLaws.{begun, goes_on, word_found, word_only}
 use Rattle.dms_codes.proofs.Options.{mapped_some}
 use Rattle.dms_sign.specs.State.{SignState}
 use Rattle.dms_text_forms.proofs.WordReading.{by_text}
 use Rattle.dms_text_forms.proofs.FieldLaws.{last_number_found, last_number_only, last_octets_found, last_octets_only}
+use Rattle.dms_text_causes.proofs.KeywordLines.{line_found, line_read}
 use Rattle.dms_text_streams.proofs.CallReading.{bare_found, nothing_found}
 use Rattle.dms_sign_lines.specs.SignCall.{SignCall, datagram, tick, ticks, heard, power_lost, power_back, show, state, save}
 use Rattle.dms_sign_lines.specs.SignLine.{SpellsCallWords, SpellsSignCall, SpellsNoSignCall}
@@ -73,33 +72,27 @@ after_found key.Save words call e = bare_found SpellsCallWords (codes "save") (c
 -- what is read of a line is what it spells
 pub call_found : (line : List ℕ) (call : SignCall) → call_of line ≡ Some call → SpellsSignCall call line
 unfolding call_of
-call_found line call e =
-    let read = begun _ _ _ e in
-    let keyword = begun _ _ _ read.2 in
-    let words : words_of line ≡ keyword_text keyword.0 ∷ read.0.1 =
-    (word_found (words_of line) read.0 read.1).0 ∙ ap (λ word. word ∷ read.0.1) (keyword_found read.0.0 keyword.0 keyword.1) in
-    subst (SpellsCallWords call) (sym words) (after_found keyword.0 read.0.1 call keyword.2)
+call_found line call e = line_found keyword_of keyword_text call_after SpellsCallWords keyword_found after_found line call e
 
-line_read : (keyword : SignKeyword) (line : List ℕ) (words : List (List ℕ)) → words_of line ≡ keyword_text keyword ∷ words
+call_read : (keyword : SignKeyword) (line : List ℕ) (words : List (List ℕ)) → words_of line ≡ keyword_text keyword ∷ words
     → call_of line ≡ call_after keyword words
 unfolding call_of
-line_read keyword line words e =
-    goes_on _ _ _ (ap word_at e ∙ word_only (keyword_text keyword) words (keyword_some keyword)) ∙ goes_on _ _ _ (keyword_only keyword)
+call_read keyword line words e = line_read keyword_of keyword_text call_after keyword_some keyword_only keyword line words e
 
 -- what a line spells is read of it
 pub call_only : (line : List ℕ) (call : SignCall) → SpellsSignCall call line → call_of line ≡ Some call
 call_only line (datagram octets) spelled =
-    line_read key.Datagram line _ spelled.words_are ∙ ap (option_map datagram) (last_octets_only octets spelled.word spelled.spelled)
-call_only line tick spelled = line_read key.Tick line [] spelled
+    call_read key.Datagram line _ spelled.words_are ∙ ap (option_map datagram) (last_octets_only octets spelled.word spelled.spelled)
+call_only line tick spelled = call_read key.Tick line [] spelled
 call_only line (ticks seconds) spelled =
-    line_read key.Ticks line _ spelled.words_are ∙ ap (option_map ticks) (last_number_only seconds spelled.word spelled.spelled)
-call_only line heard spelled = line_read key.Heard line [] spelled
-call_only line power_lost spelled = line_read key.PowerLost line [] spelled
+    call_read key.Ticks line _ spelled.words_are ∙ ap (option_map ticks) (last_number_only seconds spelled.word spelled.spelled)
+call_only line heard spelled = call_read key.Heard line [] spelled
+call_only line power_lost spelled = call_read key.PowerLost line [] spelled
 call_only line (power_back seconds) spelled =
-    line_read key.PowerBack line _ spelled.words_are ∙ ap (option_map power_back) (last_number_only seconds spelled.word spelled.spelled)
-call_only line show spelled = line_read key.Show line [] spelled
-call_only line state spelled = line_read key.State line [] spelled
-call_only line save spelled = line_read key.Save line [] spelled
+    call_read key.PowerBack line _ spelled.words_are ∙ ap (option_map power_back) (last_number_only seconds spelled.word spelled.spelled)
+call_only line show spelled = call_read key.Show line [] spelled
+call_only line state spelled = call_read key.State line [] spelled
+call_only line save spelled = call_read key.Save line [] spelled
 
 -- a line spells at most one call
 pub one_call : (line : List ℕ) (one other : SignCall) → SpellsSignCall one line → SpellsSignCall other line → one ≡ other
