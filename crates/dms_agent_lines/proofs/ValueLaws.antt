@@ -8,7 +8,7 @@ use Rattle.dms_wire.specs.Message.{ObjectValue, integer, octet_string, null, obj
 use Rattle.dms_text.specs.Octets.{SpellsOctets}
 use Rattle.dms_text.specs.Reading.{word_at, same_octets, ◌>>=◌}
 use Rattle.dms_text.proofs.WordLaws.{begun, goes_on, same_found, word_found, word_only, keyword_found, keyword_only, numeral_found, numeral_only}
-use Rattle.dms_text_forms.specs.Fields.{SpellsFourOctets}
+use Rattle.dms_text_forms.specs.Fields.{SpellsFourOctets, SpellsOne}
 use Rattle.dms_text_forms.proofs.FieldLaws.{next_octets_found, next_octets_only}
 use Rattle.dms_device.specs.Object.{can_be_sent}
 use Rattle.dms_text_values.specs.ValueReading.{integer_value_at, octet_string_at, object_identifier_at, ip_address_at, counter_at, gauge_at, time_ticks_at, opaque_at, large_number_at, application_word, type_word, value_after, value_at}
@@ -51,16 +51,25 @@ large_found words found e =
       spelled = record { spelled = number.spelled; small = omega (arith, number.greatest) };
     }
 
+-- a value of which one word stands after that of its type
+of_one_word : {A : Type 0} (keyword : List ℕ) (value_of : A → ObjectValue) (Spells : A → List ℕ → Type 0) (words : List (List ℕ)) (found : ObjectValue × List (List ℕ))
+    (read : A × List (List ℕ)) (word : List ℕ) → words ≡ word ∷ read.1 → Spells read.0 word
+    → (SpellsOne keyword (Spells read.0) (keyword ∷ word ∷ []) → SpellsValue (value_of read.0) (keyword ∷ word ∷ [])) → Some (value_of read.0, read.1) ≡ Some found
+    → FoundValue (keyword ∷ words) found
+of_one_word keyword value_of Spells words found read word words_are spelled is e =
+    let same : (value_of read.0, read.1) ≡ found = same_Some _ _ e in
+    subst (FoundValue (keyword ∷ words)) same (record {
+      front = keyword ∷ word ∷ [];
+      words_are = ap (λ rest. keyword ∷ rest) words_are;
+      spelled = is (record { word = word; words_are = refl; spelled = spelled });
+    })
+
 integer_value_found : (words : List (List ℕ)) (found : ObjectValue × List (List ℕ)) → integer_value_at words ≡ Some found → FoundValue (codes "INTEGER" ∷ words) found
 unfolding integer_value_at
 integer_value_found words found e =
     let read = begun _ _ _ e in
     let number = integer_found words read.0 read.1 in
-    subst (FoundValue (codes "INTEGER" ∷ words)) (same_Some _ _ read.2) (record {
-      front = codes "INTEGER" ∷ number.word ∷ [];
-      words_are = ap (λ rest. codes "INTEGER" ∷ rest) number.words_are;
-      spelled = record { word = number.word; words_are = refl; spelled = number.spelled };
-    })
+    of_one_word (codes "INTEGER") integer SpellsInteger words found read.0 number.word number.words_are number.spelled (λ spelled. spelled) read.2
 
 octet_string_found : (words : List (List ℕ)) (found : ObjectValue × List (List ℕ)) → octet_string_at words ≡ Some found → FoundValue (codes "OCTET" ∷ words) found
 unfolding octet_string_at
@@ -99,56 +108,36 @@ unfolding ip_address_at
 ip_address_found words found e =
     let read = begun _ _ _ e in
     let address = begun _ _ _ read.2 in
-    let same : (ip_address address.0, read.0.1) ≡ found = same_Some _ _ address.2 in
-    subst (FoundValue (codes "IpAddress" ∷ words)) same (record {
-      front = codes "IpAddress" ∷ read.0.0 ∷ [];
-      words_are = ap (λ rest. codes "IpAddress" ∷ rest) (word_found words read.0 read.1).0;
-      spelled = record { word = read.0.0; words_are = refl; spelled = address_found read.0.0 address.0 address.1 };
-    })
+    of_one_word (codes "IpAddress") ip_address SpellsAddress words found (address.0, read.0.1) read.0.0 (word_found words read.0 read.1).0
+    (address_found read.0.0 address.0 address.1) (λ spelled. spelled) address.2
 
 counter_found : (words : List (List ℕ)) (found : ObjectValue × List (List ℕ)) → counter_at words ≡ Some found → FoundValue (codes "Counter" ∷ words) found
 unfolding counter_at
 counter_found words found e =
     let read = begun _ _ _ e in
     let number = large_found words read.0 read.1 in
-    subst (FoundValue (codes "Counter" ∷ words)) (same_Some _ _ read.2) (record {
-      front = codes "Counter" ∷ number.word ∷ [];
-      words_are = ap (λ rest. codes "Counter" ∷ rest) number.words_are;
-      spelled = record { word = number.word; words_are = refl; spelled = number.spelled };
-    })
+    of_one_word (codes "Counter") counter SpellsFourOctets words found read.0 number.word number.words_are number.spelled (λ spelled. spelled) read.2
 
 gauge_found : (words : List (List ℕ)) (found : ObjectValue × List (List ℕ)) → gauge_at words ≡ Some found → FoundValue (codes "Gauge" ∷ words) found
 unfolding gauge_at
 gauge_found words found e =
     let read = begun _ _ _ e in
     let number = large_found words read.0 read.1 in
-    subst (FoundValue (codes "Gauge" ∷ words)) (same_Some _ _ read.2) (record {
-      front = codes "Gauge" ∷ number.word ∷ [];
-      words_are = ap (λ rest. codes "Gauge" ∷ rest) number.words_are;
-      spelled = record { word = number.word; words_are = refl; spelled = number.spelled };
-    })
+    of_one_word (codes "Gauge") gauge SpellsFourOctets words found read.0 number.word number.words_are number.spelled (λ spelled. spelled) read.2
 
 time_ticks_found : (words : List (List ℕ)) (found : ObjectValue × List (List ℕ)) → time_ticks_at words ≡ Some found → FoundValue (codes "TimeTicks" ∷ words) found
 unfolding time_ticks_at
 time_ticks_found words found e =
     let read = begun _ _ _ e in
     let number = large_found words read.0 read.1 in
-    subst (FoundValue (codes "TimeTicks" ∷ words)) (same_Some _ _ read.2) (record {
-      front = codes "TimeTicks" ∷ number.word ∷ [];
-      words_are = ap (λ rest. codes "TimeTicks" ∷ rest) number.words_are;
-      spelled = record { word = number.word; words_are = refl; spelled = number.spelled };
-    })
+    of_one_word (codes "TimeTicks") time_ticks SpellsFourOctets words found read.0 number.word number.words_are number.spelled (λ spelled. spelled) read.2
 
 opaque_found : (words : List (List ℕ)) (found : ObjectValue × List (List ℕ)) → opaque_at words ≡ Some found → FoundValue (codes "Opaque" ∷ words) found
 unfolding opaque_at
 opaque_found words found e =
     let read = begun _ _ _ e in
     let octets = next_octets_found words read.0 read.1 in
-    subst (FoundValue (codes "Opaque" ∷ words)) (same_Some _ _ read.2) (record {
-      front = codes "Opaque" ∷ octets.word ∷ [];
-      words_are = ap (λ rest. codes "Opaque" ∷ rest) octets.words_are;
-      spelled = record { word = octets.word; words_are = refl; spelled = octets.spelled };
-    })
+    of_one_word (codes "Opaque") opaque SpellsOctets words found read.0 octets.word octets.words_are octets.spelled (λ spelled. spelled) read.2
 
 type_found : (word : List ℕ) (words : List (List ℕ)) (found : ObjectValue × List (List ℕ))
     → (type_word word >>= (λ kind. value_after kind words)) ≡ Some found → FoundValue (word ∷ words) found
