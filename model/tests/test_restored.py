@@ -16,10 +16,10 @@ from model.saved import saved
 from model.state_text import Refused
 from trials.compare_coprocess import Lines, datagrams
 
-from .test_saved import CRATES, TEXTS
+from .program_texts import CRATES
+from .test_saved import STATES
 
-STATES = sorted(name for name in TEXTS if "STATE" in name)
-BUSY = TEXTS["BUSY_STATE"]
+BUSY = STATES["BUSY"].text
 SIGNTOOL = pathlib.Path(__file__).parents[1] / "signtool"
 ROW = re.compile(r'\(\s*(\d+),\s*"([^"]*)",\s*"(line \d+: [^"]*)",?\s*\)')
 PROGRAM = (CRATES / "dms_sign_state_tests/src/started_again.rt").read_text()
@@ -54,7 +54,7 @@ FAULTS = [  # lines that are no field's, and what is told
 
 def sign_of(name: str) -> Agent:
     """The bench sign, with the order of a state's codes."""
-    return Agent(replace(text.bench(), swapped="ORDER" in name))
+    return Agent(replace(text.bench(), swapped=STATES[name].swapped))
 
 
 def text_of(agent: Agent) -> str:
@@ -75,7 +75,7 @@ def with_line(at: int, line: str) -> str:
 
 @pytest.mark.parametrize("name", STATES)
 def test_a_restored_sign_has_the_text_of_its_state(name: str) -> None:
-    assert text_of(again(TEXTS[name], sign_of(name))) == TEXTS[name]
+    assert text_of(again(STATES[name].text, sign_of(name))) == STATES[name].text
 
 
 @pytest.mark.parametrize("at, line, why", MISFITS + FAULTS)
@@ -91,7 +91,7 @@ def test_the_rows_of_the_program_are_all_tried() -> None:
 
 @pytest.mark.parametrize("name", STATES)
 def test_another_text_is_refused_or_is_that_state(name: str) -> None:
-    octets, chance = TEXTS[name], random.Random(name)
+    octets, chance = STATES[name].text, random.Random(name)
     lines = octets.splitlines(keepends=True)
     others = [octets[:at] for at in range(0, len(octets), 29)]
     for at in range(0, len(octets), 3):

@@ -1,6 +1,6 @@
 //! The bench sign by its values, for the tests and measures of crates that stand below dms_sign_text, where it is a
 //! text: 23 columns, 14 rows, two fonts, a permanent row `B`, two changeable rows and a volatile one; and scripts of
-//! what is handed to it.
+//! what is handed to it, and its state.
 //!
 //! ```
 //! let face = face(alloc)?;
@@ -10,6 +10,7 @@
 #![tactic(auto)]
 
 pub mod scripts;
+pub mod states;
 
 use dms_codes::Order;
 use dms_face::{Defaults, Face, Font};

@@ -1,9 +1,6 @@
 //! States read back from their texts.
 
-use super::saved::{
-    BUSY_STATE, STATE_AFTER_COMMANDS, STATE_AFTER_RETURNS, STATE_AFTER_WRITTEN_DEFAULTS,
-    STATE_OF_THE_OTHER_ORDER, STATE_WITHOUT_POWER,
-};
+use super::saved::{BUSY_STATE, STATES};
 use dms_sign_state::{Put, StateError, StateFault, StateField, Stored, state_fields};
 use dms_table::Status;
 use std::alloc::{AllocError, Global};
@@ -36,14 +33,8 @@ fn fields_are_read(rt: HostRuntime) -> Result<(), Fail> {
 
 #[test]
 fn each_state_is_read_and_no_beginning_of_it(rt: HostRuntime) -> Result<(), Fail> {
-    for text in [
-        BUSY_STATE,
-        STATE_WITHOUT_POWER,
-        STATE_AFTER_COMMANDS,
-        STATE_AFTER_RETURNS,
-        STATE_AFTER_WRITTEN_DEFAULTS,
-        STATE_OF_THE_OTHER_ORDER,
-    ] {
+    for state in &STATES {
+        let text = state.text(rt.alloc())?;
         assert!(rt; state_fields(rt.alloc(), text.as_bytes()).is_ok());
     }
     let text = BUSY_STATE.as_bytes();

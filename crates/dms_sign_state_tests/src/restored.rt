@@ -4,10 +4,9 @@ use super::bench::sign_of;
 use dms_face::Defaults;
 use dms_sign::{MessageFault, Sign, SignParts, StateFault};
 use dms_sign_access::{ReportFault, Reports};
+use dms_sign_bench::states::{ROW, SHOWN};
 use dms_sign_bench::{DEFAULTS, stock};
-use dms_table::{
-    MessageId, Mode, RowFault, RowId, SavedRow, SavedShown, Shown, ShownFault, Status, memory,
-};
+use dms_table::{MessageId, Mode, RowFault, RowId, SavedShown, Shown, memory};
 use std::alloc::Global;
 use std::process::Abort;
 use std::test::Fail;
@@ -15,33 +14,6 @@ use std::test::Fail;
 const FIRST: RowId = RowId {
     memory: memory::CHANGEABLE,
     number: 1,
-};
-
-const ROW: SavedRow<'static> = SavedRow {
-    text: b"A",
-    owner: b"O",
-    beacon: 0,
-    pixel: 0,
-    priority: 7,
-    status: Status::Valid,
-};
-
-/// The message of that row, as a SET brought it up.
-const SHOWN: SavedShown<'static> = SavedShown {
-    text: b"A",
-    owner: b"O",
-    beacon: 0,
-    pixel: 0,
-    priority: 7,
-    source: MessageId {
-        memory: memory::CHANGEABLE,
-        number: 1,
-        crc: 0x9a66,
-    },
-    mode: 8,
-    address: [10, 0, 0, 1],
-    remaining: Some(90),
-    defaults: DEFAULTS,
 };
 
 const NO_SUCH_FONT: Defaults = Defaults {

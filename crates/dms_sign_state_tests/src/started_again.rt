@@ -2,10 +2,7 @@
 
 use super::bench::{config_of, sign_of};
 use super::read_back::with_line;
-use super::saved::{
-    BUSY_STATE, STATE_AFTER_COMMANDS, STATE_AFTER_RETURNS, STATE_AFTER_WRITTEN_DEFAULTS,
-    STATE_OF_THE_OTHER_ORDER, STATE_WITHOUT_POWER,
-};
+use super::saved::{BUSY_STATE, STATES};
 use dms_sign::{Config, ConfigFault, Sign};
 use dms_sign_bench::{B, stock};
 use dms_sign_restored::{RestoreFault, StateRefusal, put_state, restored};
@@ -28,16 +25,9 @@ fn again(alloc: Global, order: Order, text: &[u8]) -> Result<Sign, RestoreFault>
 
 #[test]
 fn a_restored_sign_has_the_text_of_its_state(rt: HostRuntime) -> Result<(), Fail> {
-    let high = Order::High;
-    for (order, text) in [
-        (high, BUSY_STATE),
-        (high, STATE_WITHOUT_POWER),
-        (high, STATE_AFTER_COMMANDS),
-        (high, STATE_AFTER_RETURNS),
-        (high, STATE_AFTER_WRITTEN_DEFAULTS),
-        (Order::Swapped, STATE_OF_THE_OTHER_ORDER),
-    ] {
-        let sign = again(rt.alloc(), order, text.as_bytes()).or(Err("not restored"))?;
+    for state in &STATES {
+        let text = state.text(rt.alloc())?;
+        let sign = again(rt.alloc(), state.order, text.as_bytes()).or(Err("not restored"))?;
         assert!(rt; saved(rt.alloc(), &sign)?.as_slice() == text.as_bytes());
     }
     Ok(())

@@ -1,5 +1,6 @@
 //! Rows of a saved state, and messages that are shown once more.
 
+use dms_sign_bench::states::{ROW, SHOWN};
 use dms_sign_bench::{DEFAULTS, face, stock};
 use dms_table::{
     MessageId, Mode, RowFault, RowId, SavedRow, SavedShown, Shown, ShownFault, Status, Table,
@@ -10,32 +11,6 @@ use std::test::Fail;
 
 /// A text that is one octet too long.
 const LONG: &[u8] = &[65; 513];
-
-const ROW: SavedRow<'static> = SavedRow {
-    text: b"A",
-    owner: b"O",
-    beacon: 0,
-    pixel: 0,
-    priority: 7,
-    status: Status::Valid,
-};
-
-const SHOWN: SavedShown<'static> = SavedShown {
-    text: b"A",
-    owner: b"O",
-    beacon: 0,
-    pixel: 0,
-    priority: 7,
-    source: MessageId {
-        memory: 3,
-        number: 1,
-        crc: 0x9a66,
-    },
-    mode: 8,
-    address: [10, 0, 0, 1],
-    remaining: Some(90),
-    defaults: DEFAULTS,
-};
 
 fn changeable(number: u16) -> RowId {
     RowId {
