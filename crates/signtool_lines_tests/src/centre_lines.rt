@@ -2,6 +2,7 @@
 
 mod cases;
 
+use crate::bad_lines::BAD_LINES;
 use dms_centre::{Centre, Settings};
 use dms_centre_lines::answer;
 use dms_codes::Order;
@@ -104,7 +105,7 @@ fn is_bad(alloc: Global, centre: &mut Centre, line: &str, wanted: &str) -> bool 
 #[test]
 fn state_kept(rt: HostRuntime) -> Result<(), Fail> {
     let mut centre = centre(rt.alloc(), 1)?;
-    for (line, wanted) in cases::BAD_LINES {
+    for (line, wanted) in BAD_LINES.iter().chain(cases::BAD_LINES.iter()) {
         assert!(rt;
             is_bad(rt.alloc(), &mut centre, line, wanted),
             "of {line:?}"

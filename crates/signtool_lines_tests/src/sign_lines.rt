@@ -2,9 +2,11 @@
 
 mod cases;
 
+use crate::bad_lines::BAD_LINES;
 use dms_face_pages::{numbered_page, pages, pages_text};
 use dms_replay::bench;
 use dms_replay::fault::ReplayFault;
+use dms_sign_bench::states::{NEW, with_lines};
 use dms_sign_lines::answer;
 use dms_sign_text::Setup;
 use std::alloc::{AllocError, Global};
@@ -34,10 +36,23 @@ fn put_line(talk: &mut Vec<u8>, line: &str) -> Result<(), AllocError> {
 /// Each line has the answer that stands under it.
 #[test]
 fn each_line_answered(rt: HostRuntime) -> Result<(), Fail> {
-    for talk in [cases::TALK, cases::SECONDS, cases::SAVED] {
+    for talk in [cases::TALK, cases::SECONDS] {
         let found = answered(rt.alloc(), talk)?;
         assert!(rt; found.as_slice() == talk.as_bytes());
     }
+    Ok(())
+}
+
+/// `save` is answered with the state: as the sign is made, and without power while permanent 1 was shown.
+#[test]
+fn a_saved_state_is_the_sign_s(rt: HostRuntime) -> Result<(), Fail> {
+    let lost = with_lines(rt.alloc(), NEW, &cases::LINES_WITHOUT_POWER)?;
+    let (asked, told) = (cases::ACTIVATE, cases::ACCEPTED);
+    let talk = format!(in rt.alloc();
+        "> save\n{NEW}ok\n> {asked}\n{told}> tick\nok\n> power-lost\nok\n> save\n{lost}ok\n"
+    )?;
+    let found = answered(rt.alloc(), talk.as_str())?;
+    assert!(rt; found.as_slice() == talk.as_bytes());
     Ok(())
 }
 
@@ -53,7 +68,7 @@ fn has_answer(alloc: Global, setup: &mut Setup, line: &str, wanted: &str) -> boo
 fn nothing_changes(rt: HostRuntime) -> Result<(), Fail> {
     let mut setup = bench(rt.alloc())?;
     setup.sign.power_lost();
-    for (line, answer) in cases::BAD_LINES {
+    for (line, answer) in BAD_LINES.iter().chain(cases::BAD_LINES.iter()) {
         let bad = has_answer(rt.alloc(), &mut setup, line, answer);
         let same = has_answer(rt.alloc(), &mut setup, "state", cases::STATE_WITHOUT_POWER);
         assert_eq!(rt; (bad, same), (true, true), "of {line:?}");

@@ -1,6 +1,8 @@
 //! Talks with a central system: each line that is handed to it, after `> `, and the lines that answer it. A line that
 //! begins with `#` says in words what follows.
 
+use crate::bad_lines::{NO_CALL, SECOND_WORD, THIRD_SPACE, THIRD_WORD};
+
 /// Commands that are refused.
 pub const REFUSED: &str = "\
 > status
@@ -224,16 +226,13 @@ last accepted
 ok
 ";
 
-/// Lines that are none.
-pub const BAD_LINES: [(&str, &str); 53] = [
+/// Lines that spell no call of a central system, each with its answer.
+pub const BAD_LINES: [(&str, &str); 26] = [
     (
         "publish",
         "bad line word 2: the line ends where a number from 0 to 255 is wanted\n",
     ),
-    (
-        "Publish 3 1 41 - 0 0 200 65535 255 192.0.2.1",
-        "bad line no call begins with this word\n",
-    ),
+    ("Publish 3 1 41 - 0 0 200 65535 255 192.0.2.1", NO_CALL),
     (
         "publish 256 1 41 - 0 0 200 65535 255 192.0.2.1",
         "bad line word 2: a number from 0 to 255 is wanted\n",
@@ -271,45 +270,14 @@ pub const BAD_LINES: [(&str, &str); 53] = [
         "activate -",
         "bad line word 2: a code of 24 hexadecimal digits is wanted\n",
     ),
-    (
-        "datagram",
-        "bad line word 2: the line ends where a datagram in hexadecimal is wanted\n",
-    ),
-    (
-        "datagram 0",
-        "bad line word 2: a datagram in hexadecimal is wanted\n",
-    ),
-    (
-        "datagram 0g",
-        "bad line word 2: a datagram in hexadecimal is wanted\n",
-    ),
-    (
-        "datagram 00 00",
-        "bad line word 3: no more words are wanted\n",
-    ),
-    (
-        "datagram - -",
-        "bad line word 3: no more words are wanted\n",
-    ),
-    ("Datagram -", "bad line no call begins with this word\n"),
-    ("tick 1", "bad line word 2: no more words are wanted\n"),
-    ("tick -", "bad line word 2: no more words are wanted\n"),
-    ("tock", "bad line no call begins with this word\n"),
-    ("Tick", "bad line no call begins with this word\n"),
-    ("restart 0", "bad line word 2: no more words are wanted\n"),
-    ("restarts", "bad line no call begins with this word\n"),
+    ("restart 0", SECOND_WORD),
+    ("restarts", NO_CALL),
     (
         "status 1",
         "bad line word 2: the word last, or the end of the line, is wanted\n",
     ),
-    (
-        "status last 1",
-        "bad line word 3: no more words are wanted\n",
-    ),
-    (
-        "status last last",
-        "bad line word 3: no more words are wanted\n",
-    ),
+    ("status last 1", THIRD_WORD),
+    ("status last last", THIRD_WORD),
     (
         "status Last",
         "bad line word 2: the word last, or the end of the line, is wanted\n",
@@ -318,41 +286,15 @@ pub const BAD_LINES: [(&str, &str); 53] = [
         "status first",
         "bad line word 2: the word last, or the end of the line, is wanted\n",
     ),
-    ("last", "bad line no call begins with this word\n"),
-    ("save 1", "bad line word 2: no more words are wanted\n"),
-    ("saves", "bad line no call begins with this word\n"),
-    ("state", "bad line no call begins with this word\n"),
-    ("show", "bad line no call begins with this word\n"),
-    ("power-lost", "bad line no call begins with this word\n"),
-    ("sign-tick", "bad line no call begins with this word\n"),
-    ("centre-tick", "bad line no call begins with this word\n"),
-    ("centre-restart", "bad line no call begins with this word\n"),
-    ("to-sign 0", "bad line no call begins with this word\n"),
-    ("to-centre 0", "bad line no call begins with this word\n"),
-    ("power-back 0", "bad line no call begins with this word\n"),
-    ("forge-sign 00", "bad line no call begins with this word\n"),
-    (
-        "forge-centre 00",
-        "bad line no call begins with this word\n",
-    ),
-    ("bench", "bad line no call begins with this word\n"),
-    ("end", "bad line no call begins with this word\n"),
-    ("# tick", "bad line no call begins with this word\n"),
-    ("", "bad line no call begins with this word\n"),
-    (" ", "bad line no call begins with this word\n"),
-    (
-        "tick ",
-        "bad line word 2: two spaces, or a space at an end of the line\n",
-    ),
-    (" tick", "bad line no call begins with this word\n"),
-    ("tick\r", "bad line no call begins with this word\n"),
-    ("status\n", "bad line no call begins with this word\n"),
+    ("last", NO_CALL),
+    ("state", NO_CALL),
+    ("show", NO_CALL),
+    ("power-lost", NO_CALL),
+    ("power-back 0", NO_CALL),
+    ("status\n", NO_CALL),
     (
         "status ",
         "bad line word 2: the word last, or the end of the line, is wanted\n",
     ),
-    (
-        "status last ",
-        "bad line word 3: two spaces, or a space at an end of the line\n",
-    ),
+    ("status last ", THIRD_SPACE),
 ];

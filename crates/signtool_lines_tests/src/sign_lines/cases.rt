@@ -1,5 +1,7 @@
 //! Lines to the bench sign with its answers, and pages as text.
 
+use crate::bad_lines::{NO_CALL, SECOND_SPACE, SECOND_WORD, THIRD_WORD};
+
 /// Lines to the bench sign, each after `> `, and under each its answer. A line that begins with `#` says in words what
 /// follows.
 pub const TALK: &str = "\
@@ -97,78 +99,16 @@ page 1 on 30 off 0 back 0
 ok
 ";
 
-/// The state of the bench sign as it is made, and without power while row 2.1 was shown.
-pub const SAVED: &str = "\
-> save
-state 1 sign
-defaults 0 9 5 5 1 3 2 30 0
-short-power-recovery 0700010000
-long-power-recovery 0700010000
-power-loss 0700010000
-end-duration 0700010000
-communications-loss 0700010000
-short-power-loss-time 0
-time-comm-loss 0
-silent 0
-shown - - 0 0 1
-shown-source 0700010000
-shown-mode 10
-shown-address 0.0.0.0
-shown-defaults 0 9 5 5 1 3 2 30 0
-kept - - 0 0 1
-kept-source 0700010000
-kept-mode 10
-kept-address 0.0.0.0
-kept-defaults 0 9 5 5 1 3 2 30 0
-validate-error 2
-activate-error 2
-syntax-error 2
-syntax-error-position 0
-accepted-code 000000000000000000000000
-failed-code 000000000000000000000000
-powered 1
-end
-ok
-# `admin` sets dmsActivateMessage.0 to row 2.1 with its checksum
-> datagram 3036020100040561646d696ea32a020109020100020100301f301d060d2b060104018936040203060300040cffff64020001750200000000
-accepted ffff64020001750200000000 3036020100040561646d696ea22a020109020100020100301f301d060d2b060104018936040203060300040cffff64020001750200000000
-> tick
-ok
-> power-lost
-ok
-> save
-state 1 sign
-defaults 0 9 5 5 1 3 2 30 0
-short-power-recovery 0700010000
-long-power-recovery 0700010000
-power-loss 0700010000
-end-duration 0700010000
-communications-loss 0700010000
-short-power-loss-time 0
-time-comm-loss 0
-silent 0
-shown - - 0 0 1
-shown-source 0700010000
-shown-mode 13
-shown-address 0.0.0.0
-shown-defaults 0 9 5 5 1 3 2 30 0
-kept 42 - 0 0 100
-kept-source 0200017502
-kept-mode 8
-kept-address 0.0.0.0
-kept-defaults 0 9 5 5 1 3 2 30 0
-validate-error 2
-activate-error 2
-syntax-error 2
-syntax-error-position 0
-accepted-code ffff64020001750200000000
-failed-code 000000000000000000000000
-powered 0
-end
-ok
-> save 1
-bad line word 2: no more words are wanted
-";
+/// Lines of the state of the bench sign without power, which shows permanent 1: the others are those of a new sign.
+pub const LINES_WITHOUT_POWER: [&str; 6] = [
+    "shown-mode 13",
+    "kept 42 - 0 0 100",
+    "kept-source 0200017502",
+    "kept-mode 8",
+    // the code of permanent 1
+    "accepted-code ffff64020001750200000000",
+    "powered 0",
+];
 
 /// Seconds by one line: a message for two minutes, and a silence of one minute, which `heard` begins again.
 pub const SECONDS: &str = "\
@@ -314,41 +254,8 @@ pub const STATE_WITHOUT_POWER: &str = "shown 7 1 0000 mode 13 priority 1 remaini
 ok
 ";
 
-/// Lines that spell no call, each with its answer.
-pub const BAD_LINES: [(&str, &str); 32] = [
-    // no word
-    ("", "bad line no call begins with this word\n"),
-    // no datagram
-    (
-        "datagram",
-        "bad line word 2: the line ends where a datagram in hexadecimal is wanted\n",
-    ),
-    // a capital letter
-    ("Datagram 00", "bad line no call begins with this word\n"),
-    // an odd number of digits
-    (
-        "datagram 0",
-        "bad line word 2: a datagram in hexadecimal is wanted\n",
-    ),
-    // a letter that is no digit
-    (
-        "datagram 0g",
-        "bad line word 2: a datagram in hexadecimal is wanted\n",
-    ),
-    // two datagrams
-    (
-        "datagram 00 00",
-        "bad line word 3: no more words are wanted\n",
-    ),
-    // a blank at the end
-    (
-        "datagram - ",
-        "bad line word 3: two spaces, or a space at an end of the line\n",
-    ),
-    // another word
-    ("datagrams -", "bad line no call begins with this word\n"),
-    // seconds after a tick
-    ("tick 1", "bad line word 2: no more words are wanted\n"),
+/// Lines that spell no call of a sign, each with its answer.
+pub const BAD_LINES: [(&str, &str); 17] = [
     // no number of seconds
     (
         "ticks",
@@ -365,35 +272,18 @@ pub const BAD_LINES: [(&str, &str); 32] = [
         "bad line word 2: a number from 0 to 4294967295 is wanted\n",
     ),
     // two numbers
-    ("ticks 1 1", "bad line word 3: no more words are wanted\n"),
+    ("ticks 1 1", THIRD_WORD),
     // a word after `heard`
-    ("heard 1", "bad line word 2: no more words are wanted\n"),
-    // a blank at the end
-    (
-        "tick ",
-        "bad line word 2: two spaces, or a space at an end of the line\n",
-    ),
-    // a carriage return
-    ("tick\r", "bad line no call begins with this word\n"),
-    // a blank before the word
-    (" tick", "bad line no call begins with this word\n"),
-    // another word
-    ("tock", "bad line no call begins with this word\n"),
+    ("heard 1", SECOND_WORD),
     // a word after `power-lost`
-    (
-        "power-lost 1",
-        "bad line word 2: no more words are wanted\n",
-    ),
+    ("power-lost 1", SECOND_WORD),
     // no number of seconds
     (
         "power-back",
         "bad line word 2: the line ends where a number from 0 to 4294967295 is wanted\n",
     ),
     // a blank at the end
-    (
-        "power-back ",
-        "bad line word 2: two spaces, or a space at an end of the line\n",
-    ),
+    ("power-back ", SECOND_SPACE),
     // a number below 0
     (
         "power-back -1",
@@ -415,20 +305,13 @@ pub const BAD_LINES: [(&str, &str); 32] = [
         "bad line word 2: a number from 0 to 4294967295 is wanted\n",
     ),
     // two numbers
-    (
-        "power-back 7 7",
-        "bad line word 3: no more words are wanted\n",
-    ),
+    ("power-back 7 7", THIRD_WORD),
     // an underscore
-    ("power_back 7", "bad line no call begins with this word\n"),
+    ("power_back 7", NO_CALL),
     // a word after `show`
-    ("show 1", "bad line word 2: no more words are wanted\n"),
+    ("show 1", SECOND_WORD),
     // a dash
-    ("show-", "bad line no call begins with this word\n"),
+    ("show-", NO_CALL),
     // a word after `state`
-    ("state 1", "bad line word 2: no more words are wanted\n"),
-    // an answer
-    ("ok", "bad line no call begins with this word\n"),
-    // another answer
-    ("bad line", "bad line no call begins with this word\n"),
+    ("state 1", SECOND_WORD),
 ];
