@@ -8,8 +8,9 @@ ghost use Rattle.dms_sign.specs.Events.{after_tick, after_ticks, after_power_los
 ghost use Rattle.dms_sign.specs.contracts.sign.Sign.{the_row as sign_row};
 ghost use Rattle.dms_agent.specs.contracts.agent.Agent.{the_row as agent_row};
 ghost use Rattle.dms_agent.specs.Values.{font_value, own_value, is_bare, showing_fonts};
-ghost use Rattle.dms_device.specs.Objects.{has_name};
+ghost use Rattle.dms_device.specs.Objects.{has_name, binding_of};
 ghost use Rattle.dms_device.specs.Publishing.{published, withdrawn};
+ghost use Rattle.dms_device.specs.Setting.{written};
 ghost use Rattle.dms_agent.specs.declared.agent.PublishFault.TheVariants.{OfTheSign, OutOfMemory};
 ghost use Rattle.dms_device.specs.Taken.{told, told_first};
 
@@ -132,6 +133,13 @@ impl Agent {
         ensures found { result ≡ list_any (has_name name.now) self.old.device }
     {
         self.device.withdraw(name)
+    }
+
+    /// Puts values back that a manager set before, as `Device::put_back` does.
+    pub fn put_back(&mut self, values: &[Object])
+        ensures { self.new ≡ record self.old { device = written self.old.device (map binding_of values.now) } }
+    {
+        self.device.put_back(values);
     }
 
     /// Notes that firmware was told of the first object that a manager set (`Device::first_set`).

@@ -4,6 +4,7 @@ use Rattle.std.specs.Prelude.{ℕ, if◌then◌else◌, false, not, List, [], �
 use Rattle.std.specs.Prelude.{is_some}
 use Rattle.std.specs.List.{flat_map}
 use Rattle.dms_wire_ber.specs.NameText.{dotted}
+use Rattle.dms_wire.specs.Message.{ObjectValue}
 use Rattle.dms_codes.specs.declared.codes.Order.{Order}
 use Rattle.dms_device.specs.Object.{DeviceObject, fits}
 use Rattle.dms_device.specs.Objects.{device_value}
@@ -30,11 +31,13 @@ refused why = ended (codes "refused " ++ why)
 abbrev pub received_text : Order → AgentReceived → List ℕ
 received_text order received = sign.receipt_line order received.reply received.accepted
 
+-- the line of an object's name and the value that a manager set
+abbrev pub value_line : List ℕ → ObjectValue → List ℕ
+value_line name value = (codes "set " ++ dotted name ++ codes " ") ++ value_text value ++ codes "\n"
+
 -- the line of an object that a manager set, and nothing of another
 abbrev pub set_line : DeviceObject → List ℕ
-set_line object =
-    if object.is_set
-    then (codes "set " ++ dotted object.name ++ codes " ") ++ value_text object.value ++ codes "\n" else []
+set_line object = if object.is_set then value_line object.name object.value else []
 
 abbrev pub set_lines : List DeviceObject → List ℕ
 set_lines objects = flat_map set_line objects
@@ -55,9 +58,15 @@ refused_or_ok (Some why) = refused why
 abbrev pub publish_text : Agent → NewObject → List ℕ
 publish_text a object = refused_or_ok (publish_refusal a object)
 
--- the object as it is published: no manager set it yet
+-- the object as it is published: its value is no manager's
 abbrev pub made : NewObject → DeviceObject
-made object = record { name = object.name; value = object.value; access = object.access; is_set = false }
+made object = record {
+  name = object.name;
+  value = object.value;
+  access = object.access;
+  is_set = false;
+  by_manager = false;
+}
 
 abbrev pub published_unless : Agent → NewObject → Option (List ℕ) → Agent
 published_unless a object None = record a { device = published a.device (made object) }

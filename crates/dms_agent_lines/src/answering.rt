@@ -1,7 +1,6 @@
 //! The answer of a live sign, and of the objects beside it, to a line.
 
-ghost use Rattle.std.specs.Prelude.{◌≡◌, ◌++◌, true, false, None, map, codes, IfOk, IfErr, OnOk, OnErr};
-ghost use Rattle.dms_wire_ber.specs.NameText.{dotted};
+ghost use Rattle.std.specs.Prelude.{◌≡◌, ◌++◌, true, false, None, map, IfOk, IfErr, OnOk, OnErr};
 ghost use Rattle.dms_wire.specs.View.{object_value};
 ghost use Rattle.dms_device.specs.Object.{can_be_sent, fits};
 ghost use Rattle.dms_device.specs.declared.fault.ObjectFault.TheVariants.{OutOfMemory};
@@ -10,11 +9,10 @@ ghost use Rattle.dms_device.specs.Taken.{told};
 ghost use Rattle.dms_agent.specs.Values.{own_value, showing_fonts};
 ghost use Rattle.dms_agent.specs.Received.{agent_received};
 ghost use Rattle.dms_text_streams.specs.Conversation.{ok_line};
-ghost use Rattle.dms_text_values.specs.ValueText.{value_text};
 ghost use Rattle.dms_agent_lines.specs.CallView.{call_model};
 ghost use Rattle.dms_agent_lines.specs.AgentAnswer.{answer_text, after_line, call_text, after_call, received_text};
 ghost use Rattle.dms_agent_lines.specs.AgentAnswer.{publish_text, after_publish, withdraw_text, after_withdraw};
-ghost use Rattle.dms_agent_lines.specs.AgentAnswer.{fonts_text, refused, set_line, set_lines};
+ghost use Rattle.dms_agent_lines.specs.AgentAnswer.{fonts_text, refused, value_line, set_line, set_lines};
 
 use crate::agent_call::{AgentCall, ObjectWords};
 use crate::cause::CallCause;
@@ -122,7 +120,13 @@ fn made(
     requires sent { can_be_sent (object_value value.now) ≡ true }
     requires fit { fits access (object_value value.now) ≡ true }
     ensures made { IfOk result (λ object. object
-        ≡ record { name = name.now; value = object_value value.now; access = access; is_set = false }) }
+        ≡ record {
+          name = name.now;
+          value = object_value value.now;
+          access = access;
+          is_set = false;
+          by_manager = false;
+        }) }
     ensures memory { IfErr result (λ fault. fault ≡ OutOfMemory) }
 {
     // the limits of a name are known where its numbers are looked at
@@ -224,8 +228,7 @@ fn put_set_line(alloc: Global, object: &Object, text: &mut Vec<u8>) -> io::Resul
 
 #[tactic(auto, using(crate::proofs::SetLines::parts))]
 fn put_set(alloc: Global, object: &Object, text: &mut Vec<u8>) -> io::Result<()>
-    ensures { OnOk result (text.new.items ≡ text.old.items ++ ((codes "set " ++ dotted object.now.name ++ codes " ")
-        ++ value_text object.now.value ++ codes "\n")) }
+    ensures { OnOk result (text.new.items ≡ text.old.items ++ value_line object.now.name object.now.value) }
 {
     write!(text, "set {} ", object.name())?;
     put_value(alloc, &object.value(), text)?;

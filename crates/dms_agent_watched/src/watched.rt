@@ -1,13 +1,14 @@
 //! A sign and the objects beside it, and how often its picture has changed.
 
-ghost use Rattle.std.specs.Prelude.{◌≡◌, false, [], None, Err, is_some, IsSome, OnOk, OnErr};
+ghost use Rattle.std.specs.Prelude.{◌≡◌, false, [], map, None, Err, is_some, IsSome, OnOk, OnErr};
 ghost use Rattle.std.specs.List.{list_any};
 ghost use Rattle.dms_sign.specs.Events.{after_tick, after_power_loss, after_power_return};
 ghost use Rattle.dms_sign.specs.Reply.{after_get};
 ghost use Rattle.dms_sign.specs.ReplyView.{sent, accepted_by};
 ghost use Rattle.dms_sign.specs.declared.sign.reply.Receipt.TheVariants.{Dropped};
-ghost use Rattle.dms_device.specs.Objects.{has_name};
+ghost use Rattle.dms_device.specs.Objects.{has_name, binding_of};
 ghost use Rattle.dms_device.specs.Publishing.{published, withdrawn};
+ghost use Rattle.dms_device.specs.Setting.{written};
 ghost use Rattle.dms_device.specs.Taken.{told_first};
 ghost use Rattle.dms_agent.specs.declared.agent.PublishFault.TheVariants.{OfTheSign, OutOfMemory};
 ghost use Rattle.dms_agent.specs.Values.{own_value, is_bare, showing_fonts};
@@ -224,6 +225,15 @@ impl Watched {
         ensures found { result ≡ list_any (has_name name.now) self.old.agent.device }
     {
         self.agent.withdraw(name)
+    }
+
+    /// Puts values back that a manager set before, as `Agent::put_back` does.
+    pub fn put_back(&mut self, values: &[Object])
+        ensures { self.new ≡ record self.old {
+          agent = record self.old.agent { device = written self.old.agent.device (map binding_of values.now) };
+        } }
+    {
+        self.agent.put_back(values);
     }
 
     /// Notes that firmware was told of the first object that a manager set.

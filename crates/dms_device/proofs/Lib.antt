@@ -6,3 +6,4 @@ pub mod Faultless
 pub mod Judging
 pub mod Naming
 pub mod Telling
+mod PutBack

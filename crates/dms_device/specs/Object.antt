@@ -16,6 +16,8 @@ pub record DeviceObject : Type 0 where
   pub access : Access
   -- a manager set it, and firmware was not told yet
   pub is_set : Bool
+  -- its value is one that a manager set, whether firmware was told or not
+  pub by_manager : Bool
 
 -- a manager may write the value: a number from least to most, or octets of which there are least to most
 abbrev pub admits : Access → ObjectValue → Bool
@@ -46,7 +48,7 @@ abbrev pub IsFirstFault : Option ObjectFault → ObjectFault → Type 0
 IsFirstFault (Some first) fault = fault ≡ first
 IsFirstFault None fault = fault ≡ OutOfMemory
 
--- the object as it is made: no manager set it yet
+-- the object as it is made: its value is no manager's
 abbrev pub new_object : List ℕ → ObjectValue → Access → DeviceObject
 new_object octets value access =
-    record { name = numbers_of octets; value = value; access = access; is_set = false }
+    record { name = numbers_of octets; value = value; access = access; is_set = false; by_manager = false }

@@ -69,9 +69,10 @@ refusal_of objects may_write bindings = refusal_after objects may_write [] bindi
 
 -- ---- what a Set writes
 
--- the object has the value, where it is one that may be written to it, and was set
+-- the object has the value, where it is one that may be written to it, and was set, by a manager
 abbrev pub set_to : DeviceObject → ObjectValue → DeviceObject
-set_to object value = if admits object.access value then record object { value = value; is_set = true } else object
+set_to object value =
+    if admits object.access value then record object { value = value; is_set = true; by_manager = true } else object
 
 abbrev pub set_by_binding : VarBind → DeviceObject → DeviceObject
 set_by_binding binding object = if has_name binding.name object then set_to object binding.value else object

@@ -12,6 +12,7 @@ was_set object = object.is_set
 abbrev pub set_bindings : List DeviceObject → List VarBind
 set_bindings objects = map binding_of (filter was_set objects)
 
+-- a value of which firmware was told stays the manager's
 abbrev pub told : DeviceObject → DeviceObject
 told object = record object { is_set = false }
 

@@ -5,9 +5,9 @@ ghost use Rattle.std.specs.Prelude.{OnOk, OnErr, IfSome, IfNone};
 ghost use Rattle.std.specs.List.{list_any};
 ghost use Rattle.dms_wire.specs.Limits.{most_bindings};
 ghost use Rattle.dms_wire.specs.View.{var_bind};
-ghost use Rattle.dms_device.specs.Objects.{has_name, rises};
+ghost use Rattle.dms_device.specs.Objects.{has_name, rises, binding_of};
 ghost use Rattle.dms_device.specs.Publishing.{published, withdrawn};
-ghost use Rattle.dms_device.specs.Setting.{are_all_named, refusal_of, written_unless};
+ghost use Rattle.dms_device.specs.Setting.{are_all_named, refusal_of, written, written_unless};
 ghost use Rattle.dms_device.specs.Taken.{set_bindings, told, told_first};
 ghost use Rattle.dms_device.specs.View.{refusal_in};
 
@@ -16,7 +16,7 @@ use crate::object::Object;
 use crate::places::{
     NO_PLACES, place_after, place_of, place_set, put_object, take_object, tell_object, tell_objects,
 };
-use crate::setting::{judged, judged_own, set_objects};
+use crate::setting::{judged, judged_own, put_values, set_objects};
 use dms_mib_replies::{Next, NextName, Objects};
 use dms_wire::{Bind, Binds, Oid, Value};
 use std::alloc::{AllocError, Global};
@@ -126,6 +126,14 @@ impl Device {
             set_objects(&mut self.objects, binds, &places);
         }
         Some(done)
+    }
+
+    /// Puts values back that a manager set before: each object has the value of the last of these with its name that
+    /// it takes, as one that a manager set and of which firmware was not told. Others are left out. It takes no memory.
+    pub fn put_back(&mut self, values: &[Object])
+        ensures { self.new ≡ written self.old (map binding_of values.now) }
+    {
+        put_values(&mut self.objects, values);
     }
 
     /// The first object, by its name, that a manager set and of which firmware was not told yet, with what was set.

@@ -25,6 +25,8 @@ pub struct Object {
     access: Access,
     /// A manager set it, and firmware was not told yet.
     is_set: bool,
+    /// Its value is one that a manager set.
+    by_manager: bool,
 }
 
 impl Model for Object {
@@ -38,6 +40,7 @@ impl Model for Object {
       value = held_value a.value;
       access = a.access;
       is_set = a.is_set;
+      by_manager = a.by_manager;
     } };
 
     ghost invariant = { λ a. IsHeldFor a.access a.value };
@@ -81,6 +84,7 @@ impl Object {
             value,
             access,
             is_set: false,
+            by_manager: false,
         })
     }
 
@@ -112,6 +116,13 @@ impl Object {
         self.is_set
     }
 
+    /// Whether its value is one that a manager set, firmware told of it or not.
+    pub fn is_by_manager(&self) -> bool
+        ensures { result ≡ self.now.by_manager }
+    {
+        self.by_manager
+    }
+
     pub(crate) fn has_name(&self, name: &Oid<'_>) -> bool
         ensures { result ≡ has_name name.now self.now }
     {
@@ -132,6 +143,7 @@ impl Object {
         if access.admits(value) {
             assign(&mut self.value, &access, value);
             self.is_set = true;
+            self.by_manager = true;
         }
     }
 

@@ -1,12 +1,13 @@
 //! A manager's Set: each binding is judged, in order; then all values are assigned.
 
-ghost use Rattle.std.specs.Prelude.{◌≡◌, ◌<◌, ◌≤◌, true, take, length, is_some, IfSome};
+ghost use Rattle.std.specs.Prelude.{◌≡◌, ◌<◌, ◌≤◌, true, map, take, length, is_some, IfSome};
 ghost use Rattle.std.specs.List.{list_all, HoldsAt};
 ghost use Rattle.dms_wire.specs.Limits.{most_bindings};
 ghost use Rattle.dms_wire.specs.View.{var_bind};
 ghost use Rattle.dms_sign_access.specs.Slots.{AreTaken};
-ghost use Rattle.dms_device.specs.Objects.{has_name, rises};
-ghost use Rattle.dms_device.specs.Setting.{is_named, are_all_named, refusal_at, refusal_of, written};
+ghost use Rattle.dms_device.specs.Objects.{has_name, rises, binding_of};
+ghost use Rattle.dms_device.specs.Setting.{is_named, are_all_named, refusal_at, refusal_of};
+ghost use Rattle.dms_device.specs.Setting.{set_by_binding, written};
 ghost use Rattle.dms_device.specs.View.{refusal_in, status_in};
 
 use crate::fault::Refusal;
@@ -148,4 +149,31 @@ pub(crate) fn set_objects(objects: &mut Vec<Object>, binds: &Binds<'_>, places: 
         set_object(objects, &binding, places[at] as usize);
         at = (at + 1) % PLACES;
     }
+}
+
+/// Sets each object to the value of the one of these that has its name, one after the other, where it takes it.
+#[tactic(auto, using(crate::proofs::PutBack::values))]
+pub(crate) fn put_values(objects: &mut Vec<Object>, values: &[Object])
+    requires { rises objects.old.items ≡ true }
+    ensures done { objects.new.items ≡ written objects.old.items (map binding_of values.now) }
+    ensures rises { rises objects.new.items ≡ true }
+{
+    let mut rest = values;
+    while let [value, others @ ..] = rest {
+        put_value(objects, value);
+        rest = others;
+    }
+}
+
+/// Sets the object of this one's name to its value, where it takes it.
+fn put_value(objects: &mut Vec<Object>, value: &Object)
+    requires { rises objects.old.items ≡ true }
+    ensures done { objects.new.items ≡ map (set_by_binding (binding_of value.now)) objects.old.items }
+    ensures rises { rises objects.new.items ≡ true }
+{
+    let binding = Bind {
+        name: value.name(),
+        value: value.value(),
+    };
+    set_object(objects, &binding, 0);
 }

@@ -7,7 +7,8 @@ use Rattle.dms_agent_lines.proofs.answering.made.Goals as goal
 pub returns-clause-made : goal.returns-clause-made
 returns-clause-made c =
     subst (λ name. IfOk c.new.result
-    (λ (object : DeviceObject). object ≡ record { name = name; value = object_value c.args.value.now; access = c.args.access; is_set = false }))
+    (λ (object : DeviceObject). object
+    ≡ record { name = name; value = object_value c.args.value.now; access = c.args.access; is_set = false; by_manager = false }))
     (numbers_again c.args.name.now c.content.result.now c.numbers.ensures.in_limits c.content.ensures) c.new.ensures.made
 
 pub returns-clause-memory : goal.returns-clause-memory
