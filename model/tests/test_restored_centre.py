@@ -14,7 +14,7 @@ from model.state_text import Refused
 from .test_restored import of_process
 from .test_saved_centre import TEXTS
 
-STATES = sorted(name for name in TEXTS if name.endswith("_STATE"))
+STATES = sorted(TEXTS)
 BLANK = TEXTS["BLANK_STATE"]
 FILLING = TEXTS["FILLING_STATE"]
 OCTETS = b"0123456789af -.\n\r#"

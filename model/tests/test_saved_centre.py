@@ -1,17 +1,16 @@
 """The state of a central system as text: what the model writes is what the program's test wants."""
 
-import pathlib
-import re
-
 import pytest
 
 from model import text
 from model.centre import Centre
 from model.saved_centre import saved
 
-FOLDER = pathlib.Path(__file__).parents[2] / "crates/dms_centre_state_tests/src"
-CONSTANT = re.compile(r'const (\w+): &str = "\\\n([^"]*)";')
-TEXTS = {one[1]: one[2] for name in ("cases.rt", "states.rt") for one in CONSTANT.finditer((FOLDER / name).read_text())}
+from .program_texts import lists, texts
+
+CASES = "dms_centre_state_tests/src/cases.rt"
+SCRIPTS = dict(lists(CASES, texts(CASES)))
+TEXTS = texts("dms_centre_state_tests/src/states.rt")
 COMMANDS = {
     "publish": b"publish 3 1 41 6f70 0 0 200 3 255 192.0.2.7",
     "publish-late": b"publish 4 2 5b6e6c395d - 1 0 7 65535 6 10.0.0.255",
@@ -35,9 +34,10 @@ def play(centre: Centre, script: str) -> None:
             centre.command(text.event(COMMANDS[word].split(b" "), centre.swapped))
 
 
-@pytest.mark.parametrize("script", [name for name in TEXTS if not name.endswith("_STATE")])
+@pytest.mark.parametrize("script", SCRIPTS)
 def test_states_are_those_of_the_program(script: str) -> None:
     late = script in ("LATE", "USED_UP")
     centre = Centre(b"admin", late, 2_147_483_645 if late else 7)
-    play(centre, TEXTS[script])
+    for part in SCRIPTS[script]:
+        play(centre, part)
     assert "\n".join([*saved(centre), ""]) == TEXTS[f"{script}_STATE"]

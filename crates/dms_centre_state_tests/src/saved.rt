@@ -12,7 +12,7 @@ fn leaves(
     alloc: Global,
     order: Order,
     first: u32,
-    script: &str,
+    script: &[&str],
     wanted: &str,
 ) -> Result<bool, &'static str> {
     let mut centre = centre_of(alloc, order, first)?;
@@ -24,7 +24,7 @@ fn leaves(
 #[test]
 fn new_centres_have_their_number(rt: HostRuntime) -> Result<(), Fail> {
     let wanted = "state 1 centre\nnext 4294967295\nlast none\nidle\nend\n";
-    assert!(rt; leaves(rt.alloc(), Order::High, 4294967295, "", wanted)?);
+    assert!(rt; leaves(rt.alloc(), Order::High, 4294967295, &[], wanted)?);
     Ok(())
 }
 

@@ -78,28 +78,34 @@ fn tick(centre: &mut Centre, digits: &str, out: &mut Out) -> Result<(), &'static
     Ok(())
 }
 
-/// What a script does to a central system. What goes out is looked at in dms_centre_tests.
-pub fn play(centre: &mut Centre, script: &str) -> Result<(), &'static str> {
+/// What a line of a script does to a central system.
+fn play_line(centre: &mut Centre, line: &str, out: &mut Out) -> Result<(), &'static str> {
+    let (word, rest) = line.split_once(' ').unwrap_or((line, ""));
+    let command = match word {
+        "publish" => PUBLISH,
+        "publish-late" => PUBLISH_LATE,
+        "blank" => BLANK,
+        "activate" => ACTIVATE,
+        ">" => return receive(centre, rest, out),
+        "tick" => return tick(centre, rest, out),
+        "restart" => {
+            centre.restart();
+            return Ok(());
+        }
+        "#" => return Ok(()),
+        _ => return Err("no such word"),
+    };
+    let _ = centre.command(command, out);
+    Ok(())
+}
+
+/// What the parts of a script do to a central system. What goes out is looked at in dms_centre_tests.
+pub fn play(centre: &mut Centre, script: &[&str]) -> Result<(), &'static str> {
     let mut out = Out::new();
-    for line in script.lines() {
-        let (word, rest) = line.split_once(' ').unwrap_or((line, ""));
-        let command = match word {
-            "publish" => PUBLISH,
-            "publish-late" => PUBLISH_LATE,
-            "blank" => BLANK,
-            "activate" => ACTIVATE,
-            _ => {
-                match word {
-                    ">" => receive(centre, rest, &mut out)?,
-                    "tick" => tick(centre, rest, &mut out)?,
-                    "restart" => centre.restart(),
-                    "#" => {}
-                    _ => return Err("no such word"),
-                }
-                continue;
-            }
-        };
-        let _ = centre.command(command, &mut out);
+    for part in script {
+        for line in part.lines() {
+            play_line(centre, line, &mut out)?;
+        }
     }
     Ok(())
 }
