@@ -1,7 +1,7 @@
--- The lines of a job that is on are read as that job.
-use Rattle.std.proofs.Common.{◌≡◌, ℕ, ◌+◌, ◌<◌, ◌≤◌, ◌==◌, ◌||◌, ◌&&◌, Bool, true, false, cond, is_none, List, [], ◌∷◌, ◌++◌, length, nat_le, nat_lt, Option, Some, None, decimal, codes, refl, sym, ap, subst, ◌∙◌, append_assoc, arith}
+-- The lines of a job's step and of its work are read as those.
+use Rattle.std.proofs.Common.{◌≡◌, ℕ, ◌<◌, ◌≤◌, ◌==◌, ◌||◌, ◌&&◌, Bool, true, false, cond, is_none, List, [], ◌∷◌, ◌++◌, length, nat_le, nat_lt, Option, Some, None, decimal, codes, refl, sym, ap, subst, ◌∙◌, append_assoc, arith}
 use Rattle.std.specs.List.{AllByRecursion}
-use Rattle.std.proofs.lemmas.Bool.{and_from, and_right, le-leb, leb-true, ltb-true, false≢true}
+use Rattle.std.proofs.lemmas.Bool.{and_from, and_right, leb-true, ltb-true, false≢true}
 use Rattle.std.proofs.lemmas.Bool.Decides.{nat_tests}
 use Rattle.hex.specs.Hex.{IsBytes}
 use Rattle.dms_wire_ber.specs.NameText.{dotted}
@@ -18,26 +18,22 @@ use Rattle.dms_codes.specs.declared.codes.Activation.{Activation}
 use Rattle.dms_codes.specs.Codes.{IsActivation}
 use Rattle.dms_centre_jobs.specs.declared.step.Step.{Step}
 use Rattle.dms_centre_jobs.specs.declared.step.Step.TheVariants as steps
-use Rattle.dms_centre_jobs.specs.Job.{SettingsModel, PublicationModel, Work, Publishing, Showing, Job}
+use Rattle.dms_centre_jobs.specs.Job.{PublicationModel, Work, Publishing, Showing}
 use Rattle.dms_centre_jobs.specs.Steps.{step_number}
 use Rattle.dms_centre_jobs.specs.Commands.{CommandModel, Publish, Activate, IsAddress, IsPublication, is_publishable, is_good, job_of}
 use Rattle.dms_centre_jobs.specs.Requests.{IsWork, OfPublishing, OfShowing}
 use Rattle.dms_centre.specs.declared.restoring.SavedStage.{SavedStage}
-use Rattle.dms_centre.specs.declared.restoring.SavedStage.TheVariants as stages
-use Rattle.dms_centre.specs.State.{Pending, Phase, Idle, Awaits, Due}
-use Rattle.dms_centre.specs.Restoring.{suits, is_sent_by_ticks}
+use Rattle.dms_centre.specs.Restoring.{suits}
 use Rattle.dms_centre_text.specs.CommandFields.{SpellsAddressPart, SpellsAddress}
 use Rattle.dms_centre_text.specs.CommandLine.{SpellsPublication}
 use Rattle.dms_centre_text.specs.CommandReading.{publish_at, command_word, command_of}
 use Rattle.dms_centre_text.proofs.CommandLaws.{command_only}
-use Rattle.dms_centre_state.specs.CentreText.{number_line, publish_line, work_line, job_text, phase_text}
-use Rattle.dms_centre_state.specs.Reached.{IsJob, IsPhaseOf}
+use Rattle.dms_centre_state.specs.CentreText.{number_line, publish_line, work_line}
 use Rattle.dms_centre_state.proofs.Words.{bytes_below}
-use Rattle.dms_centre_restored.specs.declared.lines.PhaseLine.TheVariants as phases
 use Rattle.dms_centre_restored.specs.WordReading.{behind, number_in, after_number, after_octets, after_address, code_in}
-use Rattle.dms_centre_restored.specs.LineReading.{field_at, number_line_at, phase_at, can_wait, waiting_at, step_of, comes_to, step_in, step_line_at, after_row, after_message, after_terms, is_last, are_terms, is_publication, publication_at, activation_at, is_of_showing, work_at, JobRead, job_at, job_in, job_lines_at}
+use Rattle.dms_centre_restored.specs.LineReading.{field_at, step_of, comes_to, step_in, step_line_at, after_row, after_message, after_terms, is_last, are_terms, is_publication, publication_at, activation_at, is_of_showing, work_at}
 use Rattle.dms_centre_restored.proofs.WordsRead.{some, behind_only, IsWord, spaced, words_spaced, spaced_free, spells_number, number_only_in, decimal_word, after_number_only, after_octets_only, octets_word, spells_octets, code_only, code_word, four_of, dotted_is, four_parts, address_word, after_address_only}
-use Rattle.dms_centre_restored.proofs.LinesRead.{field_only, number_line_only}
+use Rattle.dms_centre_restored.proofs.LinesRead.{field_only}
 
 -- ---- publications
 
@@ -88,19 +84,19 @@ is_fit p is good =
       address = is.address;
     }
 
-abbrev last_words : PublicationModel → List (List ℕ)
+abbrev pub last_words : PublicationModel → List (List ℕ)
 last_words p = decimal p.minutes ∷ decimal p.priority ∷ dotted p.address ∷ []
 
-abbrev attribute_words : PublicationModel → List (List ℕ)
+abbrev pub attribute_words : PublicationModel → List (List ℕ)
 attribute_words p = decimal p.beacon ∷ decimal p.pixel ∷ decimal p.run_priority ∷ last_words p
 
-abbrev more_words : PublicationModel → List (List ℕ)
+abbrev pub more_words : PublicationModel → List (List ℕ)
 more_words p = decimal p.number ∷ octets_text p.text ∷ octets_text p.owner ∷ attribute_words p
 
-abbrev words : PublicationModel → List ℕ
+abbrev pub words : PublicationModel → List ℕ
 words p = spaced (decimal p.memory) (more_words p)
 
-are_words : (p : PublicationModel) → IsFit p → IsWord (decimal p.memory) × AllByRecursion IsWord (more_words p)
+pub are_words : (p : PublicationModel) → IsFit p → IsWord (decimal p.memory) × AllByRecursion IsWord (more_words p)
 are_words p is =
     let number : (n : ℕ) → n ≤ 65535 → IsWord (decimal n) = λ n small. decimal_word n (omega (arith, small)) in (
       number p.memory (omega (arith, is.memory)),
@@ -158,7 +154,7 @@ terms_read p is =
     (dotted p.address ∷ []) (after_number_only 0 255 p.priority (dotted p.address ∷ []) (omega arith) is.priority (omega arith))
     ∙ after_address_only p.address [] is.address
 
-words_are : (p : PublicationModel) → IsFit p → words_of (words p) ≡ decimal p.memory ∷ more_words p
+pub words_are : (p : PublicationModel) → IsFit p → words_of (words p) ≡ decimal p.memory ∷ more_words p
 words_are p is = let are = are_words p is in words_spaced (decimal p.memory) (more_words p) are.0 are.1
 
 can_be_written : (p : PublicationModel) → IsFit p → is_publication (words p) ≡ true
@@ -220,7 +216,7 @@ behind_keyword : (value : List ℕ) → command_of High (codes "publish " ++ val
 unfolding command_of command_word word_at
 behind_keyword value = refl
 
-command_read : (p : PublicationModel) → IsFit p → publish_at (words_of (words p)) ≡ Some (Publish p)
+pub command_read : (p : PublicationModel) → IsFit p → publish_at (words_of (words p)) ≡ Some (Publish p)
 command_read p is = sym (behind_keyword (words p)) ∙ command_only High (codes "publish " ++ words p) (Publish p) (spells p is)
 
 publish_grouped : (name s memory number text owner beacon pixel run minutes priority address end rest : List ℕ)
@@ -228,7 +224,7 @@ publish_grouped : (name s memory number text owner beacon pixel run minutes prio
     ≡ name ++ ((memory ++ (s ++ (number ++ (s ++ (text ++ (s ++ (owner ++ (s ++ (beacon ++ (s ++ (pixel ++ (s ++ (run ++ (s ++ (minutes ++ (s ++ (priority ++ (s ++ address)))))))))))))))))) ++ (end ++ rest))
 publish_grouped name s memory number text owner beacon pixel run minutes priority address end rest = simp append_assoc
 
-publish_text : (p : PublicationModel) (rest : List ℕ) → publish_line p ++ rest ≡ codes "publish " ++ (words p ++ 10 ∷ rest)
+pub publish_text : (p : PublicationModel) (rest : List ℕ) → publish_line p ++ rest ≡ codes "publish " ++ (words p ++ 10 ∷ rest)
 publish_text p rest =
     publish_grouped (codes "publish ") (codes " ") (decimal p.memory) (decimal p.number) (octets_text p.text) (octets_text p.owner) (decimal p.beacon) (decimal p.pixel)
     (decimal p.run_priority) (decimal p.minutes) (decimal p.priority) (dotted p.address) (codes "\n") rest
@@ -276,10 +272,10 @@ suits_showing code steps.Comparing e = absurd (false≢true e)
 suits_showing code steps.Activating e = refl
 suits_showing code steps.Explaining e = refl
 
-published_behind : (p : PublicationModel) (rest : List ℕ) → is_none (behind (codes "publish ") (publish_line p ++ rest)) ≡ false
+pub published_behind : (p : PublicationModel) (rest : List ℕ) → is_none (behind (codes "publish ") (publish_line p ++ rest)) ≡ false
 published_behind p rest = ap (λ text. is_none (behind (codes "publish ") text)) (publish_text p rest) ∙ ap (λ (o : Option (List ℕ)). is_none o) (behind_only (codes "publish ") (words p ++ 10 ∷ rest))
 
-shown_behind : (order : Order) (code : Activation) (rest : List ℕ) → is_none (behind (codes "publish ") (work_line order (Showing code) ++ rest)) ≡ true
+pub shown_behind : (order : Order) (code : Activation) (rest : List ℕ) → is_none (behind (codes "publish ") (work_line order (Showing code) ++ rest)) ≡ true
 unfolding behind
 shown_behind order code rest = refl
 
@@ -297,7 +293,7 @@ work_only order step (Showing code) rest (OfShowing other is) suit =
 
 -- ---- steps
 
-step_back : (step : Step) → step_of (step_number step) ≡ step
+pub step_back : (step : Step) → step_of (step_number step) ≡ step
 step_back steps.Opening = refl
 step_back steps.Opened = refl
 step_back steps.Filling = refl
@@ -307,7 +303,7 @@ step_back steps.Comparing = refl
 step_back steps.Activating = refl
 step_back steps.Explaining = refl
 
-step_range : (step : Step) → (1 ≤ step_number step) × (step_number step ≤ 8)
+pub step_range : (step : Step) → (1 ≤ step_number step) × (step_number step ≤ 8)
 step_range steps.Opening = (omega arith, omega arith)
 step_range steps.Opened = (omega arith, omega arith)
 step_range steps.Filling = (omega arith, omega arith)
@@ -326,7 +322,7 @@ step_only stage step comes =
     ∙ ap (λ step. cond (comes_to stage step) (some step) None) (step_back step)
     ∙ ap (λ b. cond b (some step) None) comes
 
-step_line_only : (stage : SavedStage) (step : Step) (rest : List ℕ) → comes_to stage step ≡ true
+pub step_line_only : (stage : SavedStage) (step : Step) (rest : List ℕ) → comes_to stage step ≡ true
     → step_line_at stage (number_line (codes "step") (step_number step) ++ rest) ≡ Some (step, rest)
 unfolding step_line_at
 step_line_only stage step rest comes =
@@ -336,110 +332,3 @@ step_line_only stage step rest comes =
     ∙ goes_on (field_at (codes "step ") (codes "step " ++ (digits ++ 10 ∷ rest))) (λ field. step_in stage field.0 >>= (λ step. some (step, field.1))) (digits, rest)
     (field_only (codes "step ") digits rest (decimal_word (step_number step) (omega (arith, range.1))).line)
     ∙ goes_on (step_in stage digits) (λ step. some (step, rest)) step (step_only stage step comes)
-
--- ---- jobs
-
-abbrev pub read_of : Job → SavedStage → JobRead
-read_of job stage = record { command = command_back job.work; step = job.step; polls = job.polls; stage = stage }
-
-job_grouped : (step polls work rest : List ℕ) → (step ++ polls ++ work) ++ rest ≡ step ++ (polls ++ (work ++ rest))
-job_grouped step polls work rest = simp append_assoc
-
-pub job_only : (order : Order) (stage : SavedStage) (job : Job) (rest : List ℕ) → IsJob job → comes_to stage job.step ≡ true
-    → job_at order stage (job_text order job ++ rest) ≡ Some (read_of job stage, rest)
-unfolding job_at
-job_only order stage job rest is comes =
-    let work = work_line order job.work in
-    let polls = number_line (codes "polls") job.polls in
-    let step = number_line (codes "step") (step_number job.step) in
-    ap (λ text. job_at order stage text) (job_grouped step polls work rest)
-    ∙ goes_on (step_line_at stage (step ++ (polls ++ (work ++ rest))))
-    (λ step. number_line_at (codes "polls ") 0 9 step.1 >>= (λ polls. work_at order step.0 polls.1 >>= (λ work. some (record { command = work.0; step = step.0; polls = polls.0; stage = stage }, work.1))))
-    (job.step, polls ++ (work ++ rest)) (step_line_only stage job.step (polls ++ (work ++ rest)) comes)
-    ∙ goes_on (number_line_at (codes "polls ") 0 9 (polls ++ (work ++ rest)))
-    (λ polls. work_at order job.step polls.1 >>= (λ work. some (record { command = work.0; step = job.step; polls = polls.0; stage = stage }, work.1)))
-    (job.polls, work ++ rest) (number_line_only (codes "polls ") 0 9 job.polls (work ++ rest) (omega arith) (omega (arith, is.polls)) (omega arith))
-    ∙ goes_on (work_at order job.step (work ++ rest)) (λ work. some (record { command = work.0; step = job.step; polls = job.polls; stage = stage }, work.1))
-    (command_back job.work, rest) (work_only order job.step job.work rest is.work is.step)
-
--- ---- phases
-
-waiting_only : (sends ticks : ℕ) (rest : List ℕ) → 1 ≤ sends → sends ≤ 3 → ticks ≤ 2
-    → waiting_at (number_line (codes "sends") sends ++ (number_line (codes "ticks") ticks ++ rest)) ≡ Some (stages.Waits sends ticks, rest)
-unfolding waiting_at
-waiting_only sends ticks rest sent most young =
-    goes_on (number_line_at (codes "sends ") 1 3 (number_line (codes "sends") sends ++ (number_line (codes "ticks") ticks ++ rest)))
-    (λ sends. number_line_at (codes "ticks ") 0 2 sends.1 >>= (λ ticks. some (stages.Waits sends.0 ticks.0, ticks.1))) (sends, number_line (codes "ticks") ticks ++ rest)
-    (number_line_only (codes "sends ") 1 3 sends (number_line (codes "ticks") ticks ++ rest) sent most (omega arith))
-    ∙ goes_on (number_line_at (codes "ticks ") 0 2 (number_line (codes "ticks") ticks ++ rest)) (λ ticks. some (stages.Waits sends ticks.0, ticks.1)) (ticks, rest)
-    (number_line_only (codes "ticks ") 0 2 ticks rest (omega arith) young (omega arith))
-
-idle_line : (next : ℕ) (rest : List ℕ) → phase_at next (codes "idle\n" ++ rest) ≡ Some (phases.Idle, rest)
-unfolding phase_at behind
-idle_line next rest = refl
-
-due_line : (next : ℕ) (rest : List ℕ) → phase_at next (codes "due\n" ++ rest) ≡ Some (phases.Due, rest)
-unfolding phase_at behind
-due_line next rest = refl
-
-awaits_line : (next : ℕ) (rest : List ℕ) → can_wait next ≡ true → phase_at next (codes "awaits\n" ++ rest) ≡ Some (phases.Awaits, rest)
-unfolding phase_at behind
-awaits_line next rest can = ap (λ b. cond b (some (phases.Awaits, rest)) None) can
-
-abbrev pub job_of_phase : Phase → Option JobRead
-job_of_phase Idle = None
-job_of_phase (Awaits job pending) = Some (read_of job (stages.Waits pending.sends pending.age))
-job_of_phase (Due job) = Some (read_of job stages.Due)
-
-waits_grouped : (name sends ticks job rest : List ℕ) → (name ++ sends ++ ticks ++ job) ++ rest ≡ name ++ (sends ++ (ticks ++ (job ++ rest)))
-waits_grouped name sends ticks job rest = simp append_assoc
-
--- what its lines need
-pub record CanWait (next : ℕ) (job : Job) (pending : Pending) : Type 0 where
-  pub can : can_wait next ≡ true
-  pub good : IsJob job
-  pub sent : 1 ≤ pending.sends
-  pub sends : pending.sends ≤ 3
-  pub age : pending.age ≤ 2
-
-abbrev pub CanBe : ℕ → Phase → Type 0
-CanBe next Idle = Unit {0}
-CanBe next (Awaits job pending) = CanWait next job pending
-CanBe next (Due job) = IsJob job × (is_sent_by_ticks job.step ≡ true)
-
-waits_can : (number next : ℕ) → number + 1 ≡ next → number ≤ 2147483647 → can_wait next ≡ true
-waits_can number next is most =
-    and_from (nat_le 1 next) (nat_le next 2147483648) (le-leb 1 next (omega (arith, is))) (le-leb next 2147483648 (omega (arith, is, most)))
-
-pub can_be : (settings : SettingsModel) (next : ℕ) (phase : Phase) → IsPhaseOf settings next phase → CanBe next phase
-can_be settings next Idle is = tt
-can_be settings next (Awaits job pending) is = record {
-  can = waits_can pending.number next is.1.newest is.1.number;
-  good = is.0;
-  sent = is.1.sent;
-  sends = is.1.sends;
-  age = omega (arith, is.1.age);
-}
-can_be settings next (Due job) is = is
-
-pub phase_only : (order : Order) (next : ℕ) (phase : Phase) (rest : List ℕ) → CanBe next phase
-    → job_lines_at order next (phase_text order phase ++ rest) ≡ Some (job_of_phase phase, rest)
-unfolding job_lines_at
-phase_only order next Idle rest is =
-    goes_on (phase_at next (codes "idle\n" ++ rest)) (λ phase. job_in order phase.0 phase.1) (phases.Idle, rest) (idle_line next rest)
-phase_only order next (Awaits job pending) rest is =
-    let sends = number_line (codes "sends") pending.sends in
-    let ticks = number_line (codes "ticks") pending.age in
-    let lines = job_text order job ++ rest in
-    let stage = stages.Waits pending.sends pending.age in
-    ap (λ text. job_lines_at order next text) (waits_grouped (codes "awaits\n") sends ticks (job_text order job) rest)
-    ∙ goes_on (phase_at next (codes "awaits\n" ++ (sends ++ (ticks ++ lines)))) (λ phase. job_in order phase.0 phase.1) (phases.Awaits, sends ++ (ticks ++ lines))
-    (awaits_line next (sends ++ (ticks ++ lines)) is.can)
-    ∙ goes_on (waiting_at (sends ++ (ticks ++ lines))) (λ stage. job_at order stage.0 stage.1 >>= (λ job. some (some job.0, job.1))) (stage, lines)
-    (waiting_only pending.sends pending.age lines is.sent is.sends is.age)
-    ∙ goes_on (job_at order stage lines) (λ job. some (some job.0, job.1)) (read_of job stage, rest) (job_only order stage job rest is.good refl)
-phase_only order next (Due job) rest is =
-    let lines = job_text order job ++ rest in
-    ap (λ text. job_lines_at order next text) (append_assoc (codes "due\n") (job_text order job) rest)
-    ∙ goes_on (phase_at next (codes "due\n" ++ lines)) (λ phase. job_in order phase.0 phase.1) (phases.Due, lines) (due_line next lines)
-    ∙ goes_on (job_at order stages.Due lines) (λ job. some (some job.0, job.1)) (read_of job stages.Due, rest) (job_only order stages.Due job rest is.0 is.1)

@@ -10,6 +10,7 @@ use Rattle.dms_text.proofs.WordLaws.{goes_on, word_only}
 use Rattle.dms_text_forms.specs.LineText.{code_text}
 use Rattle.dms_text_forms.specs.FieldsReading.{if_last}
 use Rattle.dms_codes.specs.declared.codes.Order.{Order}
+use Rattle.dms_codes.specs.Codes.{IsActivation}
 use Rattle.dms_centre.specs.declared.ended.Ended.{Ended}
 use Rattle.dms_centre.specs.declared.ended.Ended.TheVariants as endings
 use Rattle.dms_centre.specs.declared.ended.Why.{Why}
@@ -18,12 +19,12 @@ use Rattle.dms_centre.specs.declared.outcome.Outcome.{Outcome}
 use Rattle.dms_centre.specs.declared.outcome.Outcome.TheVariants as outcomes
 use Rattle.dms_centre.specs.Texts.{outcome_text, why_text}
 use Rattle.dms_centre.specs.State.{Entry}
-use Rattle.dms_centre_state.specs.CentreText.{number_line, last_line, ledger_line}
+use Rattle.dms_centre_state.specs.CentreText.{last_line, ledger_line}
 use Rattle.dms_centre_state.specs.Reached.{IsOutcome, IsEntry, IsWhy, IsEnded}
 use Rattle.dms_centre_state.proofs.Tells.{IsFree}
 use Rattle.dms_centre_restored.specs.WordReading.{behind, line_at, number_in, signed_in, code_in}
-use Rattle.dms_centre_restored.specs.LineReading.{field_at, number_line_at, first_lines_at, why_alone, why_numbered, why_of_row, why_caused, why_in, step_digit, failed_at, ended_in, known, known_at, refused_at, outcome_at, entry_in, entry_line_at}
-use Rattle.dms_centre_restored.proofs.WordsRead.{some, behind_only, line_only, free_append, part_first, part_only, number_only_in, decimal_free, decimal_word, decimal_some, mag_small, signed_only, signed_word, signed_some, code_only, code_word, code_some}
+use Rattle.dms_centre_restored.specs.LineReading.{field_at, number_line_at, why_alone, why_numbered, why_of_row, why_caused, why_in, step_digit, failed_at, ended_in, known, known_at, refused_at, outcome_at, entry_in, entry_line_at}
+use Rattle.dms_centre_restored.proofs.WordsRead.{IsShort, some, behind_only, line_only, free_append, part_first, part_only, number_only_in, decimal_free, decimal_word, decimal_some, short_in, signed_only, signed_word, signed_some, code_only, code_word, code_some}
 
 pub field_only : (name value rest : List ℕ) → IsFree 10 value → field_at name (name ++ (value ++ 10 ∷ rest)) ≡ Some (value, rest)
 unfolding field_at
@@ -39,36 +40,29 @@ number_line_only name low high n rest least most small =
     (field_only name (decimal n) rest (decimal_free 10 n (omega arith) (omega (arith, most, small))))
     ∙ goes_on (number_in low high (decimal n)) (λ number. some (number, rest)) n (number_only_in low high n least most small)
 
-pub first_lines_only : (next : ℕ) (rest : List ℕ) → next < 2 ^ 32 → first_lines_at (codes "state 1 centre\n" ++ (number_line (codes "next") next ++ rest)) ≡ Some (next, rest)
-unfolding first_lines_at
-first_lines_only next rest small =
-    goes_on (behind (codes "state 1 centre\n") (codes "state 1 centre\n" ++ (number_line (codes "next") next ++ rest))) (λ rest. number_line_at (codes "next ") 0 4294967295 rest)
-    (number_line (codes "next") next ++ rest) (behind_only (codes "state 1 centre\n") (number_line (codes "next") next ++ rest))
-    ∙ number_line_only (codes "next ") 0 4294967295 next rest (omega arith) (omega (arith, small)) (omega arith)
-
 -- ---- how the last job ended
 
 pub why_only : (why : Why) → IsWhy why → why_in (why_text why) ≡ Some why
 unfolding why_alone why_numbered why_of_row why_caused behind
-why_only (reasons.Status z) is = goes_on (signed_in (signed_decimal z)) (λ n. some (reasons.Status n)) z (signed_only z (mag_small z is))
-why_only (reasons.WrongStatus z) is = goes_on (signed_in (signed_decimal z)) (λ n. some (reasons.WrongStatus n)) z (signed_only z (mag_small z is))
+why_only (reasons.Status z) is = goes_on (signed_in (signed_decimal z)) (λ n. some (reasons.Status n)) z (signed_only z (short_in z is))
+why_only (reasons.WrongStatus z) is = goes_on (signed_in (signed_decimal z)) (λ n. some (reasons.WrongStatus n)) z (signed_only z (short_in z is))
 why_only reasons.StillValidating is = refl
 why_only reasons.OtherChecksum is = refl
 why_only reasons.NoReply is = refl
 why_only reasons.NumbersUsedUp is = refl
 why_only reasons.OddReply is = refl
-why_only (reasons.Cause z) is = goes_on (signed_in (signed_decimal z)) (λ n. some (reasons.Cause n)) z (signed_only z (mag_small z is))
+why_only (reasons.Cause z) is = goes_on (signed_in (signed_decimal z)) (λ n. some (reasons.Cause n)) z (signed_only z (short_in z is))
 why_only reasons.Restarted is = refl
 
 why_free : (why : Why) → IsWhy why → IsFree 10 (why_text why)
-why_free (reasons.Status z) is = (signed_word z is).line
-why_free (reasons.WrongStatus z) is = (signed_word z is).line
+why_free (reasons.Status z) is = (signed_word z (short_in z is)).line
+why_free (reasons.WrongStatus z) is = (signed_word z (short_in z is)).line
 why_free reasons.StillValidating is = refl
 why_free reasons.OtherChecksum is = refl
 why_free reasons.NoReply is = refl
 why_free reasons.NumbersUsedUp is = refl
 why_free reasons.OddReply is = refl
-why_free (reasons.Cause z) is = (signed_word z is).line
+why_free (reasons.Cause z) is = (signed_word z (short_in z is)).line
 why_free reasons.Restarted is = refl
 
 step_digit_only : (step : ℕ) → 1 ≤ step → step ≤ 8 → step_digit (48 + step) ≡ Some step
@@ -77,19 +71,19 @@ step_digit_only step least most =
     ap (λ b. cond b (some (48 + step - 48)) None) (and_from (nat_le 49 (48 + step)) (nat_le (48 + step) 56) (le-leb 49 (48 + step) (omega (arith, least))) (le-leb (48 + step) 56 (omega (arith, most))))
     ∙ ap some same
 
-abbrev failure : ℕ → List ℕ → List ℕ
+abbrev pub failure : ℕ → List ℕ → List ℕ
 failure step why = codes "failed at step " ++ ((48 + step) ∷ (codes ": " ++ why))
 
-failure_only : (step : ℕ) (why : Why) → 1 ≤ step → step ≤ 8 → IsWhy why → ended_in (failure step (why_text why)) ≡ Some (endings.Failed step why)
+pub failure_only : (step : ℕ) (why : Why) → 1 ≤ step → step ≤ 8 → IsWhy why → ended_in (failure step (why_text why)) ≡ Some (endings.Failed step why)
 unfolding ended_in failed_at behind
 failure_only step why least most is =
     goes_on (step_digit (48 + step)) (λ step. why_in (why_text why) >>= (λ why. some (endings.Failed step why))) step (step_digit_only step least most)
     ∙ goes_on (why_in (why_text why)) (λ why. some (endings.Failed step why)) why (why_only why is)
 
-failure_free : (step : ℕ) (why : Why) → IsWhy why → IsFree 10 (failure step (why_text why))
+pub failure_free : (step : ℕ) (why : Why) → IsWhy why → IsFree 10 (failure step (why_text why))
 failure_free step why is = or_from (48 + step == 10) (list_any (λ octet. octet == 10) (why_text why)) (ne_eqb (48 + step) 10 (λ e. omega (arith, e))) (why_free why is)
 
-failure_line : (step : ℕ) (why : Why) (rest : List ℕ) → step ≤ 8 → last_line (endings.Failed step why) ++ rest ≡ codes "last " ++ (failure step (why_text why) ++ 10 ∷ rest)
+pub failure_line : (step : ℕ) (why : Why) (rest : List ℕ) → step ≤ 8 → last_line (endings.Failed step why) ++ rest ≡ codes "last " ++ (failure step (why_text why) ++ 10 ∷ rest)
 failure_line step why rest most =
     ap (λ digits. (codes "last failed at step " ++ digits ++ codes ": " ++ (why_text why ++ codes "\n")) ++ rest) (decimal_digit step (omega (arith, most)))
     ∙ ap (λ end. codes "last failed at step " ++ ((48 + step) ∷ (codes ": " ++ end))) (append_assoc (why_text why) (codes "\n") rest)
@@ -112,15 +106,34 @@ end_line (endings.Failed step why) rest is = record {
 
 -- ---- entries of the ledger
 
-refused_only : (z : ℤ) → IsOutcome (outcomes.Refused z) → refused_at (words_of (signed_decimal z)) ≡ Some (outcomes.Refused z)
-unfolding refused_at
-refused_only z is =
-    let word = signed_decimal z in
-    ap (λ words. refused_at words) (part_only 32 word (signed_word z is).space)
-    ∙ goes_on (word_at (word ∷ [])) (λ found. signed_in found.0 >>= (λ status. if_last (outcomes.Refused status) found.1)) (word, []) (word_only word [] (signed_some z (mag_small z is)))
-    ∙ goes_on (signed_in word) (λ status. if_last (outcomes.Refused status) []) z (signed_only z (mag_small z is))
+-- the number of an error-status that ten digits can spell
+abbrev pub IsSpelledOutcome : Outcome → Type 0
+IsSpelledOutcome (outcomes.Refused z) = IsShort z
+IsSpelledOutcome outcome = Unit {0}
 
-outcome_only : (outcome : Outcome) → IsOutcome outcome → outcome_at (words_of (outcome_text outcome)) ≡ Some outcome
+pub record IsSpelledEntry (entry : Entry) : Type 0 where
+  pub code : IsActivation entry.code
+  pub outcome : IsSpelledOutcome entry.outcome
+
+spelled_outcome : (outcome : Outcome) → IsOutcome outcome → IsSpelledOutcome outcome
+spelled_outcome outcomes.Waiting is = tt
+spelled_outcome outcomes.Accepted is = tt
+spelled_outcome (outcomes.Refused z) is = short_in z is
+spelled_outcome outcomes.NoReply is = tt
+spelled_outcome outcomes.Unknown is = tt
+
+pub spelled_entry : (entry : Entry) → IsEntry entry → IsSpelledEntry entry
+spelled_entry entry is = record { code = is.code; outcome = spelled_outcome entry.outcome is.outcome }
+
+refused_only : (z : ℤ) → IsShort z → refused_at (words_of (signed_decimal z)) ≡ Some (outcomes.Refused z)
+unfolding refused_at
+refused_only z small =
+    let word = signed_decimal z in
+    ap (λ words. refused_at words) (part_only 32 word (signed_word z small).space)
+    ∙ goes_on (word_at (word ∷ [])) (λ found. signed_in found.0 >>= (λ status. if_last (outcomes.Refused status) found.1)) (word, []) (word_only word [] (signed_some z small))
+    ∙ goes_on (signed_in word) (λ status. if_last (outcomes.Refused status) []) z (signed_only z small)
+
+outcome_only : (outcome : Outcome) → IsSpelledOutcome outcome → outcome_at (words_of (outcome_text outcome)) ≡ Some outcome
 unfolding outcome_at known_at known word_at
 outcome_only outcomes.Waiting is = refl
 outcome_only outcomes.Accepted is = refl
@@ -128,32 +141,32 @@ outcome_only (outcomes.Refused z) is = refused_only z is
 outcome_only outcomes.NoReply is = refl
 outcome_only outcomes.Unknown is = refl
 
-outcome_free : (outcome : Outcome) → IsOutcome outcome → IsFree 10 (outcome_text outcome)
+outcome_free : (outcome : Outcome) → IsSpelledOutcome outcome → IsFree 10 (outcome_text outcome)
 outcome_free outcomes.Waiting is = refl
 outcome_free outcomes.Accepted is = refl
 outcome_free (outcomes.Refused z) is = (signed_word z is).line
 outcome_free outcomes.NoReply is = refl
 outcome_free outcomes.Unknown is = refl
 
-abbrev entry_words : Order → Entry → List ℕ
+abbrev pub entry_words : Order → Entry → List ℕ
 entry_words order entry = decimal entry.number ++ 32 ∷ (code_text order entry.code ++ 32 ∷ outcome_text entry.outcome)
 
-entry_grouped : (name s number code outcome end rest : List ℕ)
+pub entry_grouped : (name s number code outcome end rest : List ℕ)
     → (name ++ number ++ s ++ code ++ s ++ (outcome ++ end)) ++ rest ≡ name ++ ((number ++ (s ++ (code ++ (s ++ outcome)))) ++ (end ++ rest))
 entry_grouped name s number code outcome end rest = simp append_assoc
 
-entry_free : (order : Order) (entry : Entry) → entry.number < 2 ^ 64 → IsEntry entry → IsFree 10 (entry_words order entry)
+pub entry_free : (order : Order) (entry : Entry) → entry.number < 2 ^ 64 → IsSpelledEntry entry → IsFree 10 (entry_words order entry)
 entry_free order entry small is =
     free_append 10 (decimal entry.number) (32 ∷ (code_text order entry.code ++ 32 ∷ outcome_text entry.outcome)) (decimal_free 10 entry.number (omega arith) small)
     (free_append 10 (code_text order entry.code) (32 ∷ outcome_text entry.outcome) (code_word order entry.code is.code).line (outcome_free entry.outcome is.outcome))
 
-entry_words_are : (order : Order) (entry : Entry) → entry.number < 2 ^ 64 → IsEntry entry
+pub entry_words_are : (order : Order) (entry : Entry) → entry.number < 2 ^ 64 → IsSpelledEntry entry
     → words_of (entry_words order entry) ≡ decimal entry.number ∷ code_text order entry.code ∷ words_of (outcome_text entry.outcome)
 entry_words_are order entry small is =
     part_first 32 (decimal entry.number) (code_text order entry.code ++ 32 ∷ outcome_text entry.outcome) (decimal_word entry.number small).space
     ∙ ap (λ words. decimal entry.number ∷ words) (part_first 32 (code_text order entry.code) (outcome_text entry.outcome) (code_word order entry.code is.code).space)
 
-entry_only : (order : Order) (least most : ℕ) (entry : Entry) → least ≤ entry.number → entry.number ≤ most → most < 10 ^ 10 → IsEntry entry
+entry_only : (order : Order) (least most : ℕ) (entry : Entry) → least ≤ entry.number → entry.number ≤ most → most < 10 ^ 10 → IsSpelledEntry entry
     → entry_in order least most (entry_words order entry) ≡ Some entry
 unfolding entry_in
 entry_only order least most entry low high small is =
@@ -177,13 +190,17 @@ entry_only order least most entry low high small is =
     ∙ goes_on (outcome_at last) (λ outcome. some (record { number = entry.number; code = entry.code; outcome = outcome }))
     entry.outcome (outcome_only entry.outcome is.outcome)
 
-pub entry_line_only : (order : Order) (least most : ℕ) (entry : Entry) (rest : List ℕ) → least ≤ entry.number → entry.number ≤ most → most < 10 ^ 10 → IsEntry entry
+pub spelled_line_only : (order : Order) (least most : ℕ) (entry : Entry) (rest : List ℕ) → least ≤ entry.number → entry.number ≤ most → most < 10 ^ 10 → IsSpelledEntry entry
     → entry_line_at order least most (ledger_line order entry ++ rest) ≡ Some (entry, rest)
 unfolding entry_line_at
-entry_line_only order least most entry rest low high small is =
+spelled_line_only order least most entry rest low high small is =
     let words = entry_words order entry in
     ap (λ text. entry_line_at order least most text)
     (entry_grouped (codes "ledger ") (codes " ") (decimal entry.number) (code_text order entry.code) (outcome_text entry.outcome) (codes "\n") rest)
     ∙ goes_on (field_at (codes "ledger ") (codes "ledger " ++ (words ++ 10 ∷ rest))) (λ field. entry_in order least most field.0 >>= (λ entry. some (entry, field.1))) (words, rest)
     (field_only (codes "ledger ") words rest (entry_free order entry (omega (arith, high, small)) is))
     ∙ goes_on (entry_in order least most words) (λ entry. some (entry, rest)) entry (entry_only order least most entry low high small is)
+
+pub entry_line_only : (order : Order) (least most : ℕ) (entry : Entry) (rest : List ℕ) → least ≤ entry.number → entry.number ≤ most → most < 10 ^ 10 → IsEntry entry
+    → entry_line_at order least most (ledger_line order entry ++ rest) ≡ Some (entry, rest)
+entry_line_only order least most entry rest low high small is = spelled_line_only order least most entry rest low high small (spelled_entry entry is)

@@ -38,13 +38,13 @@ idle_waits (Due job) idle = absurd (false≢true (sym idle))
 settles_idle : (s : CentreState) → IsReached s → is_busy s.phase ≡ false → Settles s
 settles_idle s r idle = settles_rest s s.phase r r.ledger (idle_waits s.phase idle)
 
-all_push : {A : Type 0} (P : A → Type 0) (xs : List A) (x : A) → AllByRecursion P xs → P x → AllByRecursion P (xs ++ x ∷ [])
+pub all_push : {A : Type 0} (P : A → Type 0) (xs : List A) (x : A) → AllByRecursion P xs → P x → AllByRecursion P (xs ++ x ∷ [])
 all_push P [] x all one = (one, tt)
 all_push P (y ∷ xs) x all one = (all.0, all_push P xs x all.1 one)
 
 -- ---- an entry
 
-is_outcome : (outcome : Outcome) → has_its_status outcome ≡ true → IsOutcome outcome
+pub is_outcome : (outcome : Outcome) → has_its_status outcome ≡ true → IsOutcome outcome
 is_outcome outcomes.Waiting is = tt
 is_outcome outcomes.Accepted is = tt
 is_outcome (outcomes.Refused status) is = is
@@ -147,7 +147,7 @@ none_of_two step number a b none = grind arith
 between : (least number most : ℕ) → (nat_le least number && nat_le number most) ≡ true → (least ≤ number) × (number ≤ most)
 between least number most e = grind (arith, nat_tests)
 
-is_ended : (ended : Ended) → end_fault ended ≡ None → IsEnded ended
+pub is_ended : (ended : Ended) → end_fault ended ≡ None → IsEnded ended
 is_ended endings.Never none = tt
 is_ended endings.Accepted none = tt
 is_ended (endings.Failed step why) none =

@@ -1,6 +1,5 @@
 -- A word that is spelled so is read as that, and what comes after is left.
 use Rattle.std.proofs.Common.{◌≡◌, ℕ, ℤ, pos, negsuc, zero, suc, ◌+◌, ◌*◌, ◌/◌, ◌%◌, ◌<◌, ◌≤◌, ◌^◌, ◌==◌, ◌||◌, ◌&&◌, ltb, Bool, true, false, cond, not, neg_ℤ, IsTrue, List, [], ◌∷◌, ◌++◌, length, get_or, take, drop, slice_index, All, Option, Some, None, decimal, refl, sym, ap, subst, ◌∙◌, append_assoc, append-nil, arith, inl, inr}
-use lib.Signed.{mag}
 use Rattle.std.specs.Fmt.{signed_decimal}
 use Rattle.std.specs.List.{AllByRecursion, position_or_len, list_any, list_all, onto_first}
 use Rattle.std.specs.Str.Parse.{AllDigits}
@@ -156,17 +155,22 @@ decimal_word n small = record { line = decimal_free 10 n (omega arith) small; sp
 pub decimal_some : (n : ℕ) → n < 2 ^ 64 → 0 < length (decimal n)
 decimal_some n small = (decimal_is_IsNumeral n small).0.0
 
--- a number in the range of a whole number
-pub mag_small : (z : ℤ) → IsTrue (in_range z) → mag z < 2 ^ 32
-mag_small (pos n) is = let less : n < 2 ^ 32 = grind (arith, nat_tests, is) in omega (arith, less)
-mag_small (negsuc n) is = let less : n < 2 ^ 31 = grind (arith, nat_tests, is) in omega (arith, less)
+-- a number of at most ten digits
+abbrev pub IsShort : ℤ → Type 0
+IsShort (pos n) = n < 10 ^ 10
+IsShort (negsuc n) = suc n < 10 ^ 10
+
+-- as each in the range of a whole number is
+pub short_in : (z : ℤ) → IsTrue (in_range z) → IsShort z
+short_in (pos n) is = let less : n < 2 ^ 32 = grind (arith, nat_tests, is) in omega (arith, less)
+short_in (negsuc n) is = let less : n < 2 ^ 31 = grind (arith, nat_tests, is) in omega (arith, less)
 
 of_digits : (word : List ℕ) → AllDigits 10 word → 0 < length word → signed_in word ≡ positive_of word
 of_digits [] all some = absurd (omega arith)
 of_digits (digit ∷ digits) all some =
     ap (λ b. cond b (negative_of digits) (positive_of (digit ∷ digits))) (ne_eqb digit 45 (λ e. omega (arith, digit_from_value digit all.0, e)))
 
-pub signed_only : (z : ℤ) → mag z < 2 ^ 32 → signed_in (signed_decimal z) ≡ Some z
+pub signed_only : (z : ℤ) → IsShort z → signed_in (signed_decimal z) ≡ Some z
 unfolding positive_of negative_of
 signed_only (pos n) small =
     let is = decimal_is_IsNumeral n (omega (arith, small)) in
@@ -175,15 +179,14 @@ signed_only (negsuc n) small =
     goes_on (digits_value (decimal (suc n))) (λ n. cond (n == 0) None (some (neg_ℤ (pos n)))) (suc n) (digits_only (suc n) (omega (arith, small)))
     ∙ ap (λ b. cond b None (some (negsuc n))) (ne_eqb (suc n) 0 (λ e. omega (arith, e)))
 
-signed_free : (end : ℕ) (z : ℤ) → end < 45 → mag z < 2 ^ 32 → IsFree end (signed_decimal z)
+signed_free : (end : ℕ) (z : ℤ) → end < 45 → IsShort z → IsFree end (signed_decimal z)
 signed_free end (pos n) low small = decimal_free end n (omega (arith, low)) (omega (arith, small))
 signed_free end (negsuc n) low small = or_from _ _ (ne_eqb 45 end (λ e. omega (arith, low, e))) (decimal_free end (suc n) (omega (arith, low)) (omega (arith, small)))
 
-pub signed_word : (z : ℤ) → IsTrue (in_range z) → IsWord (signed_decimal z)
-signed_word z is =
-    record { line = signed_free 10 z (omega arith) (mag_small z is); space = signed_free 32 z (omega arith) (mag_small z is) }
+pub signed_word : (z : ℤ) → IsShort z → IsWord (signed_decimal z)
+signed_word z small = record { line = signed_free 10 z (omega arith) small; space = signed_free 32 z (omega arith) small }
 
-pub signed_some : (z : ℤ) → mag z < 2 ^ 32 → 0 < length (signed_decimal z)
+pub signed_some : (z : ℤ) → IsShort z → 0 < length (signed_decimal z)
 signed_some (pos n) small = decimal_some n (omega (arith, small))
 signed_some (negsuc n) small = omega arith
 

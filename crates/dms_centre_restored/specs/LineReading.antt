@@ -1,4 +1,5 @@
--- Reading the lines of a state's text, each with the text after it. Inner words of the readers (this profile).
+-- Reading single lines of a state's text, each with the text after it, and what is wanted where one is not as it must
+-- be. Inner words of the readers (this profile).
 use Rattle.std.specs.Prelude.{ℕ, ℤ, ◌-◌, ◌==◌, ◌&&◌, Bool, true, false, if◌then◌else◌, is_none}
 use Rattle.std.specs.Prelude.{List, [], ◌∷◌, codes, nat_le, Option, Some, None}
 use Rattle.std.specs.Option.{option_or}
@@ -21,6 +22,8 @@ use Rattle.dms_centre.specs.declared.restoring.SavedStage.TheVariants as stages
 use Rattle.dms_centre.specs.State.{Entry}
 use Rattle.dms_centre.specs.Restoring.{is_sent_by_ticks}
 use Rattle.dms_centre_text.specs.CommandReading.{publish_at}
+use Rattle.dms_centre_restored.specs.declared.refusal.StateField.{StateField}
+use Rattle.dms_centre_restored.specs.declared.refusal.StateField.TheVariants as fields
 use Rattle.dms_centre_restored.specs.declared.lines.PhaseLine.{PhaseLine}
 use Rattle.dms_centre_restored.specs.declared.lines.PhaseLine.TheVariants as phases
 use Rattle.dms_centre_restored.specs.WordReading.{behind, line_at, number_in, signed_in, after_number, after_octets}
@@ -39,12 +42,6 @@ number_line_at name low high text = do
   field ← field_at name text
   number ← number_in low high field.0
   Some (number, field.1)
-
--- the form, and the number that the next request takes
-unfoldable pub first_lines_at : List ℕ → Option (ℕ × List ℕ)
-first_lines_at text = do
-  rest ← behind (codes "state 1 centre\n") text
-  number_line_at (codes "next ") 0 4294967295 rest
 
 abbrev pub end_at : List ℕ → Option (List ℕ)
 end_at text = if same_octets text (codes "end\n") then Some [] else None
@@ -119,13 +116,10 @@ phase_at next text =
     phase_or (behind (codes "idle\n") text) phases.Idle
     (phase_or (behind (codes "due\n") text) phases.Due (awaits_at next text))
 
--- ---- the job
+abbrev pub phase_wanted : ℕ → StateField
+phase_wanted next = if can_wait next then fields.Phase else fields.PhaseWithoutRequest
 
-unfoldable pub waiting_at : List ℕ → Option (SavedStage × List ℕ)
-waiting_at text = do
-  sends ← number_line_at (codes "sends ") 1 3 text
-  ticks ← number_line_at (codes "ticks ") 0 2 sends.1
-  Some (stages.Waits sends.0 ticks.0, ticks.1)
+-- ---- the job
 
 abbrev pub step_of : ℕ → Step
 step_of number =
@@ -153,6 +147,10 @@ step_line_at stage text = do
   field ← field_at (codes "step ") text
   step ← step_in stage field.0
   Some (step, field.1)
+
+abbrev pub step_wanted : SavedStage → StateField
+step_wanted stages.Due = fields.StepOfTick
+step_wanted (stages.Waits sends ticks) = fields.Step
 
 -- the words after a row, a text and its owner; after what else belongs to a message; and after its terms
 unfoldable pub after_row : List (List ℕ) → Option (List (List ℕ))
@@ -208,36 +206,15 @@ is_of_showing steps.Activating = true
 is_of_showing steps.Explaining = true
 is_of_showing step = false
 
+-- an activation has to stand there: a message that the sign has comes to the step, and none is published
+abbrev pub is_activation : Step → List ℕ → Bool
+is_activation step text = is_of_showing step && is_none (behind (codes "publish ") text)
+
 unfoldable pub work_at : Order → Step → List ℕ → Option (CommandModel × List ℕ)
-work_at order step text =
-    if is_of_showing step && is_none (behind (codes "publish ") text) then activation_at order text
-    else publication_at text
+work_at order step text = if is_activation step text then activation_at order text else publication_at text
 
--- a job as its lines say it
-pub record JobRead : Type 0 where
-  pub command : CommandModel
-  pub step : Step
-  pub polls : ℕ
-  pub stage : SavedStage
-
-unfoldable pub job_at : Order → SavedStage → List ℕ → Option (JobRead × List ℕ)
-job_at order stage text = do
-  step ← step_line_at stage text
-  polls ← number_line_at (codes "polls ") 0 9 step.1
-  work ← work_at order step.0 polls.1
-  Some (record { command = work.0; step = step.0; polls = polls.0; stage = stage }, work.1)
-
--- the job of a phase, if one is on
-abbrev pub job_in : Order → PhaseLine → List ℕ → Option (Option JobRead × List ℕ)
-job_in order phases.Idle text = Some (None, text)
-job_in order phases.Due text = job_at order stages.Due text >>= (λ job. Some (Some job.0, job.1))
-job_in order phases.Awaits text =
-    waiting_at text >>= (λ stage. job_at order stage.0 stage.1 >>= (λ job. Some (Some job.0, job.1)))
-
-unfoldable pub job_lines_at : Order → ℕ → List ℕ → Option (Option JobRead × List ℕ)
-job_lines_at order next text = do
-  phase ← phase_at next text
-  job_in order phase.0 phase.1
+abbrev pub work_wanted : Step → List ℕ → StateField
+work_wanted step text = if is_activation step text then fields.Activation else fields.Publication
 
 -- ---- entries of the ledger
 

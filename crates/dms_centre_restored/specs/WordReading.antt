@@ -1,7 +1,7 @@
 -- Reading words of a state's text: what each spells, and what is left. Inner words of the readers; the laws in proofs/
 -- join them to the texts of states (this profile).
-use Rattle.std.specs.Prelude.{◌≡◌, ℕ, ℤ, pos, neg_ℤ, ◌+◌, ◌/◌, ◌%◌, ◌==◌, ◌&&◌, ◌||◌, Bool, false, if◌then◌else◌}
-use Rattle.std.specs.Prelude.{List, [], ◌∷◌, length, take, drop, nat_le, Option, Some, None, Result, Ok, Err}
+use Rattle.std.specs.Prelude.{ℕ, ℤ, pos, neg_ℤ, ◌+◌, ◌/◌, ◌%◌, ◌==◌, ◌&&◌, ◌||◌, Bool, false, if◌then◌else◌}
+use Rattle.std.specs.Prelude.{List, [], ◌∷◌, length, take, drop, nat_le, Option, Some, None}
 use Rattle.std.specs.List.{list_all}
 use Rattle.std.specs.Str.{byte}
 use Rattle.hex.specs.Hex.{decode_of}
@@ -10,19 +10,6 @@ use Rattle.dms_text.specs.Reading.{number_of, within, is_dash, word_at, same_oct
 use Rattle.dms_codes.specs.declared.codes.Order.{Order}
 use Rattle.dms_codes.specs.declared.codes.Activation.{Activation}
 use Rattle.dms_centre_text.specs.CommandReading.{code_from}
-use Rattle.dms_centre_restored.specs.declared.refusal.Unread.{Unread}
-use Rattle.dms_centre_restored.specs.declared.refusal.Unread.TheVariants as unread
-
--- ---- readers
-
--- What a function returned, seen by view, is what reading gives, unless memory ran out.
-abbrev pub Fails : {Y : Type 0} → Unread → Option Y → Type 0
-Fails unread.Memory read = Unit {0}
-Fails (unread.Lacks lack) read = read ≡ None
-
-abbrev pub Gives : {X Y : Type 0} → (X → Y) → Result X Unread → Option Y → Type 0
-Gives view (Ok x) read = read ≡ Some (view x)
-Gives view (Err error) read = Fails error read
 
 -- ---- texts
 

@@ -1,17 +1,18 @@
 //! The lines of the job that is on.
 
-ghost use Rattle.std.specs.Prelude.{◌≡◌, ◌+◌, Some, None, option_map};
-ghost use Rattle.std.specs.Result.{result_ok};
+ghost use Rattle.std.specs.Prelude.{◌≡◌, ◌+◌, Some, None};
 ghost use Rattle.dms_centre_text.specs.CommandView.{owned_command_model};
-ghost use Rattle.dms_centre_restored.specs.WordReading.{Gives};
-ghost use Rattle.dms_centre_restored.specs.LineReading.{waiting_at, step_of, comes_to, step_in, step_line_at};
+ghost use Rattle.dms_centre_restored.specs.declared.refusal.StateField.TheVariants as fields;
+ghost use Rattle.dms_centre_restored.specs.Lacks.{wanting, Reads, Gives};
+ghost use Rattle.dms_centre_restored.specs.LineReading.{step_of, comes_to, step_in, step_line_at, step_wanted};
 ghost use Rattle.dms_centre_restored.specs.LineReading.{after_row, after_message, after_terms, are_terms, is_last};
 ghost use Rattle.dms_centre_restored.specs.LineReading.{is_publication, publication_at, activation_at, is_of_showing};
-ghost use Rattle.dms_centre_restored.specs.LineReading.{work_at, job_at, job_in, job_lines_at};
+ghost use Rattle.dms_centre_restored.specs.LineReading.{work_at, work_wanted};
+ghost use Rattle.dms_centre_restored.specs.JobReading.{waiting_at, job_at, job_in, job_lines_at};
 ghost use Rattle.dms_centre_restored.specs.StateReading.{job_read, saved_read, waits, job_found};
 
 use crate::lines::{PhaseLine, field, number_line, phase_line};
-use crate::refusal::{StateField, Unread};
+use crate::refusal::{Lack, StateField, Unread};
 use crate::words::{after_address, after_number, after_octets, behind, code, number};
 use dms_centre::{SavedJob, SavedStage, Step};
 use dms_centre_text::{CommandWord, OwnedCommand, command_after};
@@ -54,7 +55,7 @@ impl JobLines {
 }
 
 /// The job that is on, if one is, where the next request has this number.
-#[tactic(auto, unfolding(crate::specs::LineReading::job_lines_at))]
+#[tactic(auto, unfolding(crate::specs::JobReading::job_lines_at))]
 pub(crate) fn job_lines(
     alloc: Global,
     order: Order,
@@ -90,9 +91,9 @@ fn job_in(
 }
 
 /// How many times the request that waits went out, and the ticks since.
-#[tactic(auto, unfolding(crate::specs::LineReading::waiting_at))]
-fn waiting(text: &[u8]) -> Result<(SavedStage, &[u8]), Unread>
-    ensures { option_map (λ x. (x.0, x.1.now)) (result_ok result) ≡ waiting_at text.now }
+#[tactic(auto, unfolding(crate::specs::JobReading::waiting_at))]
+fn waiting(text: &[u8]) -> Result<(SavedStage, &[u8]), Lack>
+    ensures { Reads (λ x. (x.0, x.1.now)) result (waiting_at text.now) }
 {
     let (sends, rest) = number_line(b"sends ", StateField::Sends, 1, 3, text)?;
     let (ticks, rest) = number_line(b"ticks ", StateField::Ticks, 0, 2, rest)?;
@@ -103,7 +104,7 @@ fn waiting(text: &[u8]) -> Result<(SavedStage, &[u8]), Unread>
     Ok((stage, rest))
 }
 
-#[tactic(auto, unfolding(crate::specs::LineReading::job_at))]
+#[tactic(auto, unfolding(crate::specs::JobReading::job_at))]
 fn job(
     alloc: Global,
     order: Order,
@@ -125,17 +126,19 @@ fn job(
 }
 
 #[tactic(auto, unfolding(crate::specs::LineReading::step_line_at))]
-fn step_line(stage: SavedStage, text: &[u8]) -> Result<(Step, &[u8]), Unread>
-    ensures { option_map (λ x. (x.0, x.1.now)) (result_ok result) ≡ step_line_at stage text.now }
+fn step_line(stage: SavedStage, text: &[u8]) -> Result<(Step, &[u8]), Lack>
+    ensures { Reads (λ x. (x.0, x.1.now)) result (wanting (step_wanted stage) text.now (step_line_at stage text.now)) }
 {
     let field = field(b"step ", step_wanted(stage), text)?;
     match step(stage, field.value) {
         Some(step) => Ok((step, field.rest)),
-        None => Err(Unread::Lacks(field.lack)),
+        None => Err(field.lack),
     }
 }
 
-fn step_wanted(stage: SavedStage) -> StateField {
+fn step_wanted(stage: SavedStage) -> StateField
+    ensures { result ≡ step_wanted stage }
+{
     match stage {
         SavedStage::Due => StateField::StepOfTick,
         SavedStage::Waits { .. } => StateField::Step,
@@ -188,7 +191,8 @@ fn work(
     step: Step,
     text: &[u8],
 ) -> Result<(OwnedCommand, &[u8]), Unread>
-    ensures { Gives (λ x. (owned_command_model x.0, x.1.now)) result (work_at order step text.now) }
+    ensures { Gives (λ x. (owned_command_model x.0, x.1.now)) result
+        (wanting (work_wanted step text.now) text.now (work_at order step text.now)) }
 {
     if is_of_showing(step) && behind(b"publish ", text).is_none() {
         activation(order, text)
@@ -206,7 +210,8 @@ fn is_of_showing(step: Step) -> bool
 
 #[tactic(auto, unfolding(crate::specs::LineReading::activation_at))]
 fn activation(order: Order, text: &[u8]) -> Result<(OwnedCommand, &[u8]), Unread>
-    ensures { Gives (λ x. (owned_command_model x.0, x.1.now)) result (activation_at order text.now) }
+    ensures { Gives (λ x. (owned_command_model x.0, x.1.now)) result
+        (wanting fields.Activation text.now (activation_at order text.now)) }
 {
     let field = field(b"activate ", StateField::Activation, text)?;
     match code(order, field.value) {
@@ -217,7 +222,8 @@ fn activation(order: Order, text: &[u8]) -> Result<(OwnedCommand, &[u8]), Unread
 
 #[tactic(auto, unfolding(crate::specs::LineReading::publication_at))]
 fn publication(alloc: Global, order: Order, text: &[u8]) -> Result<(OwnedCommand, &[u8]), Unread>
-    ensures { Gives (λ x. (owned_command_model x.0, x.1.now)) result (publication_at text.now) }
+    ensures { Gives (λ x. (owned_command_model x.0, x.1.now)) result
+        (wanting fields.Publication text.now (publication_at text.now)) }
 {
     let field = field(b"publish ", StateField::Publication, text)?;
     if !is_publication(field.value) {

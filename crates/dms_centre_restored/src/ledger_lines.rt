@@ -1,24 +1,23 @@
 //! The lines of the ledger, and what a central system takes up of them.
 
 ghost use Rattle.std.specs.Prelude.{◌≡◌, ◌≤◌, ◌<◌, ◌+◌, ◌^◌, ◌&&◌, Some, None, IfOk, IfSome, OnOk, length, option_map};
-ghost use Rattle.std.specs.Result.{result_ok};
 ghost use Rattle.dms_codes.specs.Codes.{IsActivation};
 ghost use Rattle.dms_centre.specs.CodeView.{ledger_model};
 ghost use Rattle.dms_centre.specs.Resending.{is_waiting};
 ghost use Rattle.dms_centre.specs.Restoring.{end_fault, with_last};
 ghost use Rattle.dms_centre_state.specs.Reached.{IsReached};
 ghost use Rattle.dms_centre_restored.specs.Restored.{GoesOn};
-ghost use Rattle.dms_centre_restored.specs.WordReading.{Gives};
+ghost use Rattle.dms_centre_restored.specs.declared.refusal.StateField.TheVariants as fields;
+ghost use Rattle.dms_centre_restored.specs.Lacks.{here, wanting, unless, Reads, Gives};
 ghost use Rattle.dms_centre_restored.specs.LineReading.{known, known_at, refused_at, outcome_at, entry_in};
 ghost use Rattle.dms_centre_restored.specs.LineReading.{entry_line_at};
 ghost use Rattle.dms_centre_restored.specs.StateReading.{job_read, saved_read, entry_read, numbered_entry};
 ghost use Rattle.dms_centre_restored.specs.StateReading.{with_read_entry, with_read_job, with_settled, next_entry_at};
 ghost use Rattle.dms_centre_restored.specs.StateReading.{next_found, entries_at, activation_taken_at};
 ghost use Rattle.dms_centre_restored.specs.StateReading.{with_job_behind, has_last_code, same_codes, ledger_at};
-ghost use Rattle.dms_centre_restored.specs.StateReading.{unless};
 
 use crate::job_lines::JobLines;
-use crate::lines::field;
+use crate::lines::{field, here};
 use crate::refusal::{Lack, StateField, Unread};
 use crate::words::{code, number, signed, starts_with};
 use dms_centre::{Centre, Ended, Entry, EntryFault, JobFault, Outcome, SavedJob};
@@ -39,9 +38,10 @@ struct EntryLine<'a> {
 
 /// An entry of a number from the least to the greatest.
 #[tactic(auto, unfolding(crate::specs::LineReading::entry_line_at))]
-fn entry_line(order: Order, least: u32, most: u32, text: &[u8]) -> Result<EntryLine<'_>, Unread>
-    ensures value { option_map (λ line. (entry_read line, line.rest.now)) (result_ok result)
-        ≡ entry_line_at order least most text.now }
+fn entry_line(order: Order, least: u32, most: u32, text: &[u8]) -> Result<EntryLine<'_>, Lack>
+    ensures read { Reads (λ line. (entry_read line, line.rest.now)) result
+        (wanting (fields.Entry least most) text.now (entry_line_at order least most text.now)) }
+    ensures lack { IfOk result (λ line. line.lack ≡ here (fields.Entry least most) text.now) }
     ensures most { IfOk result (λ entry. entry.number ≤ most) }
 {
     let field = field(b"ledger ", StateField::Entry { least, most }, text)?;
@@ -53,7 +53,7 @@ fn entry_line(order: Order, least: u32, most: u32, text: &[u8]) -> Result<EntryL
             rest: field.rest,
             lack: field.lack,
         }),
-        None => Err(Unread::Lacks(field.lack)),
+        None => Err(field.lack),
     }
 }
 
@@ -176,11 +176,7 @@ fn put_behind<'a>(
     if job.waits_for_activation() {
         return put_activation(centre, order, job, least, text);
     }
-    let lack = Lack {
-        wanted: StateField::End,
-        left: text.len(),
-    };
-    put_job(centre, &job.lent(), lack)?;
+    put_job(centre, &job.lent(), here(StateField::End, text))?;
     Ok(text)
 }
 
@@ -243,7 +239,7 @@ fn put_settled<'a>(
     requires reached { IsReached centre.old.state }
     ensures goes { OnOk result (GoesOn centre.old.state centre.new.state) }
     ensures read { Gives (λ x. (centre.new.state, next_found x)) result
-        (with_settled waits centre.old.state (entry_read entry.now, entry.now.rest.now)) }
+        (with_settled waits entry.now.lack centre.old.state (entry_read entry.now, entry.now.rest.now)) }
     ensures same { IfOk result (λ x. IfSome x (λ found. found.0 ≡ entry.now.number)) }
 {
     if waits && u64::from(entry.number) + 1 == u64::from(centre.next_number()) {
@@ -256,7 +252,8 @@ fn put_settled<'a>(
 fn put_entry(centre: &mut Centre, entry: &EntryLine<'_>) -> Result<(), Unread>
     requires { IsReached centre.old.state }
     ensures goes { OnOk result (GoesOn centre.old.state centre.new.state) }
-    ensures read { Gives (λ _. centre.new.state) result (with_read_entry centre.old.state (entry_read entry.now)) }
+    ensures read { Gives (λ _. centre.new.state) result
+        (with_read_entry entry.now.lack centre.old.state (entry_read entry.now)) }
 {
     enter(centre, entry.number, entry.code, entry.outcome, entry.lack)
 }
@@ -271,7 +268,7 @@ fn enter(
     requires { IsReached centre.old.state }
     ensures goes { OnOk result (GoesOn centre.old.state centre.new.state) }
     ensures read { Gives (λ _. centre.new.state) result
-        (with_read_entry centre.old.state (record { number = number; code = code; outcome = outcome })) }
+        (with_read_entry lack centre.old.state (record { number = number; code = code; outcome = outcome })) }
 {
     has_ranges(code);
     match centre.put_entry(number, code, outcome) {
@@ -331,7 +328,7 @@ fn are_same_codes(one: Activation, other: Activation) -> bool
 fn put_job(centre: &mut Centre, job: &SavedJob<'_>, lack: Lack) -> Result<(), Unread>
     requires { IsReached centre.old.state }
     ensures goes { OnOk result (GoesOn centre.old.state centre.new.state) }
-    ensures read { Gives (λ _. centre.new.state) result (with_read_job centre.old.state (saved_read job.now)) }
+    ensures read { Gives (λ _. centre.new.state) result (with_read_job lack centre.old.state (saved_read job.now)) }
 {
     job.command.has_ranges();
     match centre.put_job(job) {
@@ -345,7 +342,8 @@ fn put_job(centre: &mut Centre, job: &SavedJob<'_>, lack: Lack) -> Result<(), Un
 pub(crate) fn put_last(centre: &mut Centre, ended: Ended, lack: Lack) -> Result<(), Unread>
     requires { IsReached centre.old.state }
     ensures goes { OnOk result (GoesOn centre.old.state centre.new.state) }
-    ensures read { Gives (λ _. centre.new.state) result (unless (end_fault ended) (with_last centre.old.state ended)) }
+    ensures read { Gives (λ _. centre.new.state) result
+        (unless lack (end_fault ended) (with_last centre.old.state ended)) }
 {
     match centre.put_last(ended) {
         Ok(()) => Ok(()),

@@ -1,12 +1,16 @@
 //! Lines of a state's text: each reader takes them from the text's front, and hands back the text after them.
 
-ghost use Rattle.std.specs.Prelude.{◌≡◌, ◌≤◌, [], IfOk, option_map};
+ghost use Rattle.std.specs.Prelude.{◌≡◌, ◌≤◌, [], IfOk, IfErr, option_map};
 ghost use Rattle.std.specs.Result.{result_ok};
-ghost use Rattle.dms_centre_restored.specs.LineReading.{field_at, number_line_at, first_lines_at, end_at, why_alone};
+ghost use Rattle.dms_centre_restored.specs.declared.refusal.StateField.TheVariants.{End};
+ghost use Rattle.dms_centre_restored.specs.Lacks.{here, wanting, Reads};
+ghost use Rattle.dms_centre_restored.specs.LineReading.{field_at, number_line_at, end_at, why_alone};
 ghost use Rattle.dms_centre_restored.specs.LineReading.{why_numbered, why_of_row, why_caused, why_in, step_digit};
-ghost use Rattle.dms_centre_restored.specs.LineReading.{failed_at, failed_in, ended_in, phase_at, can_wait};
+ghost use Rattle.dms_centre_restored.specs.LineReading.{failed_at, failed_in, ended_in, phase_at, phase_wanted};
+ghost use Rattle.dms_centre_restored.specs.LineReading.{can_wait};
+ghost use Rattle.dms_centre_restored.specs.JobReading.{first_lines_at};
 
-use crate::refusal::{Lack, StateField, Unread};
+use crate::refusal::{Lack, StateField};
 use crate::words::{behind, line, number, signed};
 use dms_centre::{Ended, Why};
 use dms_text::are_same;
@@ -20,25 +24,35 @@ pub(crate) struct NamedLine<'a> {
     pub lack: Lack,
 }
 
+/// That this is wanted where a text begins.
+pub(crate) fn here(wanted: StateField, text: &[u8]) -> Lack
+    ensures { result ≡ here wanted text.now }
+{
+    Lack {
+        wanted,
+        left: text.len(),
+    }
+}
+
 /// A line of a name, which ends with a space.
 #[tactic(auto, unfolding(crate::specs::LineReading::field_at))]
 pub(crate) fn field<'a>(
     name: &[u8],
     wanted: StateField,
     text: &'a [u8],
-) -> Result<NamedLine<'a>, Unread>
-    ensures { option_map (λ line. (line.value.now, line.rest.now)) (result_ok result) ≡ field_at name.now text.now }
+) -> Result<NamedLine<'a>, Lack>
+    ensures value { option_map (λ line. (line.value.now, line.rest.now)) (result_ok result)
+        ≡ field_at name.now text.now }
+    ensures lack { IfOk result (λ line. line.lack ≡ here wanted text.now) }
+    ensures lacks { IfErr result (λ lack. lack ≡ here wanted text.now) }
 {
-    let lack = Lack {
-        wanted,
-        left: text.len(),
-    };
+    let lack = here(wanted, text);
     let Some(text) = behind(name, text) else {
-        return Err(Unread::Lacks(lack));
+        return Err(lack);
     };
     match line(text) {
         Some((value, rest)) => Ok(NamedLine { value, rest, lack }),
-        None => Err(Unread::Lacks(lack)),
+        None => Err(lack),
     }
 }
 
@@ -50,29 +64,27 @@ pub(crate) fn number_line<'a>(
     low: u32,
     high: u32,
     text: &'a [u8],
-) -> Result<(u32, &'a [u8]), Unread>
-    ensures value { option_map (λ x. (x.0, x.1.now)) (result_ok result) ≡ number_line_at name.now low high text.now }
+) -> Result<(u32, &'a [u8]), Lack>
+    ensures read { Reads (λ x. (x.0, x.1.now)) result
+        (wanting wanted text.now (number_line_at name.now low high text.now)) }
     ensures least { IfOk result (λ x. low ≤ x.0) }
     ensures most { IfOk result (λ x. x.0 ≤ high) }
 {
     let field = field(name, wanted, text)?;
     match number(low, high, field.value) {
         Some(number) => Ok((number, field.rest)),
-        None => Err(Unread::Lacks(field.lack)),
+        None => Err(field.lack),
     }
 }
 
 /// The first two lines: the form, and the number that the next request takes.
-#[tactic(auto, unfolding(crate::specs::LineReading::first_lines_at))]
-pub(crate) fn first_lines(text: &[u8]) -> Result<(u32, &[u8]), Unread>
-    ensures { option_map (λ x. (x.0, x.1.now)) (result_ok result) ≡ first_lines_at text.now }
+#[tactic(auto, unfolding(crate::specs::JobReading::first_lines_at))]
+pub(crate) fn first_lines(text: &[u8]) -> Result<(u32, &[u8]), Lack>
+    ensures { Reads (λ x. (x.0, x.1.now)) result (first_lines_at text.now) }
 {
     match behind(b"state 1 centre\n", text) {
         Some(rest) => number_line(b"next ", StateField::Next, 0, u32::MAX, rest),
-        None => Err(Unread::Lacks(Lack {
-            wanted: StateField::Form,
-            left: text.len(),
-        })),
+        None => Err(here(StateField::Form, text)),
     }
 }
 
@@ -195,10 +207,20 @@ fn can_wait(next: u32) -> bool
     1 <= next && next <= 2_147_483_648
 }
 
+fn phase_wanted(next: u32) -> StateField
+    ensures { result ≡ phase_wanted next }
+{
+    if can_wait(next) {
+        StateField::Phase
+    } else {
+        StateField::PhaseWithoutRequest
+    }
+}
+
 /// Whether a job is on. A request waits only where the number before the next one is that of a request.
 #[tactic(auto, unfolding(crate::specs::LineReading::phase_at))]
-pub(crate) fn phase_line(next: u32, text: &[u8]) -> Result<(PhaseLine, &[u8]), Unread>
-    ensures { option_map (λ x. (x.0, x.1.now)) (result_ok result) ≡ phase_at next text.now }
+pub(crate) fn phase_line(next: u32, text: &[u8]) -> Result<(PhaseLine, &[u8]), Lack>
+    ensures { Reads (λ x. (x.0, x.1.now)) result (wanting (phase_wanted next) text.now (phase_at next text.now)) }
 {
     if let Some(rest) = behind(b"idle\n", text) {
         return Ok((PhaseLine::Idle, rest));
@@ -209,27 +231,17 @@ pub(crate) fn phase_line(next: u32, text: &[u8]) -> Result<(PhaseLine, &[u8]), U
     let can_wait = can_wait(next);
     match behind(b"awaits\n", text) {
         Some(rest) if can_wait => Ok((PhaseLine::Awaits, rest)),
-        _ => Err(Unread::Lacks(Lack {
-            wanted: if can_wait {
-                StateField::Phase
-            } else {
-                StateField::PhaseWithoutRequest
-            },
-            left: text.len(),
-        })),
+        _ => Err(here(phase_wanted(next), text)),
     }
 }
 
 /// The last line, and nothing after it.
-pub(crate) fn last_line(text: &[u8]) -> Result<(), Unread>
-    ensures { option_map (λ _. []) (result_ok result) ≡ end_at text.now }
+pub(crate) fn last_line(text: &[u8]) -> Result<(), Lack>
+    ensures { Reads (λ _. []) result (wanting End text.now (end_at text.now)) }
 {
     if are_same(text, b"end\n") {
         Ok(())
     } else {
-        Err(Unread::Lacks(Lack {
-            wanted: StateField::End,
-            left: text.len(),
-        }))
+        Err(here(StateField::End, text))
     }
 }

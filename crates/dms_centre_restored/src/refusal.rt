@@ -88,6 +88,17 @@ pub(crate) enum Unread {
     Lacks(Lack),
 }
 
+impl From<Lack> for Unread {
+    ghost use Rattle.std.specs.Prelude.{◌≡◌};
+    ghost use Rattle.dms_centre_restored.specs.declared.refusal.Unread.TheVariants.{Lacks};
+
+    ghost from_gives = { λ lack e. e ≡ Lacks lack };
+
+    fn from(lack: Lack) -> Unread {
+        Unread::Lacks(lack)
+    }
+}
+
 impl From<AllocError> for Unread {
     ghost use Rattle.std.specs.Prelude.{◌≡◌};
     ghost use Rattle.dms_centre_restored.specs.declared.refusal.Unread.TheVariants.{Memory};

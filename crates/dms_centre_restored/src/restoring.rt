@@ -8,10 +8,12 @@ ghost use Rattle.dms_centre_state.specs.CentreText.{text_of_state};
 ghost use Rattle.dms_centre_state.specs.Reached.{IsReached};
 ghost use Rattle.dms_centre_restored.specs.Restored.{GoesOn, IsRestored, IsNoneOf, IsLineFaultOf, IsToldOf};
 ghost use Rattle.dms_centre_restored.specs.Restored.{is_of_settings, IsSaid};
-ghost use Rattle.dms_centre_restored.specs.WordReading.{Gives};
-ghost use Rattle.dms_centre_restored.specs.LineReading.{first_lines_at};
+ghost use Rattle.dms_centre_restored.specs.Faults.{IsWrong};
+ghost use Rattle.dms_centre_restored.specs.FirstFault.{IsFirstFault, told_of};
+ghost use Rattle.dms_centre_restored.specs.Lacks.{Gives};
+ghost use Rattle.dms_centre_restored.specs.JobReading.{first_lines_at};
 ghost use Rattle.dms_centre_restored.specs.StateReading.{job_lent, last_line_at, ledger_at, lines_at, taken_at};
-ghost use Rattle.dms_centre_restored.specs.StateReading.{first_number_in, compared};
+ghost use Rattle.dms_centre_restored.specs.StateReading.{first_number_in, same_front, compared};
 
 use crate::job_lines::{JobLines, job_lines};
 use crate::ledger_lines::{put_last, put_ledger, put_with_job};
@@ -32,6 +34,8 @@ pub fn restored(alloc: Global, settings: Settings<'_>, text: &[u8]) -> Result<Ce
     ensures community { IfErr result
         (λ fault. is_of_settings fault ≡ not (has_community_size settings.entry.community.now)) }
     ensures line { IfErr result (IsLineFaultOf text.now) }
+    ensures first { IfErr result (IsFirstFault (settings_model settings.entry) text.now) }
+    ensures wrong { IfErr result (IsWrong (settings_model settings.entry) text.now) }
 {
     let mut centre = match Centre::new(alloc, settings, first_number(text)) {
         Ok(centre) => centre,
@@ -126,7 +130,7 @@ fn compare(alloc: Global, centre: &Centre, text: &[u8]) -> Result<(), Unread>
     if are_same(written.as_slice(), text) {
         Ok(())
     } else {
-        let same = same_octets(written.as_slice(), text);
+        let same = same_front(written.as_slice(), text);
         Err(Unread::Lacks(Lack {
             wanted: StateField::Spelling,
             left: text.len().saturating_sub(same),
@@ -135,7 +139,9 @@ fn compare(alloc: Global, centre: &Centre, text: &[u8]) -> Result<(), Unread>
 }
 
 /// How many octets are the same before the first that differs.
-fn same_octets(one: &[u8], other: &[u8]) -> usize {
+fn same_front(one: &[u8], other: &[u8]) -> usize
+    ensures { result ≡ same_front one.now other.now }
+{
     let most = one.len().min(other.len());
     for index in 0..most {
         if one[index] != other[index] {
@@ -149,6 +155,7 @@ fn same_octets(one: &[u8], other: &[u8]) -> usize {
 fn refusal_of(text: &[u8], unread: Unread) -> StateRefusal
     ensures line { IsToldOf text.now result }
     ensures said { IsSaid unread result }
+    ensures told { result ≡ told_of text.now unread }
 {
     match unread {
         Unread::Memory => StateRefusal::Memory,

@@ -1,6 +1,7 @@
-use Rattle.std.proofs.Common.{ℕ, List, Option, Some, length, ap, ◌∙◌, arith}
+use Rattle.std.proofs.Common.{ℕ, List, Option, length, ap, ◌∙◌, arith}
 use Rattle.std.specs.Borrow.{Bor}
 use Rattle.dms_centre_restored.specs.StateReading.{next_found, entries_at}
+use Rattle.dms_centre_restored.proofs.Readings.{done}
 use Rattle.dms_centre_restored.proofs.LedgersRead.{one_more, no_more, one_lacks, all_done}
 use Rattle.dms_centre_restored.proofs.TakenUp.{goes_on_both}
 use Rattle.dms_centre_restored.proofs.ledger_lines.put_entries.Goals as goal
@@ -18,7 +19,7 @@ returns-in-None-clause-read c =
     let t = c.next_entry.new.centre.state in
     no_more c.args.order c.args.waits (length c.args.text.now) c.loop.counter c.loop.centre.state c.loop.least c.loop.rest.now
     (entries_at c.args.order c.args.waits (length c.args.text.now) c.args.centre.now.state 0 c.args.text.now) c.loop.invariant.read
-    t c.loop-test.true (c.in_ok-number.ensures.read ∙ ap (λ (found : Option (ℕ × Bor (List ℕ))). Some (t, next_found found)) c.in-None.is)
+    t c.loop-test.true (c.in_ok-number.ensures.read ∙ ap (λ (found : Option (ℕ × Bor (List ℕ))). done (t, next_found found)) c.in-None.is)
 
 pub loop-preserved : goal.loop-preserved
 loop-preserved c =
@@ -29,7 +30,7 @@ loop-preserved c =
           one_more c.args.order c.args.waits (length c.args.text.now) c.loop.counter c.loop.centre.state c.loop.least c.loop.rest.now
           (entries_at c.args.order c.args.waits (length c.args.text.now) c.args.centre.now.state 0 c.args.text.now) c.loop.invariant.read
           t c.in-Some.number c.in-Some.after.now c.loop-test.true
-          (c.in_ok-number.ensures.read ∙ ap (λ (found : Option (ℕ × Bor (List ℕ))). Some (t, next_found found)) c.in-Some.is);
+          (c.in_ok-number.ensures.read ∙ ap (λ (found : Option (ℕ × Bor (List ℕ))). done (t, next_found found)) c.in-Some.is);
     }
 
 pub returns-clause-read : goal.returns-clause-read
