@@ -4,6 +4,8 @@ use Rattle.std.specs.Prelude.{◌≡◌, ℕ, List, [], ◌++◌, codes, Option,
 use Rattle.dms_centre_jobs.specs.Job.{SettingsModel}
 use Rattle.dms_centre.specs.State.{CentreState, start}
 use Rattle.dms_centre_restored.specs.Restored.{IsRestored, IsNoneOf, IsToldOf}
+use Rattle.dms_centre_restored.specs.Faults.{IsWrongTold}
+use Rattle.dms_centre_restored.specs.FirstFault.{IsFirstTold}
 use Rattle.dms_centre_restored.specs.RestoredTexts.{refused_line, refusal_text}
 use Rattle.dms_centre_restored.specs.declared.refusal.StateRefusal.{StateRefusal}
 use Rattle.dms_centre_restored.specs.declared.refusal.RestoreFault.TheVariants.{State}
@@ -26,11 +28,13 @@ abbrev pub CentreBefore : Option (List ℕ) → Setup → CentreState → Option
 CentreBefore before setup s after =
     (text : List ℕ) × TakesDescription before text after × IsRestored (settings_in setup) text s
 
--- that text is taken, no central system of the settings comes to its state, or memory ran out, and this line is told
+-- That text is taken, and no central system of the settings comes to its state, or memory ran out. What is told is its
+-- first fault: up to its line the text is the beginning of a state's, and with that line it is none's.
 abbrev pub IsRefusedCentre : Option (List ℕ) → Setup → StateRefusal → Option (List ℕ) → Type 0
 IsRefusedCentre before setup refusal after =
     (text : List ℕ) × TakesDescription before text after × IsNoneOf (settings_in setup) text (State refusal)
-    × IsToldOf text refusal
+    × IsToldOf text refusal × IsFirstTold (settings_in setup) text refusal
+    × IsWrongTold (settings_in setup) text refusal
 
 -- the central system with which a conversation begins, and what is left for it
 abbrev pub CentreBegins : StateWanted → Option (List ℕ) → Setup → CentreState → Option (List ℕ) → Type 0
