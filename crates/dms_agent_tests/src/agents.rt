@@ -10,13 +10,13 @@ use std::process::Abort;
 use std::test::Fail;
 
 /// sysDescr.0, 1.3.6.1.2.1.1.1.0 (RFC 1213): before all objects of a sign.
-static DESCRIPTION: [u8; 8] = [43, 6, 1, 2, 1, 1, 1, 0];
+pub(crate) static DESCRIPTION: [u8; 8] = [43, 6, 1, 2, 1, 1, 1, 0];
 
 /// dmsSignHeightPixels.0, the first object of a sign (NTCIP 1203).
 static HEIGHT: [u8; 13] = [43, 6, 1, 4, 1, 137, 54, 4, 2, 3, 2, 3, 0];
 
 /// dmsIllumManLevel.0, 7.6.0 below dms (NTCIP 1203): after all objects of a sign.
-static LEVEL: [u8; 13] = [43, 6, 1, 4, 1, 137, 54, 4, 2, 3, 7, 6, 0];
+pub(crate) static LEVEL: [u8; 13] = [43, 6, 1, 4, 1, 137, 54, 4, 2, 3, 7, 6, 0];
 
 /// numFonts.0, 3.1.0 below dms (NTCIP 1203): the first object of a sign's fonts.
 static FONTS: [u8; 13] = [43, 6, 1, 4, 1, 137, 54, 4, 2, 3, 3, 1, 0];
@@ -40,7 +40,7 @@ pub(crate) fn bench_sign(alloc: Global) -> Result<Sign, &'static str> {
     }
 }
 
-fn publish(
+pub(crate) fn publish(
     agent: &mut Agent,
     alloc: Global,
     name: &[u8],
@@ -66,7 +66,7 @@ fn agent(alloc: Global) -> Result<Agent, &'static str> {
     }
 }
 
-fn binding<'a>(name: &'a [u8], value: Value<'a>) -> Result<Bind<'a>, &'static str> {
+pub(crate) fn binding<'a>(name: &'a [u8], value: Value<'a>) -> Result<Bind<'a>, &'static str> {
     match Oid::of(name) {
         Some(name) => Ok(Bind { name, value }),
         None => Err("no name"),
@@ -74,7 +74,7 @@ fn binding<'a>(name: &'a [u8], value: Value<'a>) -> Result<Bind<'a>, &'static st
 }
 
 /// The reply to a request, or nothing where it is dropped.
-fn exchange(
+pub(crate) fn exchange(
     agent: &mut Agent,
     community: &[u8],
     kind: Kind,

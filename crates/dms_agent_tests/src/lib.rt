@@ -7,3 +7,5 @@ mod agents;
 mod lines;
 #[cfg(test)]
 mod pictures;
+#[cfg(test)]
+mod states;

@@ -1,0 +1,9 @@
+mod Ends
+mod Listed
+mod LinesRead
+mod Filled
+mod WordForms
+mod CutTexts
+mod ValueLines
+mod TakenOver
+mod Kept

@@ -1,0 +1,10 @@
+use Rattle.std.proofs.Common.{arith}
+use Rattle.dms_agent_state.specs.AgentText.{text_of_agent}
+use Rattle.dms_agent_state.proofs.Filled.{whole_text}
+use Rattle.dms_agent_state.proofs.saving.saved.Goals as goal
+
+pub returns : goal.returns
+returns c =
+    whole_text (text_of_agent c.args.agent.now) c.as_mut_slice.result.now c.put_saved.new.buffer c.in_ok-text.text.items c.put_saved-size.result
+    c.in_ok-text.text.len c.put_saved-size.ensures.size c.if-size.false c.put_saved.ensures.text
+    (omega (arith, c.as_mut_slice.ensures.len, c.in_ok-text.ensures.len)) c.in_ok-text.ensures.len
