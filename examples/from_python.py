@@ -91,6 +91,7 @@ ARGUMENTS = {
     "sign_save": [SIGN, BUFFER, c_size_t, SIZE],
     "sign_save_most": [SIGN, SIZE],
     "sign_restore": [SIGN, c_char_p, c_size_t, BUFFER, c_size_t, POINTER(c_uint32), SIZE],
+    "sign_restore_objects": [SIGN, BUFFER, c_size_t, SIZE],
     "sign_receive": [SIGN, BUFFER, c_size_t, BUFFER, c_size_t, SIZE],
     "sign_tick": [SIGN],
     "sign_ticks": [SIGN, c_uint32],

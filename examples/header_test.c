@@ -82,6 +82,7 @@ static void without_a_sign(void)
         REFUSED(wisangub_sign_power_back(none, 1));
         REFUSED(wisangub_sign_save(none, buffer, sizeof buffer, &size));
         REFUSED(wisangub_sign_save_most(none, &size));
+        REFUSED(wisangub_sign_restore_objects(none, "", 0, &size));
         REFUSED(wisangub_sign_shown(none, &shown));
         REFUSED(wisangub_sign_changes(none, &count));
         REFUSED(wisangub_sign_ends(none, &count));
@@ -467,6 +468,33 @@ static void fonts_read(void)
     FAULT(wisangub_sign_publish(&sign, fonts, sizeof fonts, &given, NULL, 0, &read_only));
     FAULT(wisangub_sign_withdraw(&sign, fonts, sizeof fonts));
     DONE(wisangub_sign_show_fonts(&sign));
+}
+
+/* Values behind a state are put back where their objects take them, and are saved again; or a line is told. */
+static void objects_restored(void)
+{
+    static const char lines[] = "end\nset 1.3.6.1.4.1.1206.4.2.3.7.6.0 INTEGER 9\nset 1.3 NULL\n";
+    static const char wrong[] = "end\nset\n";
+    const struct wisangub_access takes = {0, 15, WISANGUB_NUMBERS};
+    const struct wisangub_value given = {7, WISANGUB_INTEGER};
+    struct wisangub_value found = {0, 0};
+    size_t line = 7, name_size = 0;
+    REFUSED(wisangub_sign_restore_objects(&sign, NULL, 0, &line));
+    REFUSED(wisangub_sign_restore_objects(&sign, lines, sizeof lines - 1, NULL));
+    DONE(wisangub_sign_publish(&sign, level, sizeof level, &given, NULL, 0, &takes));
+    NO_STATE(wisangub_sign_restore_objects(&sign, wrong, sizeof wrong - 1, &line));
+    assert(line == 2);
+    NO_STATE(wisangub_sign_restore_objects(&sign, lines, sizeof lines - 2, &line));
+    assert(line == 3);
+    DONE(wisangub_sign_object(&sign, level, sizeof level, &found, NULL, 0, &size));
+    assert(found.number == 7);
+    DONE(wisangub_sign_restore_objects(&sign, lines, sizeof lines - 1, &line));
+    assert(line == 3);
+    DONE(wisangub_sign_taken(&sign, room, sizeof room, &name_size, &found, NULL, 0, &size));
+    assert(found.number == 9 && name_size == sizeof level && memcmp(room, level, name_size) == 0);
+    DONE(wisangub_sign_save(&sign, room, sizeof room, &size));
+    assert(memcmp(room + size - 47, lines, 47) == 0);
+    DONE(wisangub_sign_withdraw(&sign, level, sizeof level));
 }
 
 /* An object of each type is read as it was published, and one in its place is read then. */
@@ -859,6 +887,7 @@ int main(int count, char **words)
     wrong_objects();
     fonts_read();
     objects_read();
+    objects_restored();
     objects_set();
     without_a_centre();
     command_causes();

@@ -20,18 +20,27 @@ off_t octets_of(const char *word)
 
 /* ---- a state */
 
+/* The octets of a state up to its line `end`: which values of objects a journal has is its own to say. */
+static size_t own_size(const char *state, size_t size)
+{
+    static const char end[] = "\nend\n";
+    const char *at = memmem(state, size, end, sizeof end - 1);
+    return at != NULL ? (size_t)(at - state) + sizeof end - 1 : size;
+}
+
 /* The state of a sign in memory that is taken for it; null where there is none. */
 static char *saved(const struct wisangub_sign *sign, size_t *size)
 {
-    size_t most = 0;
-    if (wisangub_sign_save_most(sign, &most) != WISANGUB_DONE) {
+    size_t room = 0;
+    if (wisangub_sign_save(sign, NULL, 0, &room) != WISANGUB_TOO_SMALL) {
         return NULL;
     }
-    char *state = malloc(most);
-    if (state != NULL && wisangub_sign_save(sign, state, most, size) != WISANGUB_DONE) {
+    char *state = malloc(room);
+    if (state == NULL || wisangub_sign_save(sign, state, room, size) != WISANGUB_DONE) {
         free(state);
-        state = NULL;
+        return NULL;
     }
+    *size = own_size(state, *size);
     return state;
 }
 

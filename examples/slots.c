@@ -77,6 +77,15 @@ enum wisangub_answer slots_start(struct slots *slots, struct wisangub_sign *sign
     return wisangub_sign_new(sign, text, text_size, &first, &line);
 }
 
+enum wisangub_answer slots_objects(struct slots *slots, struct wisangub_sign *sign)
+{
+    size_t line, size = 0;
+    if (!newest_read(slots, &size)) {
+        return WISANGUB_DONE;
+    }
+    return wisangub_sign_restore_objects(sign, slots->room + SLOT_HEAD, size, &line);
+}
+
 enum wisangub_answer slots_start_centre(struct slots *slots, struct wisangub_centre *centre, const void *community,
                                         size_t community_size, enum wisangub_order order, uint32_t first,
                                         enum slots_begin *begin)

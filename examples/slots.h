@@ -50,7 +50,16 @@ enum slots_begin {
 enum wisangub_answer slots_start(struct slots *slots, struct wisangub_sign *sign, const void *text, size_t text_size,
                                  enum slots_begin *begin);
 
-/* Writes the sign's state into the slot that is not the newest one. Answers 1, or 0 where the newest is the one before. */
+/*
+ * Puts the values that managers set back to the objects that firmware has published meanwhile, as the newest whole slot
+ * has them. Answers as wisangub_sign_restore_objects does, and DONE where no slot is whole.
+ */
+enum wisangub_answer slots_objects(struct slots *slots, struct wisangub_sign *sign);
+
+/*
+ * Writes the sign's state, with those values, into the slot that is not the newest one. Answers 1, or 0 where the newest
+ * is the one before.
+ */
 int slots_keep(struct slots *slots, const struct wisangub_sign *sign);
 
 /*

@@ -1,9 +1,10 @@
 /*
  * Slots of a simulated flash that loses its power at any octet: slots_test DESCRIPTION STEP. Of the states that a sign
  * is in, one after the other, the writing is cut at each STEP-th octet that is erased or written: what starts then is
- * the sign in the state before, octet for octet, and after the last octet in the new one. Each STEP-th bit is flipped,
- * and another description and a state that the library refuses are looked at too; and so is a central system while its
- * ledger grows, until it has outgrown the slot. It prints `ok`.
+ * the sign in the state before, octet for octet, and after the last octet in the new one, with what a manager set of an
+ * object that firmware publishes anew. Each STEP-th bit is flipped, and another description and a state that the library
+ * refuses are looked at too; and so is a central system while its ledger grows, until it has outgrown the slot. It prints
+ * `ok`.
  */
 #undef NDEBUG
 #include <assert.h>
@@ -69,6 +70,9 @@ static int chip_write(void *of, size_t at, const void *octets, size_t size)
     return size == 0;
 }
 
+/* sysContact.0 as the content octets of its name. */
+static const uint8_t contact[] = {43, 6, 1, 2, 1, 1, 4, 0};
+
 static const struct flash flash = {chip_read, chip_erase, chip_write, &chip, SLOT};
 
 /* ---- signs */
@@ -85,6 +89,14 @@ static int is_same(const struct state *one, const struct state *other)
     return one->size == other->size && memcmp(one->octets, other->octets, one->size) == 0;
 }
 
+/* sysContact, which a manager may set. */
+static void publish_contact(struct wisangub_sign *to)
+{
+    static const struct wisangub_value none = {0, WISANGUB_OCTET_STRING};
+    static const struct wisangub_access texts = {0, 8, WISANGUB_OCTETS};
+    assert(wisangub_sign_publish(to, contact, sizeof contact, &none, NULL, 0, &texts) == WISANGUB_DONE);
+}
+
 /* Firmware starts from the chip, which has power again. */
 static struct slots start(struct wisangub_sign *made, enum slots_begin wanted)
 {
@@ -93,6 +105,8 @@ static struct slots start(struct wisangub_sign *made, enum slots_begin wanted)
     chip.left = SIZE_MAX;
     wisangub_sign_free(made);
     assert(slots_start(&found, made, text, text_size, &begin) == WISANGUB_DONE && begin == wanted);
+    publish_contact(made);
+    assert(slots_objects(&found, made) == WISANGUB_DONE);
     return found;
 }
 
@@ -106,6 +120,23 @@ static void starts_in(const struct state *wanted)
     }
 }
 
+/* A manager sets the contact to one octet. */
+static void set_contact(uint8_t octet)
+{
+    uint8_t writer[32], request[80] = {0x30, 0, 2, 1, 0, 4}, reply[WISANGUB_DATAGRAM];
+    const uint8_t rest[] = {0xa3, 26, 2, 1, 1, 2, 1, 0, 2, 1, 0, 0x30, 15, 0x30, 13, 6, 8};
+    const uint8_t value[] = {4, 1, octet};
+    size_t size = 0, at = 7, reply_size = 0;
+    assert(wisangub_sign_writer(&sign, writer, sizeof writer, &size) == WISANGUB_DONE);
+    request[6] = (uint8_t)size;
+    memcpy(request + at, writer, size);
+    memcpy(request + (at += size), rest, sizeof rest);
+    memcpy(request + (at += sizeof rest), contact, sizeof contact);
+    memcpy(request + (at += sizeof contact), value, sizeof value);
+    request[1] = (uint8_t)(at + sizeof value - 2);
+    assert(wisangub_sign_receive(&sign, request, at + sizeof value, reply, sizeof reply, &reply_size) == WISANGUB_DONE);
+}
+
 /* The next state of the sign. */
 static void go_on(unsigned turn)
 {
@@ -113,6 +144,7 @@ static void go_on(unsigned turn)
     const char *next = texts[turn % 4];
     char line[PUBLICATION_MOST];
     wisangub_sign_power_back(&sign, 3);
+    set_contact((uint8_t)('A' + turn));
     size_t size = publication(line, next, strlen(next), turn % 3 ? 5 + turn : 65535);
     assert(carry_out(&sign, &centre, line, size).last == WISANGUB_DID);
     wisangub_sign_ticks(&sign, turn);
@@ -168,6 +200,19 @@ static void flipped(size_t step, const struct state *newer, const struct state *
         newest()[bit / 8] ^= (uint8_t)(1 << bit % 8);
     }
     starts_in(newer);
+}
+
+/* What a manager set last is in the state, as words, and is told to firmware that starts from it. */
+static void has_contact(const struct state *kept)
+{
+    static const char wanted[] = "\nend\nset 1.3.6.1.2.1.1.4.0 OCTET STRING 44\n";
+    uint8_t name[WISANGUB_NAME], octet = 0;
+    struct wisangub_value value;
+    size_t name_size = 0, size = 0, behind = sizeof wanted - 1;
+    assert(kept->size > behind && memcmp(kept->octets + kept->size - behind, wanted, behind) == 0);
+    starts_in(kept);
+    assert(wisangub_sign_taken(&started, name, sizeof name, &name_size, &value, &octet, 1, &size) == WISANGUB_DONE);
+    assert(name_size == sizeof contact && memcmp(name, contact, name_size) == 0 && size == 1 && octet == 'D');
 }
 
 /* Of another description no slot counts. */
@@ -298,6 +343,7 @@ int main(int count, char **words)
         keep(step, &before);
     }
     flipped(step, &before, &older);
+    has_contact(&before);
     of_another_description();
     refused();
     centres(step);

@@ -17,7 +17,7 @@
 #include "talk_objects.h"
 #include "wisangub.h"
 
-enum { TEXT_MOST = 1 << 20, LINE_MOST = 140000, PAGES_MOST = 6 * (WISANGUB_PAGE_HEAD + 256 * 64), STATE_MOST = 1 << 17 };
+enum { TEXT_MOST = 1 << 20, LINE_MOST = 140000, PAGES_MOST = 6 * (WISANGUB_PAGE_HEAD + 256 * 64) };
 
 static char text[TEXT_MOST], line[LINE_MOST];
 static size_t described; /* the octets of the text */
@@ -257,15 +257,28 @@ static void print_code(const char *words)
     print_octets("code ", sent, size, "\n");
 }
 
-/* The state as text; what goes on then is a sign that is made of it. */
+/* The octets of the sign's own state, up to its line `end`. */
+static size_t own_size(const uint8_t *saved, size_t size)
+{
+    size_t at = 0;
+    while (at + 5 < size && memcmp(saved + at, "\nend\n", 5) != 0) {
+        at++;
+    }
+    return at + 5;
+}
+
+/* The sign's state as text; what goes on then is a sign that is made of it. */
 static void save(void)
 {
-    static uint8_t saved[STATE_MOST];
     struct wisangub_sign made = {NULL};
     uint32_t first = 0;
     size_t size = 0, fault = 0;
-    wisangub_sign_save(&sign, saved, sizeof saved, &size);
-    enum wisangub_answer answer = wisangub_sign_restore(&made, text, described, saved, size, &first, &fault);
+    wisangub_sign_save(&sign, NULL, 0, &size);
+    uint8_t *saved = malloc(size);
+    enum wisangub_answer answer = saved == NULL ? WISANGUB_MEMORY : wisangub_sign_save(&sign, saved, size, &size);
+    if (answer == WISANGUB_DONE) {
+        answer = wisangub_sign_restore(&made, text, described, saved, size, &first, &fault);
+    }
     if (answer == WISANGUB_MEMORY) {
         puts("memory");
     } else if (answer != WISANGUB_DONE) {
@@ -273,9 +286,10 @@ static void save(void)
     } else {
         wisangub_sign_free(&sign);
         sign = made;
-        fwrite(saved, 1, size, stdout);
+        fwrite(saved, 1, own_size(saved, size), stdout);
         puts("ok");
     }
+    free(saved);
 }
 
 static void answer(void)

@@ -22,10 +22,10 @@
  * There is no global state, no thread, no exit and no abort. The two `_new` and the two `_restore` take memory (by
  * rattle_alloc), and wisangub_sign_free and wisangub_centre_free give it back; wisangub_sign_publish takes memory for
  * an object, which is given back as the object is withdrawn or another stands in its place; the two calls that draw
- * pages, the three that say why something is refused, and the command of a central system, take memory and give it back
- * before they answer; a central system takes some for its ledger, where its command or tick answers MEMORY if there is
- * none; no other call takes any. Sizes are octets and times are seconds. The functions answer one of enum
- * wisangub_answer. What is `const` is only read.
+ * pages, the three that say why something is refused, wisangub_sign_restore_objects, and the command of a central
+ * system, take memory and give it back before they answer; a central system takes some for its ledger, where its command
+ * or tick answers MEMORY if there is none; no other call takes any. Sizes are octets and times are seconds. The
+ * functions answer one of enum wisangub_answer. What is `const` is only read.
  *
  * A call that fills a buffer gives the size that it needs in *size. Where the room is smaller it answers TOO_SMALL and
  * does nothing else, and may be called again; null with a room of 0 asks for the size alone.
@@ -410,6 +410,8 @@ uint32_t wisangub_sign_receive_at(struct wisangub_sign *sign, const uint8_t *dat
                                   uint8_t *reply, size_t reply_room, size_t *reply_size);
 uint32_t wisangub_sign_restore_at(const uint8_t *text, size_t text_size, const uint8_t *state, size_t state_size,
                                   struct wisangub_sign *sign, uint32_t *first, size_t *line);
+uint32_t wisangub_sign_restore_objects_at(struct wisangub_sign *sign, const uint8_t *state, size_t state_size,
+                                          size_t *line);
 uint32_t wisangub_sign_save_at(const struct wisangub_sign *sign, uint8_t *state, size_t room, size_t *size);
 void wisangub_sign_save_most_at(const struct wisangub_sign *sign, size_t *size);
 void wisangub_sign_tick_at(struct wisangub_sign *sign);
@@ -525,9 +527,10 @@ WISANGUB_INLINE enum wisangub_answer wisangub_description_cause(const void *text
 
 /*
  * The state of a sign as text, from its line `state 1 sign` to `end`: all that came to be since it was made, as the
- * line `save` answers it (docs/PROFILE.md). Not in it are what the description says, the objects that are published
- * beside the sign, which firmware publishes again, and the count of wisangub_sign_changes. Answers DONE, with the text
- * in `state` and its size in *size; TOO_SMALL; or NULL. No memory is taken.
+ * line `save` answers it (docs/PROFILE.md); and behind it a line `set NAME VALUE` for each published object whose value
+ * a manager set, whether wisangub_sign_taken gave it or not. Not in it are what the description says, what firmware
+ * publishes, which it publishes again, and the count of wisangub_sign_changes. Answers DONE, with the text in `state`
+ * and its size in *size; TOO_SMALL; or NULL. No memory is taken.
  */
 WISANGUB_INLINE enum wisangub_answer wisangub_sign_save(const struct wisangub_sign *sign, void *state, size_t room,
                                                         size_t *size)
@@ -539,7 +542,11 @@ WISANGUB_INLINE enum wisangub_answer wisangub_sign_save(const struct wisangub_si
     return (enum wisangub_answer)wisangub_sign_save_at(sign, buffer, room, size);
 }
 
-/* The most octets that wisangub_sign_save gives of any state of a sign of this description. Answers DONE or NULL. */
+/*
+ * The most octets that wisangub_sign_save gives of any state of a sign of this description, up to its line `end`. The
+ * line of an object behind that has 6 more than its name and its value have as words: a number has 19 at most, octets
+ * have 13, and two for each. Answers DONE or NULL.
+ */
 WISANGUB_INLINE enum wisangub_answer wisangub_sign_save_most(const struct wisangub_sign *sign, size_t *size)
 {
     if (sign == NULL || sign->at == NULL || size == NULL) {
@@ -553,8 +560,8 @@ WISANGUB_INLINE enum wisangub_answer wisangub_sign_save_most(const struct wisang
  * Makes the sign of a description, as wisangub_sign_new does, in the state of a text that wisangub_sign_save gave of a
  * sign of this description: each call answers afterwards what it would have answered there. The time since then is
  * the caller's to tell, by wisangub_sign_ticks, or as a loss of power, by wisangub_sign_power_lost and
- * wisangub_sign_power_back. Answers as wisangub_sign_new does, and STATE, with the line for which the text is refused
- * in *line, counted from 1.
+ * wisangub_sign_power_back. What stands behind the line `end` is for wisangub_sign_restore_objects. Answers as
+ * wisangub_sign_new does, and STATE, with the line for which the text is refused in *line, counted from 1.
  */
 WISANGUB_INLINE enum wisangub_answer wisangub_sign_restore(struct wisangub_sign *sign, const void *text,
                                                            size_t text_size, const void *state, size_t state_size,
@@ -566,6 +573,22 @@ WISANGUB_INLINE enum wisangub_answer wisangub_sign_restore(struct wisangub_sign 
     }
     return (enum wisangub_answer)wisangub_sign_restore_at((const uint8_t *)text, text_size, (const uint8_t *)state,
                                                           state_size, sign, first, line);
+}
+
+/*
+ * Puts the values that managers set, as the text that wisangub_sign_save gave has them behind its line `end`, back to
+ * the objects that are published by now: each that takes the value of its name reads it, as if a manager had set it
+ * just now, so that wisangub_sign_taken gives it. Values of objects that are not published, or do not take them, are
+ * left out. Answers DONE; STATE, where a line is none of these, with its number in *line, counted from 1 from the
+ * beginning of the text, and nothing has changed; MEMORY, and nothing has changed; or NULL.
+ */
+WISANGUB_INLINE enum wisangub_answer wisangub_sign_restore_objects(struct wisangub_sign *sign, const void *state,
+                                                                   size_t state_size, size_t *line)
+{
+    if (sign == NULL || sign->at == NULL || state == NULL || line == NULL) {
+        return WISANGUB_NULL;
+    }
+    return (enum wisangub_answer)wisangub_sign_restore_objects_at(sign, (const uint8_t *)state, state_size, line);
 }
 
 /*

@@ -34,6 +34,7 @@ enum {
     OBJECT,
     TAKEN,
     FONTS,
+    PUT_BACK,
     CALLS
 };
 
@@ -186,6 +187,18 @@ static void take(struct wisangub_sign *sign)
     must(name_size == 0 && size == 0, "nothing more was set");
 }
 
+/* What stands behind a state is put back, or a line is told and nothing has changed; a state that was saved is. */
+static enum wisangub_answer put_back(struct wisangub_sign *sign, const uint8_t *from, size_t size)
+{
+    size_t line = 0, made = 0, wanted = 0;
+    enum wisangub_answer answer = wisangub_sign_restore_objects(sign, from, size, &line);
+    must(answer == WISANGUB_DONE || (answer == WISANGUB_STATE && line > 0 && line <= size + 1), "values put back");
+    must(wisangub_sign_save(sign, NULL, 0, &wanted) == WISANGUB_TOO_SMALL && wanted <= ROOM, "the size of a state");
+    must(wisangub_sign_save(sign, output - wanted, wanted, &made) == WISANGUB_DONE && made == wanted, "a state");
+    must(wisangub_sign_restore_objects(sign, output - wanted, wanted, &line) == WISANGUB_DONE, "its own values");
+    return answer;
+}
+
 /* ---- calls */
 
 /* What can be seen, but for the defaults. */
@@ -240,6 +253,7 @@ static void call(struct wisangub_sign *sign, struct wisangub_centre *centre, uns
     case OBJECT: answer = read_object(sign, from, size); break;
     case TAKEN: take(sign); break;
     case FONTS: answer = wisangub_sign_show_fonts(sign); break;
+    case PUT_BACK: answer = put_back(sign, from, size); break;
     default: wisangub_centre_restart(centre); break;
     }
     const struct picture now = picture_of(sign);

@@ -1,5 +1,6 @@
--- A sign that is made in the state of a text, as it is given to C (this profile).
-use Rattle.std.specs.Prelude.{◌≡◌, ℕ, ◌⊎◌, List, Option, Some, None}
+-- A sign that is made in the state of a text, and objects to which its values are put back, as they are given to C
+-- (this profile).
+use Rattle.std.specs.Prelude.{◌≡◌, ℕ, ◌⊎◌, List, Option, Some, None, Ok, Err}
 use Rattle.std.specs.Str.Lines.{lines}
 use Rattle.dms_text.specs.Lines.{kept_lines}
 use Rattle.dms_sign.specs.State.{start}
@@ -9,6 +10,11 @@ use Rattle.dms_sign_text.specs.declared.fault.DescriptionFault.TheVariants as fa
 use Rattle.dms_sign_restored.specs.declared.restoring.StateRefusal.{StateRefusal}
 use Rattle.dms_sign_restored.specs.Restored.{IsStateRefusal}
 use Rattle.dms_sign_restored.specs.RestoredTexts.{refused_line}
+use Rattle.dms_wire.specs.Message.{VarBind}
+use Rattle.dms_agent_state.specs.declared.fault.SetFault.{SetFault}
+use Rattle.dms_agent_state.specs.ValueLines.{values_of}
+use Rattle.dms_agent_state.specs.PutBack.{with_values}
+use Rattle.dms_agent_watched.specs.Watched.{WatchedSign}
 use Rattle.wisangub_c.specs.declared.state_calls.NoSign.{NoSign}
 use Rattle.wisangub_c.specs.declared.state_calls.NoSign.TheVariants as reasons
 use Rattle.wisangub_c.specs.Answers.{no_memory}
@@ -46,3 +52,13 @@ told_line (Some line) old = line
 
 abbrev pub line_after_refusal : StateRefusal → ℕ → ℕ
 line_after_refusal refusal old = told_line (refused_line refusal) old
+
+-- the text says some values of objects, and this is the sign to whose objects they are put back
+abbrev pub ArePutBack : WatchedSign → List ℕ → WatchedSign → Type 0
+ArePutBack w text after =
+    (bindings : List VarBind) × (values_of text ≡ Ok bindings)
+    × (after ≡ record w { agent = with_values w.agent bindings })
+
+-- the first line behind the line `end` of a text that says no value of an object
+abbrev pub IsSetLine : List ℕ → ℕ → Type 0
+IsSetLine text line = (fault : SetFault) × (values_of text ≡ Err fault) × (fault.line ≡ line)

@@ -1,48 +1,54 @@
-//! The state of a sign as text, from C: given, and a sign made of it again.
+//! The state of a sign and of the objects beside it as text, from C: given, a sign made of it again, and the values of
+//! its objects put back.
 
-ghost use Rattle.std.specs.Prelude.{◌≡◌, ◌≤◌, ◌⊎◌, ◌==◌, false, length, Some, IfOk, IfErr};
+ghost use Rattle.std.specs.Prelude.{◌≡◌, ◌≤◌, ◌+◌, ◌⊎◌, ◌==◌, false, length, Some, IfOk, IfErr};
 ghost use Rattle.std.specs.Str.Lines.{lines};
 ghost use Rattle.dms_text.specs.Lines.{kept_lines};
 ghost use Rattle.dms_sign.specs.State.{SignState, start};
 ghost use Rattle.dms_sign_text.specs.Description.{Description, SpellsSign};
 ghost use Rattle.dms_sign_text.specs.RefusedLine.{all_numbered, IsRefusedLine};
-ghost use Rattle.dms_sign_state.specs.StateText.{text_of_state, saved_rows, most_saved};
+ghost use Rattle.dms_sign_state.specs.StateText.{saved_rows, most_saved};
 ghost use Rattle.dms_sign_restored.specs.Restored.{IsPut};
+ghost use Rattle.dms_text_filling.specs.Filling.{counted};
 ghost use Rattle.dms_agent.specs.Promises.{alone};
+ghost use Rattle.dms_agent_state.specs.AgentText.{text_of_agent, kept_lines as objects_lines};
+ghost use Rattle.dms_agent_state.specs.Parts.{sign_part};
 ghost use Rattle.dms_agent_watched.specs.Watched.{unchanged};
 ghost use Rattle.wisangub_c.specs.Answers.{done, no_memory, at_fault, given_answer, given_buffer};
 ghost use Rattle.wisangub_c.specs.States.{state_refused, IsNoSign, IsRefusedAt, refusal_answer, line_after_refusal};
+ghost use Rattle.wisangub_c.specs.States.{ArePutBack, IsSetLine};
 
 use crate::sign_calls::{NewSign, fault_answer};
+use dms_agent::Agent;
+use dms_agent_state::{SetError, put_saved, saved_values, state_parts};
 use dms_agent_watched::Watched;
 use dms_codes::memory;
 use dms_sign::Sign;
 use dms_sign::laws::signs_are_kept;
 use dms_sign_restored::{StateRefusal, put_state};
-use dms_sign_state::put_saved;
 use dms_sign_text::{DescriptionFault, Setup, description};
 use std::alloc::Global;
 use wisangub_c_places::{SignHandle, SignPlace};
 use wisangub_c_values::{DONE, NO_MEMORY, STATE_REFUSED, TOO_SMALL};
 
-/// Gives the text of a sign's state.
-#[tactic(auto, using(crate::proofs::Given::whole))]
-fn give_state(sign: &Sign, state: &mut [u8], size: &mut usize) -> u32
-    ensures answer { result ≡ given_answer (text_of_state sign.now) (length state.old) }
-    ensures size { size.new ≡ length (text_of_state sign.now) }
-    ensures short { size.new ≤ most_saved (saved_rows sign.now) }
-    ensures state { state.new ≡ given_buffer (text_of_state sign.now) state.old }
+/// Gives the text of the state of a sign and of the objects beside it.
+#[tactic(auto, using(crate::proofs::SavedSizes::sized))]
+fn give_state(agent: &Agent, state: &mut [u8], size: &mut usize) -> u32
+    ensures answer { result ≡ given_answer (text_of_agent agent.now) (length state.old) }
+    ensures size { size.new ≡ counted (length (text_of_agent agent.now)) }
+    ensures short { size.new ≤ most_saved (saved_rows agent.now.sign) + length (objects_lines agent.now.device) }
+    ensures state { state.new ≡ given_buffer (text_of_agent agent.now) state.old }
 {
     let mut none: [u8; 0] = [];
-    *size = put_saved(&mut none, sign);
+    *size = put_saved(&mut none, agent);
     if state.len() < *size {
         return TOO_SMALL;
     }
-    put_saved(state, sign);
+    put_saved(state, agent);
     DONE
 }
 
-/// The text of the sign's state, which takes no memory.
+/// The text of the state of the sign and of the objects beside it, which takes no memory.
 #[unsafe(no_mangle)]
 pub extern "C" fn wisangub_sign_save_at(
     sign: &mut SignHandle,
@@ -50,12 +56,13 @@ pub extern "C" fn wisangub_sign_save_at(
     size: &mut usize,
 ) -> u32
     ensures same { sign.new.value ≡ sign.old.value }
-    ensures answer { result ≡ given_answer (text_of_state sign.old.value.agent.sign) (length state.old) }
-    ensures size { size.new ≡ length (text_of_state sign.old.value.agent.sign) }
-    ensures short { size.new ≤ most_saved (saved_rows sign.old.value.agent.sign) }
-    ensures state { state.new ≡ given_buffer (text_of_state sign.old.value.agent.sign) state.old }
+    ensures answer { result ≡ given_answer (text_of_agent sign.old.value.agent) (length state.old) }
+    ensures size { size.new ≡ counted (length (text_of_agent sign.old.value.agent)) }
+    ensures short { size.new ≤ most_saved (saved_rows sign.old.value.agent.sign)
+        + length (objects_lines sign.old.value.agent.device) }
+    ensures state { state.new ≡ given_buffer (text_of_agent sign.old.value.agent) state.old }
 {
-    give_state(sign.as_mut().sign(), state, size)
+    give_state(sign.as_mut().agent(), state, size)
 }
 
 /// The most octets of the text of any state of a sign with these rows.
@@ -68,7 +75,7 @@ fn most_saved(sign: &Sign) -> usize
     3337 + 1315 * rows
 }
 
-/// The most octets that the sign's state ever has.
+/// The most octets that the sign's own state ever has, without the lines of objects behind it.
 #[unsafe(no_mangle)]
 pub extern "C" fn wisangub_sign_save_most_at(sign: &mut SignHandle, size: &mut usize)
     ensures same { sign.new.value ≡ sign.old.value }
@@ -88,15 +95,16 @@ pub(crate) enum NoSign {
 /// The sign of a description in the state of a text, on the heap.
 fn restored(alloc: Global, text: &[u8], state: &[u8]) -> Result<NewSign, NoSign>
     ensures made { IfOk result (λ made. (it : Description) × SpellsSign (kept_lines text.now) it
-        × ((s : SignState) × IsPut (start it.config it.table) state.now s × (made.sign.value ≡ unchanged (alone s)))
-        × (made.first ≡ it.first)) }
-    ensures fault { IfErr result (IsNoSign text.now state.now) }
+        × ((s : SignState) × IsPut (start it.config it.table) (sign_part state.now) s
+        × (made.sign.value ≡ unchanged (alone s))) × (made.first ≡ it.first)) }
+    ensures fault { IfErr result (IsNoSign text.now (sign_part state.now)) }
 {
     let Setup { sign, first } = match description(alloc, text) {
         Ok(setup) => setup,
         Err(fault) => return Err(NoSign::Description(fault)),
     };
-    let sign = match put_state(alloc, sign, state) {
+    let (own, _) = state_parts(state);
+    let sign = match put_state(alloc, sign, own) {
         Ok(sign) => sign,
         Err(refusal) => return Err(NoSign::State(refusal)),
     };
@@ -108,7 +116,8 @@ fn restored(alloc: Global, text: &[u8], state: &[u8]) -> Result<NewSign, NoSign>
 
 /// Makes the sign of a description in the state of a text, beside which nothing is published, in the place `sign`:
 /// `first` is the number of the first request of its centre. Where the description is at fault, or the text is no state
-/// of this sign, `line` is the number of the line for which it is refused, from 1.
+/// of this sign, `line` is the number of the line for which it is refused, from 1. Behind the text's first line `end`
+/// nothing is looked at.
 #[unsafe(no_mangle)]
 pub extern "C" fn wisangub_sign_restore_at(
     alloc: Global,
@@ -120,11 +129,11 @@ pub extern "C" fn wisangub_sign_restore_at(
 ) -> u32
     ensures answer { (result ≡ done) ⊎ ((result ≡ at_fault) ⊎ ((result ≡ state_refused) ⊎ (result ≡ no_memory))) }
     ensures made { result ≡ done → (it : Description) × SpellsSign (kept_lines text.now) it
-        × ((s : SignState) × IsPut (start it.config it.table) state.now s
+        × ((s : SignState) × IsPut (start it.config it.table) (sign_part state.now) s
         × (sign.new.value ≡ Some (unchanged (alone s)))) × (first.new ≡ it.first) }
     ensures fault { result ≡ at_fault → (it : Description) → SpellsSign (kept_lines text.now) it → ⊥ }
     ensures number { result ≡ at_fault → IsRefusedLine (all_numbered (lines text.now)) line.new }
-    ensures refused { result ≡ state_refused → IsRefusedAt text.now state.now line.new }
+    ensures refused { result ≡ state_refused → IsRefusedAt text.now (sign_part state.now) line.new }
     ensures unchanged { (result == done) ≡ false → (sign.new ≡ sign.old) × (first.new ≡ first.old) }
     ensures line { (result ≡ done) ⊎ (result ≡ no_memory) → line.new ≡ line.old }
 {
@@ -145,10 +154,42 @@ fn refusal_answer(refusal: &StateRefusal, line: &mut usize) -> u32
     ensures line { line.new ≡ line_after_refusal refusal.now line.old }
 {
     match refusal.line() {
-        Some(number) => {
-            *line = number;
-            STATE_REFUSED
-        }
+        Some(number) => refused_at(number, line),
         None => NO_MEMORY,
+    }
+}
+
+/// What is answered of a line that is refused.
+fn refused_at(number: usize, line: &mut usize) -> u32
+    ensures answer { result ≡ state_refused }
+    ensures line { line.new ≡ number }
+{
+    *line = number;
+    STATE_REFUSED
+}
+
+/// Puts the values of objects that a text of a state has behind its first line `end` back to the published objects of
+/// their names, each that takes its value. Where a line there is none of an object's value, `line` is its number in the
+/// text, from 1, and nothing changes.
+#[unsafe(no_mangle)]
+pub extern "C" fn wisangub_sign_restore_objects_at(
+    alloc: Global,
+    sign: &mut SignHandle,
+    state: &[u8],
+    line: &mut usize,
+) -> u32
+    ensures answer { (result ≡ done) ⊎ ((result ≡ state_refused) ⊎ (result ≡ no_memory)) }
+    ensures put { result ≡ done → ArePutBack sign.old.value state.now sign.new.value }
+    ensures refused { result ≡ state_refused → IsSetLine state.now line.new }
+    ensures unchanged { (result == done) ≡ false → sign.new.value ≡ sign.old.value }
+    ensures line { (result == state_refused) ≡ false → line.new ≡ line.old }
+{
+    match saved_values(alloc, state) {
+        Ok(values) => {
+            sign.as_mut().put_back(values.as_slice());
+            DONE
+        }
+        Err(SetError::Memory) => NO_MEMORY,
+        Err(SetError::Fault(fault)) => refused_at(fault.line, line),
     }
 }
