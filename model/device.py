@@ -21,12 +21,18 @@ class Access:
 
 @dataclass
 class Object:
-    """An object, read alone where it has no access; whether a manager set it since firmware last asked."""
+    """An object, read alone where it has no access; whether a manager set it since firmware last asked, and whether its
+    value is one that a manager set."""
 
     name: wire.Name
     value: wire.Tagged
     access: Access | None = None
     is_set: bool = False
+    by_manager: bool = False
+
+    def set(self, value: wire.Tagged) -> None:
+        """It has a manager's value."""
+        self.value, self.is_set, self.by_manager = value, True, True
 
 
 class Device:
@@ -67,8 +73,14 @@ class Device:
             if name in (earlier for earlier, _ in message.bindings[: at - 1]):
                 return wire.GENERAL, at
         for name, value in message.bindings:
-            self.objects[name].value, self.objects[name].is_set = value, True
+            self.objects[name].set(value)
         return wire.NO_ERROR, 0
+
+    def put_back(self, name: wire.Name, value: wire.Tagged) -> None:
+        """The object of this name has a manager's value again, where there is one that takes it."""
+        found = self.objects.get(name)
+        if found is not None and found.access is not None and found.access.takes(value):
+            found.set(value)
 
     def taken(self) -> list[Object]:
         """The objects that were set since this was last asked, in the order of names."""

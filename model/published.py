@@ -72,13 +72,18 @@ def _access(words: list[bytes]) -> Access | None:
     raise ValueError
 
 
-def published(words: list[bytes]) -> Object:
-    """The object of a line's words behind the first; raises ValueError, which says what is not there."""
+def valued(words: list[bytes]) -> tuple[wire.Name, wire.Tagged, list[bytes]]:
+    """A name, its value, and the words after it; raises ValueError, which says what is not there."""
     named = named_by(words)
     try:
-        value, rest = _value(words[1:])
+        return named, *_value(words[1:])
     except (ValueError, IndexError):
         raise ValueError("word 3: a value is wanted, as INTEGER 7") from None
+
+
+def published(words: list[bytes]) -> Object:
+    """The object of a line's words behind the first; raises ValueError, which says what is not there."""
+    named, value, rest = valued(words)
     try:
         return Object(named, value, _access(rest))
     except ValueError:
