@@ -7,3 +7,4 @@ mod CutTexts
 mod ValueLines
 mod TakenOver
 mod Kept
+mod ReadLimits

@@ -66,6 +66,8 @@ pub fn objects_can_be_saved()
     ensures first_told { (objects : List DeviceObject) → CanAllBeSaved objects → CanAllBeSaved (told_first objects) }
     ensures put_back { (objects : List DeviceObject) (bindings : List VarBind) → AreBindingsInLimits bindings
         → CanAllBeSaved objects → CanAllBeSaved (written objects bindings) }
+    ensures read { (text : List ℕ) (bindings : List VarBind) → values_of text ≡ Ok bindings
+        → AreBindingsInLimits bindings }
 {}
 
 /// Whatever datagram comes to an agent, its objects can be saved afterwards where they could before.
