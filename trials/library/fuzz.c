@@ -416,7 +416,20 @@ static void centre_states(const uint8_t *text, size_t size)
     wisangub_centre_free(&centre);
 }
 
-/* A text is the state of the sign that is made of it, or names a line; and the sign goes on. */
+/* What stands behind the sign's own state is put back to an object of any octets, or names a line. */
+static void values(struct wisangub_sign *sign, const uint8_t *text, size_t size)
+{
+    static const uint8_t contact[] = {43, 6, 1, 2, 1, 1, 4, 0};
+    static const struct wisangub_value none = {0, WISANGUB_OCTET_STRING};
+    static const struct wisangub_access octets = {0, UINT16_MAX, WISANGUB_OCTETS};
+    size_t line = 0;
+    must(wisangub_sign_publish(sign, contact, sizeof contact, &none, NULL, 0, &octets) == WISANGUB_DONE, "an object");
+    enum wisangub_answer answer = wisangub_sign_restore_objects(sign, text, size, &line);
+    must(answer == WISANGUB_DONE || (answer == WISANGUB_STATE && line > 0), "values of a state");
+    seen(2, answer, line);
+}
+
+/* A text is the state of the sign that is made of it, up to `end`, or names a line; and the sign goes on. */
 static void states(const uint8_t *octets, size_t size)
 {
     struct wisangub_sign sign = {NULL};
@@ -429,10 +442,12 @@ static void states(const uint8_t *octets, size_t size)
     must(answer == WISANGUB_DONE || (answer == WISANGUB_STATE && sign.at == NULL && line > 0), "a state");
     seen(0, answer, line);
     if (answer == WISANGUB_DONE) {
-        must(wisangub_sign_save_most(&sign, &most) == WISANGUB_DONE && size <= most, "the most octets of a state");
-        must(wisangub_sign_save(&sign, NULL, 0, &needed) == WISANGUB_TOO_SMALL && needed == size, "its size");
-        must(wisangub_sign_save(&sign, output - size, size, &made) == WISANGUB_DONE && made == size, "its text");
-        must(memcmp(output - size, text, size) == 0, "the same text");
+        must(wisangub_sign_save(&sign, NULL, 0, &needed) == WISANGUB_TOO_SMALL && needed <= size, "its size");
+        must(wisangub_sign_save_most(&sign, &most) == WISANGUB_DONE && needed <= most, "the most octets of a state");
+        must(wisangub_sign_save(&sign, output - needed, needed, &made) == WISANGUB_DONE && made == needed, "its text");
+        must(memcmp(output - needed, text, needed) == 0, "the same text");
+        must(needed == size || memcmp(text + needed - 5, "\nend\n", 5) == 0, "what is behind its end");
+        values(&sign, text, size);
         wisangub_sign_tick(&sign);
         draw(&sign);
     }

@@ -90,14 +90,16 @@ def centre_states() -> list[bytes]:
 
 
 def states() -> list[bytes]:
-    """Those that a sign is in after each of the vectors' requests, and without power; those of a central system."""
+    """Those that a sign is in after each of the vectors' requests, and without power, then with a value of an object;
+    those of a central system."""
     sign, found = Sign(text.bench()), centre_states()
     for case in cases("requests"):
         sign.receive(bytes.fromhex(case["request"]))
         sign.tick()
         found.append("\n".join([*saved(sign.state), ""]).encode("ascii"))
     sign.showing.power_lost()
-    return [*found, "\n".join([*saved(sign.state), ""]).encode("ascii")]
+    last = "\n".join([*saved(sign.state), ""])
+    return [*found, *(one.encode("ascii") for one in (last, f"{last}set 1.3.6.1.2.1.1.4.0 OCTET STRING 6e6f63\n"))]
 
 
 def inputs(kind: str) -> list[bytes]:
