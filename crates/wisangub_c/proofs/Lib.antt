@@ -1,3 +1,4 @@
+pub mod CentreFaults
 mod Entries
 pub mod Given
 mod RowLaws

@@ -1,10 +1,13 @@
 -- A central system that is made in the state of a text, as it is given to C (this profile).
-use Rattle.std.specs.Prelude.{ℕ, List, Option, Some, None}
+use Rattle.std.specs.Prelude.{◌≡◌, ℕ, List, Option, Some, None}
 use Rattle.dms_centre_jobs.specs.Job.{SettingsModel}
 use Rattle.dms_centre.specs.Room.{CentreModel}
 use Rattle.dms_centre_restored.specs.declared.refusal.RestoreFault.{RestoreFault}
 use Rattle.dms_centre_restored.specs.declared.refusal.RestoreFault.TheVariants as faults
+use Rattle.dms_centre_restored.specs.declared.refusal.StateRefusal.{StateRefusal}
 use Rattle.dms_centre_restored.specs.Restored.{IsRestored}
+use Rattle.dms_centre_restored.specs.Faults.{IsWrongTold}
+use Rattle.dms_centre_restored.specs.FirstFault.{IsFirstTold}
 use Rattle.dms_centre_restored.specs.RestoredTexts.{refused_line}
 use Rattle.wisangub_c.specs.Answers.{at_fault}
 use Rattle.wisangub_c.specs.States.{line_answer, told_line}
@@ -13,6 +16,12 @@ use Rattle.wisangub_c.specs.States.{line_answer, told_line}
 abbrev pub IsPlacedIn : SettingsModel → List ℕ → Option CentreModel → Type 0
 IsPlacedIn settings text None = ⊥
 IsPlacedIn settings text (Some centre) = IsRestored settings text centre.state
+
+-- no central system of these settings goes on from the text, for this line of it, which is that of its first fault
+abbrev pub IsRefusedAt : SettingsModel → List ℕ → ℕ → Type 0
+IsRefusedAt settings text line =
+    (refusal : StateRefusal) × IsFirstTold settings text refusal × IsWrongTold settings text refusal
+    × (refused_line refusal ≡ Some line)
 
 abbrev pub restore_answer : RestoreFault → ℕ
 restore_answer (faults.Settings fault) = at_fault

@@ -7,10 +7,12 @@ ghost use Rattle.dms_codes.specs.Limits.{has_community_size};
 ghost use Rattle.dms_centre.specs.CodeView.{settings_model};
 ghost use Rattle.dms_centre_state.specs.CentreText.{text_of_state};
 ghost use Rattle.dms_centre_restored.specs.Restored.{IsRestored, IsLineOf, IsLineFaultOf, is_of_settings};
+ghost use Rattle.dms_centre_restored.specs.Faults.{IsWrong};
+ghost use Rattle.dms_centre_restored.specs.FirstFault.{IsFirstFault};
 ghost use Rattle.wisangub_c_values.specs.Codes.{order_of};
 ghost use Rattle.wisangub_c.specs.Answers.{done, no_memory, at_fault, out_of_range, given_answer, given_buffer};
 ghost use Rattle.wisangub_c.specs.States.{state_refused};
-ghost use Rattle.wisangub_c.specs.CentreStates.{IsPlacedIn, restore_answer, line_after_restore};
+ghost use Rattle.wisangub_c.specs.CentreStates.{IsPlacedIn, IsRefusedAt, restore_answer, line_after_restore};
 
 use dms_centre::{Centre, Settings};
 use dms_centre_restored::{RestoreFault, StateRefusal, restored};
@@ -75,6 +77,8 @@ fn gone_on(alloc: Global, settings: Settings<'_>, state: &[u8]) -> Result<Box<Ce
     ensures fault { IfErr result
         (λ fault. is_of_settings fault ≡ not (has_community_size settings.entry.community.now)) }
     ensures line { IfErr result (IsLineFaultOf state.now) }
+    ensures first { IfErr result (IsFirstFault (settings_model settings.entry) state.now) }
+    ensures wrong { IfErr result (IsWrong (settings_model settings.entry) state.now) }
 {
     let centre = restored(alloc, settings, state)?;
     match Box::new(alloc, centre) {
@@ -85,7 +89,7 @@ fn gone_on(alloc: Global, settings: Settings<'_>, state: &[u8]) -> Result<Box<Ce
 
 /// Makes a central system as `wisangub_centre_new_at` does, but in the state of a text, in the place `centre`. An order
 /// that is none is found first, and then a community that is none. Where the text is no state of a central system,
-/// `line` is the number of the line for which it is refused, from 1.
+/// `line` is the number of its first line that is not as it must be, from 1.
 #[unsafe(no_mangle)]
 pub extern "C" fn wisangub_centre_restore_at(
     alloc: Global,
@@ -103,6 +107,8 @@ pub extern "C" fn wisangub_centre_restore_at(
     ensures made { result ≡ done → IfSome (order_of order)
         (λ which. IsPlacedIn (record { community = community.now; order = which }) state.now centre.new.value) }
     ensures refused { result ≡ state_refused → IsLineOf state.now line.new }
+    ensures first { result ≡ state_refused → IfSome (order_of order)
+        (λ which. IsRefusedAt (record { community = community.now; order = which }) state.now line.new) }
     ensures unchanged { (result == done) ≡ false → centre.new ≡ centre.old }
     ensures line { (result == state_refused) ≡ false → line.new ≡ line.old }
 {
