@@ -9,6 +9,7 @@ use signtool_cli::asked;
 use std::alloc::{AllocError, Global};
 use std::io;
 use std::io::Read;
+use std::process::Abort;
 use std::test::Fail;
 
 /// The call that these words are, if they are one.
@@ -88,7 +89,7 @@ fn each_activation_is_printed_or_refused(rt: HostRuntime) -> Result<(), Fail> {
 }
 
 #[test]
-fn calls_with_input(rt: HostRuntime) {
+fn each_call_prints_what_its_input_asks(rt: HostRuntime) {
     for cases in [
         cases::DESCRIBED.as_slice(),
         cases::REPLAYS.as_slice(),
@@ -99,6 +100,17 @@ fn calls_with_input(rt: HostRuntime) {
             assert_eq!(rt; found, Some((*status, true)), "for {line}");
         }
     }
+}
+
+/// Lines after a description are to the sign that it describes, or to its central system.
+#[test]
+fn lines_after_a_description_are_answered(rt: HostRuntime) -> Result<(), Fail> {
+    let input = format!(in rt.alloc(); "{}{}", cases::SMALL_SIGN, cases::SMALL_TALK)?;
+    for (line, printed) in cases::AFTER_DESCRIPTION {
+        let found = called(rt.alloc(), line, input.as_str(), printed);
+        assert_eq!(rt; found, Some((0, true)), "for {line}");
+    }
+    Ok(())
 }
 
 /// The status of the call that a line is on this input, and whether this is printed and that is said on the standard
@@ -177,7 +189,7 @@ fn refusals_say_why(rt: HostRuntime) -> Result<(), Fail> {
 }
 
 #[test]
-fn refuses_a_long_text(rt: HostRuntime) -> Result<(), Fail> {
+fn a_text_of_513_octets_is_refused(rt: HostRuntime) -> Result<(), Fail> {
     let long = [b'A'; 513];
     for (length, status) in [(512, 0), (513, 1)] {
         let text = str::from_utf8(&long[..length])?;
@@ -190,7 +202,7 @@ fn refuses_a_long_text(rt: HostRuntime) -> Result<(), Fail> {
 
 /// The address is looked at before the length of the text.
 #[test]
-fn bad_address_first(rt: HostRuntime) -> Result<(), Fail> {
+fn a_bad_address_is_told_before_a_long_text(rt: HostRuntime) -> Result<(), Fail> {
     let text = [b'A'; 513];
     let long = str::from_utf8(&text)?;
     for (address, printed, status) in [
@@ -205,7 +217,7 @@ fn bad_address_first(rt: HostRuntime) -> Result<(), Fail> {
 }
 
 #[test]
-fn reads_the_command_line(rt: HostRuntime) -> Result<(), Fail> {
+fn a_command_line_is_read_as_its_call(rt: HostRuntime) -> Result<(), Fail> {
     let Some(Call::Answer { hex, sign }) = call_of(rt.alloc(), &["signtool", "answer", "30"]) else {
         return Err("no answer".into());
     };
@@ -251,80 +263,77 @@ fn an_end_begins_in_a_state(rt: HostRuntime) -> Result<(), Fail> {
     Ok(())
 }
 
-/// The sign goes on where it was saved, with a description before its state too.
-#[test]
-fn a_conversation_goes_on_from_a_state(rt: HostRuntime) -> Result<(), Fail> {
-    let state = cases::WITHOUT_POWER;
-    let asked = format!(in rt.alloc(); "{state}save\npower-back 5\nstate\n")?;
-    let told = "ok\nok\nshown 7 1 0000 mode 10 priority 1 remaining 65535 text -\nok\n";
-    let printed = format!(in rt.alloc(); "{state}{told}")?;
-    let found = called(
-        rt.alloc(),
-        "sign --restore",
-        asked.as_str(),
-        printed.as_str(),
-    );
+/// An end goes on from this state: `save` gives it back, and then the lines of a talk are answered as it says. `save`
+/// gives it back with a description before it too.
+fn check_goes_on(
+    rt: &impl Abort,
+    alloc: Global,
+    end: &str,
+    state: &str,
+    talk: (&str, &str),
+) -> Result<(), Fail> {
+    let (lines, answers) = talk;
+    let line = format!(in alloc; "{end} --restore")?;
+    let asked = format!(in alloc; "{state}save\n{lines}")?;
+    let printed = format!(in alloc; "{state}ok\n{answers}")?;
+    let found = called(alloc, line.as_str(), asked.as_str(), printed.as_str());
     assert_eq!(rt; found, Some((0, true)));
-    let described = format!(in rt.alloc(); "{}{state}save\n", cases::SMALL_SIGN)?;
-    let printed = format!(in rt.alloc(); "{state}ok\n")?;
-    let found = called(
-        rt.alloc(),
-        "sign --sign --restore",
-        described.as_str(),
-        printed.as_str(),
-    );
+    let line = format!(in alloc; "{end} --sign --restore")?;
+    let asked = format!(in alloc; "{}{state}save\n", cases::SMALL_SIGN)?;
+    let printed = format!(in alloc; "{state}ok\n")?;
+    let found = called(alloc, line.as_str(), asked.as_str(), printed.as_str());
     assert_eq!(rt; found, Some((0, true)));
     Ok(())
+}
+
+#[test]
+fn a_conversation_goes_on_from_a_state(rt: HostRuntime) -> Result<(), Fail> {
+    let told = "ok\nshown 7 1 0000 mode 10 priority 1 remaining 65535 text -\nok\n";
+    let talk = ("power-back 5\nstate\n", told);
+    check_goes_on(&rt, rt.alloc(), "sign", cases::WITHOUT_POWER, talk)
+}
+
+/// What waits goes out again when its tick comes, and is answered once.
+#[test]
+fn a_centre_goes_on_from_a_state(rt: HostRuntime) -> Result<(), Fail> {
+    let talk = ("restart\nstatus\n", cases::RESTARTED);
+    check_goes_on(&rt, rt.alloc(), "centre", cases::WAITING, talk)
 }
 
 /// The line of a state that is refused is told, and why.
 #[test]
 fn a_refused_state_is_told(rt: HostRuntime) {
-    for (state, printed, said) in cases::NO_STATES {
-        let found = told_on_input(rt.alloc(), "sign --restore", state, printed, said);
-        assert_eq!(rt; found, Some((1, true, true)), "for {state}");
+    for (line, states) in [
+        ("sign --restore", cases::NO_STATES),
+        ("centre --restore", cases::NO_CENTRES),
+    ] {
+        for (state, printed, said) in states {
+            let found = told_on_input(rt.alloc(), line, state, printed, said);
+            assert_eq!(rt; found, Some((1, true, true)), "for {state}");
+        }
     }
 }
 
-/// A central system goes on where it was saved: what waits goes out again when its tick comes, and is answered once.
 #[test]
-fn a_centre_goes_on_from_a_state(rt: HostRuntime) -> Result<(), Fail> {
-    let state = cases::WAITING;
-    let asked = format!(in rt.alloc(); "{state}save\nrestart\nstatus\n")?;
-    let ledger =
-        "ledger 1 ffffff0700010000c0000201 accepted\nledger 2 ffffff0700020000c0000201 unknown\n";
-    let how = "idle\nlast failed at step 7: the central system was restarted\n";
-    let printed = format!(in rt.alloc(); "{state}ok\nok\n{how}{ledger}ok\n")?;
-    let found = called(
+fn a_row_that_the_sign_has_not_is_told(rt: HostRuntime) -> Result<(), Fail> {
+    let state = cases::WITHOUT_POWER
+        .strip_prefix("state 1 sign\n")
+        .ok_or("no state")?;
+    let state = format!(in rt.alloc(); "state 1 sign\nchangeable 3 4 41 - 0 0 1\n{state}")?;
+    let said = "state line 2: no such row can be changed\n";
+    let found = told_on_input(
         rt.alloc(),
-        "centre --restore",
-        asked.as_str(),
-        printed.as_str(),
+        "sign --restore",
+        state.as_str(),
+        "state line 2\n",
+        said,
     );
-    assert_eq!(rt; found, Some((0, true)));
-    let described = format!(in rt.alloc(); "{}{state}save\n", cases::SMALL_SIGN)?;
-    let printed = format!(in rt.alloc(); "{state}ok\n")?;
-    let found = called(
-        rt.alloc(),
-        "centre --sign --restore",
-        described.as_str(),
-        printed.as_str(),
-    );
-    assert_eq!(rt; found, Some((0, true)));
+    assert_eq!(rt; found, Some((1, true, true)));
     Ok(())
 }
 
-/// The line of a central system's state that is refused is told, and why.
 #[test]
-fn a_refused_state_of_a_centre_is_told(rt: HostRuntime) {
-    for (state, printed, said) in cases::NO_CENTRES {
-        let found = told_on_input(rt.alloc(), "centre --restore", state, printed, said);
-        assert_eq!(rt; found, Some((1, true, true)), "for {state}");
-    }
-}
-
-#[test]
-fn refuses_other_command_lines(rt: HostRuntime) -> Result<(), Fail> {
+fn other_lines_are_no_call(rt: HostRuntime) -> Result<(), Fail> {
     for line in cases::NO_CALLS {
         let words = words_of(rt.alloc(), line)?;
         assert!(rt; call_of(rt.alloc(), &words).is_none(), "for {line}");
@@ -357,7 +366,7 @@ fn numbers_are_digits_alone(rt: HostRuntime) {
 
 /// Where a word follows `--sign` as if it named a file, the last line says how a description is given.
 #[test]
-fn hints_at_the_standard_input(rt: HostRuntime) {
+fn a_file_after_sign_is_told_of_the_standard_input(rt: HostRuntime) {
     for (line, is_hinted) in cases::HINTED {
         let usage = usage_of(rt.alloc(), line);
         let found = match &usage {
@@ -445,7 +454,7 @@ fn an_input_that_fails_or_is_too_long_is_told(rt: HostRuntime) {
 
 /// Where a whole input is read first, an octet past the limit decides before a call that would fail after it.
 #[test]
-fn too_long_before_a_failure(rt: HostRuntime) {
+fn an_octet_past_the_limit_decides_before_a_failure(rt: HostRuntime) {
     for call in &cases::READ_FIRST {
         let input = Filler {
             left: 1_048_577,
@@ -473,7 +482,7 @@ fn long_lines_are_refused(rt: HostRuntime) {
 /// An output that is full after each octet in turn has a prefix of what is to be printed, and the status says that this
 /// is not all.
 #[test]
-fn full_after_each_octet(rt: HostRuntime) {
+fn an_output_that_is_full_has_a_prefix(rt: HostRuntime) {
     for (call, input, printed) in cases::BY_LINES {
         let printed = printed.as_bytes();
         for room in 0..=printed.len() {

@@ -17,22 +17,44 @@ glyph 65 5 7463f8c620
 end
 ";
 
-/// Its description, and lines to it after that.
+/// Lines after its description.
 pub const SMALL_TALK: &str = "\
-size 5 7
-communities public admin
-rows 1 1
-order swapped
-has 0 0
-defaults 0 1 5 5 1 2 2 10 0
-first 1
-font 1 height 7 space 1 line 1 version 0001
-glyph 65 5 7463f8c620
-end
 show
 power-lost
 power-back 5
 end";
+
+/// Calls that are answered after a description: the words, and what is printed.
+pub static AFTER_DESCRIPTION: [(&str, &str); 2] = [
+    // of a sign
+    (
+        "sign --sign",
+        "\
+page 1 on 10 off 0 back 0
+.....
+.....
+.....
+.....
+.....
+.....
+.....
+ok
+ok
+ok
+bad line no call begins with this word
+",
+    ),
+    // of a central system: none of the lines is a command
+    (
+        "centre --sign",
+        "\
+bad line no call begins with this word
+bad line no call begins with this word
+bad line no call begins with this word
+bad line no call begins with this word
+",
+    ),
+];
 
 /// The bench sign's state after its power was lost.
 pub const WITHOUT_POWER: &str = "\
@@ -82,6 +104,16 @@ ledger 2 ffffff0700020000c0000201 waiting
 end
 ";
 
+/// What the central system answers to `restart` and `status` in that state.
+pub const RESTARTED: &str = "\
+ok
+idle
+last failed at step 7: the central system was restarted
+ledger 1 ffffff0700010000c0000201 accepted
+ledger 2 ffffff0700020000c0000201 unknown
+ok
+";
+
 /// States that no central system is in: what is printed, and what is said.
 pub static NO_CENTRES: [(&str, &str, &str); 4] = [
     // nothing
@@ -118,7 +150,7 @@ end
 ];
 
 /// States that the bench sign is not in: what is printed, and what is said.
-pub static NO_STATES: [(&str, &str, &str); 5] = [
+pub static NO_STATES: [(&str, &str, &str); 4] = [
     // nothing
     ("", "state line 1\n", "state line 1: state 1 sign wanted\n"),
     // it ends within its first line
@@ -138,42 +170,6 @@ pub static NO_STATES: [(&str, &str, &str); 5] = [
         "state 1 sign\nend\ntick\n",
         "state line 2\n",
         "state line 2: defaults and nine numbers wanted\n",
-    ),
-    // a row that the sign has not
-    (
-        "\
-state 1 sign
-changeable 3 4 41 - 0 0 1
-defaults 0 9 5 5 1 3 2 30 0
-short-power-recovery 0700010000
-long-power-recovery 0700010000
-power-loss 0700010000
-end-duration 0700010000
-communications-loss 0700010000
-short-power-loss-time 0
-time-comm-loss 0
-silent 0
-shown - - 0 0 1
-shown-source 0700010000
-shown-mode 10
-shown-address 0.0.0.0
-shown-defaults 0 9 5 5 1 3 2 30 0
-kept - - 0 0 1
-kept-source 0700010000
-kept-mode 10
-kept-address 0.0.0.0
-kept-defaults 0 9 5 5 1 3 2 30 0
-validate-error 2
-activate-error 2
-syntax-error 2
-syntax-error-position 0
-accepted-code 000000000000000000000000
-failed-code 000000000000000000000000
-powered 1
-end
-",
-        "state line 2\n",
-        "state line 2: no such row can be changed\n",
     ),
 ];
 
@@ -714,7 +710,7 @@ sign-tock
 ];
 
 /// Conversations with a sign and with a central system.
-pub static CONVERSATIONS: [(&str, &str, &str, u8); 7] = [
+pub static CONVERSATIONS: [(&str, &str, &str, u8); 5] = [
     // a datagram among lines to a sign
     (
         "sign",
@@ -737,26 +733,6 @@ dropped
     ),
     // no line
     ("sign", "", "", 0),
-    // lines after a sign's description
-    (
-        "sign --sign",
-        SMALL_TALK,
-        "\
-page 1 on 10 off 0 back 0
-.....
-.....
-.....
-.....
-.....
-.....
-.....
-ok
-ok
-ok
-bad line no call begins with this word
-",
-        0,
-    ),
     // a description that ends after a line
     ("sign --sign", "size 5 7\n", "line 2\n", 1),
     // a publication that a restart ends
@@ -778,18 +754,6 @@ ok
 idle
 last failed at step 1: the central system was restarted
 ok
-",
-        0,
-    ),
-    // lines after a sign's description, none of which is a command
-    (
-        "centre --sign",
-        SMALL_TALK,
-        "\
-bad line no call begins with this word
-bad line no call begins with this word
-bad line no call begins with this word
-bad line no call begins with this word
 ",
         0,
     ),
