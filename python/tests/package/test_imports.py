@@ -9,7 +9,7 @@ import pytest
 
 PYTHON = pathlib.Path(__file__).resolve().parents[2]
 PARTS = ("snmp", "process", "endpoint", "tester", "room")
-PACKAGES = {"aiohttp", "jinja2", "psycopg"}  # that a part of the room needs
+PACKAGES = {"aiohttp", "jinja2", "prometheus_client", "psycopg"}  # that a part of the room needs
 IMPORTS = """
 import importlib, sys
 sys.path.insert(0, sys.argv[1])
