@@ -171,11 +171,9 @@ fn put_back_or_out_of_memory(rt: HostRuntime) -> Result<(), Fail> {
         Ok(agent) => agent,
         Err(_) => agent(rt.alloc())?,
     };
-    for _ in 0..2 {
-        match put_objects(rt.alloc(), &mut agent, BOTH) {
-            Ok(()) => {}
-            Err(error) => assert!(rt; error == SetError::Memory && reads(&agent, 7, b"")?),
-        }
+    if let Err(error) = put_objects(rt.alloc(), &mut agent, BOTH) {
+        assert!(rt; error == SetError::Memory && reads(&agent, 7, b"")?);
+        put_objects(rt.alloc(), &mut agent, BOTH).or(Err("not put back"))?;
     }
     assert!(rt; reads(&agent, 15, b"noc")?);
     Ok(())
