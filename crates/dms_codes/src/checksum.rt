@@ -35,6 +35,18 @@ pub const REMAINDERS: [u16; 256] = [
     0x3de3, 0x2c6a, 0x1ef1, 0x0f78,
 ];
 
+/// The tables by the number of octets that follow, one behind the other: so one address serves for all.
+const TABLES: [[u16; 256]; 8] = [
+    REMAINDERS,
+    BEFORE_ONE,
+    BEFORE_TWO,
+    BEFORE_THREE,
+    BEFORE_FOUR,
+    BEFORE_FIVE,
+    BEFORE_SIX,
+    BEFORE_SEVEN,
+];
+
 /// The register after one more octet.
 fn register_after(register: u16, octet: u8) -> u16
     ensures { TakesIn (octet_bits octet) register result }
@@ -51,14 +63,14 @@ fn register_after_eight(register: u16, octets: [u8; 8]) -> u16
     let [a, b, c, d, e, f, g, h] = octets;
     let first = (register ^ u16::from(a)) & 0xff;
     let second = (register >> 8) ^ u16::from(b);
-    BEFORE_SEVEN[usize::from(first)]
-        ^ BEFORE_SIX[usize::from(second)]
-        ^ BEFORE_FIVE[usize::from(c)]
-        ^ BEFORE_FOUR[usize::from(d)]
-        ^ BEFORE_THREE[usize::from(e)]
-        ^ BEFORE_TWO[usize::from(f)]
-        ^ BEFORE_ONE[usize::from(g)]
-        ^ REMAINDERS[usize::from(h)]
+    TABLES[7][usize::from(first)]
+        ^ TABLES[6][usize::from(second)]
+        ^ TABLES[5][usize::from(c)]
+        ^ TABLES[4][usize::from(d)]
+        ^ TABLES[3][usize::from(e)]
+        ^ TABLES[2][usize::from(f)]
+        ^ TABLES[1][usize::from(g)]
+        ^ TABLES[0][usize::from(h)]
 }
 
 /// The checksum of a message: CRC-16 of ISO/IEC 3309 over its text, its beacon and its pixel service.
