@@ -10,3 +10,4 @@ pub mod Memories
 pub mod Writables
 pub mod EmptyRows
 pub mod PutRows
+pub mod CountsOfRows

@@ -1,9 +1,9 @@
 -- The row that is being validated is known by its place.
-use Rattle.std.proofs.Common.{◌≡◌, ℕ, zero, suc, ◌+◌, ◌-◌, ◌≤◌, ◌==◌, ◌&&◌, not, Result, Ok, Err, Bool, true, false, cond, List, [], ◌∷◌, map, get_or, set, slice_set, Option, Some, None, slice_get, find, All, refl, ap, sym, subst, ◌∙◌, arith}
+use Rattle.std.proofs.Common.{◌≡◌, ℕ, zero, suc, ◌+◌, ◌-◌, ◌<◌, ◌≤◌, ◌==◌, ◌&&◌, not, Result, Ok, Err, Bool, true, false, cond, List, [], ◌∷◌, map, length, get_or, set, slice_set, Option, Some, None, slice_get, find, All, refl, ap, sym, subst, ◌∙◌, arith}
 use Rattle.std.specs.Prelude.{OnOk, OnErr, option_map, option_and_then}
 use Rattle.std.specs.Option.{is_some}
 use Rattle.std.proofs.lemmas.List.Elements.{All-cons}
-use Rattle.std.proofs.lemmas.Option.{get_or_from_slice_get, same_Some}
+use Rattle.std.proofs.lemmas.Option.{get_or_from_slice_get, same_Some, slice_get_within}
 use Rattle.dms_face.specs.Face.{FaceModel}
 use Rattle.dms_table.specs.declared.row.Services.{Services}
 use Rattle.dms_table.specs.Rows.{RowModel, FieldModel, TableModel, row_is_validating, changed_in, asked_row, written_row, is_settling, may_ask}
@@ -88,6 +88,13 @@ only_is rows place row is e = is_row (row_is_validating row) (sym (ap (option_ma
 -- the row that a place of a slice gives
 pub only_there : (rows : List RowModel) (place : ℕ) (row : RowModel) → IsOnly place rows → row ≡ get_or rows place row → slice_get rows place ≡ Some row
 only_there rows place row is e = grind (arith, slice_get, get_or, get_or_from_slice_get)
+
+pub only_within : (rows : List RowModel) (place : ℕ) → IsOnly place rows → place < length rows
+only_within rows place is = within_by rows place (slice_get rows place) refl is.there
+  where
+    within_by : (rows : List RowModel) (place : ℕ) (o : Option RowModel) → slice_get rows place ≡ o → option_map row_is_validating o ≡ Some true → place < length rows
+    within_by rows place None e there = absurd (cc)
+    within_by rows place (Some row) e there = slice_get_within rows place row e
 
 -- ---- a change of one row
 

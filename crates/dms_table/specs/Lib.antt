@@ -14,3 +14,4 @@ pub mod ValidatorView
 pub mod PlaceView
 pub mod TableView
 pub mod WritableView
+pub mod CountsView

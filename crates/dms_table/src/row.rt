@@ -283,6 +283,7 @@ impl Row {
         ensures ok { OnOk result (written_row (field_of field.entry) self.old ≡ Some self.new) }
         ensures refused { OnErr result (written_row (field_of field.entry) self.old ≡ None) }
         ensures unchanged { OnErr result (self.new ≡ self.old) }
+        ensures status { self.new.status ≡ self.old.status }
     {
         if self.status != Status::Modifying || !field.is_in_range() {
             return Err(Refused);
@@ -294,7 +295,8 @@ impl Row {
     fn set(&mut self, field: Field<'_>)
         requires range { IsTrue (is_in_range (field_of field)) }
         requires unsettled { is_valid self.old.status ≡ false }
-        ensures { self.new ≡ with_field self.old (field_of field.entry) }
+        ensures field { self.new ≡ with_field self.old (field_of field.entry) }
+        ensures status { self.new.status ≡ self.old.status }
     {
         match field {
             Field::Text(octets) => replace(&mut self.text, octets),

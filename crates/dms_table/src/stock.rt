@@ -1,8 +1,7 @@
 //! What a table is made of.
 
-ghost use Rattle.std.specs.Prelude.{◌≡◌, IsTrue, IfNone, IfOk, All, map, replicate, position};
+ghost use Rattle.std.specs.Prelude.{◌≡◌, IsTrue, IfNone, IfOk, All, map, position};
 ghost use Rattle.dms_face.specs.Face.{fit};
-ghost use Rattle.dms_table.specs.Rows.{unused};
 ghost use Rattle.dms_table.specs.Stock.{HasGoodText, are_counts, permanent_row, has_ranges, may_stand, may_not_stand};
 ghost use Rattle.dms_table.specs.Stock.{stock_fault, services_of, HasOctets};
 ghost use Rattle.dms_table.specs.ValidatorView.{face_of};
@@ -134,17 +133,6 @@ pub(crate) fn permanent_rows(
     let mut rows = Vec::with_capacity(alloc, messages.len())?;
     for message in messages {
         rows.push(Row::permanent(message))?;
-    }
-    Ok(rows)
-}
-
-/// So many rows that are not used.
-pub(crate) fn unused_rows(alloc: Global, count: u8) -> Result<Vec<Row>, AllocError>
-    ensures { IfOk result (λ rows. rows.items ≡ replicate count unused) }
-{
-    let mut rows = Vec::with_capacity(alloc, usize::from(count))?;
-    'rows: for _ in 0..count {
-        rows.push(Row::unused())?;
     }
     Ok(rows)
 }

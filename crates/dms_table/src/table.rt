@@ -1,15 +1,16 @@
 //! The message table.
 
 ghost use Rattle.std.specs.Prelude.{◌≡◌, ◌⊎◌, ◌<◌, ◌+◌, IfNone, map, find, All, IsTrue, IfOk, IfErr, OnOk, OnErr};
-ghost use Rattle.std.specs.Prelude.{Some, None, IfSome, option_map, is_some};
+ghost use Rattle.std.specs.Prelude.{Some, None, IfSome, option_map, is_some, replicate};
 ghost use Rattle.std.specs.Option.{option_copied};
-ghost use Rattle.dms_table.specs.Rows.{row_is_validating, rows_of, numbered, row_read, valid_count, unused_count};
-ghost use Rattle.dms_table.specs.Rows.{row_count, is_settling, may_ask, changed, changed_in, asked_row, asked};
-ghost use Rattle.dms_table.specs.Rows.{written_row, written, interrupted, released, after_power, IsTable};
+ghost use Rattle.dms_table.specs.Rows.{unused, row_is_validating, rows_of, numbered, row_read, valid_count};
+ghost use Rattle.dms_table.specs.Rows.{unused_count, row_count, is_settling, may_ask, changed, changed_in, asked_row};
+ghost use Rattle.dms_table.specs.Rows.{asked, written_row, written, interrupted, released, after_power, IsTable};
 ghost use Rattle.dms_table.specs.RowsView.{field_of, reading_of, IsShort};
 ghost use Rattle.dms_codes.specs.declared.row_id.RowId.{RowId};
 ghost use Rattle.dms_codes.specs.declared.status.Ask.{Ask};
 ghost use Rattle.dms_codes.specs.Status.{is_validate};
+ghost use Rattle.dms_table.specs.CountsView.{valid_among};
 ghost use Rattle.dms_face.specs.Face.{fit};
 ghost use Rattle.dms_face.specs.Layout.{under};
 ghost use Rattle.dms_table.specs.Validation.{settled, verdict, ValidRowsAreGood};
@@ -23,7 +24,7 @@ ghost use Rattle.dms_table.specs.Stock.{PermanentRowsAreGood, HasOctets};
 
 use crate::row::{Field, Refused, Row, RowView, Services};
 use crate::saved_row::{RowFault, SavedRow};
-use crate::stock::{Stock, TableFault, permanent_rows, unused_rows};
+use crate::stock::{Stock, TableFault, permanent_rows};
 use crate::validation::{Validator, Verdict};
 use crate::writable::{RowPlace, Writable, WritableRows};
 use dms_codes::{Ask, Memory, Order, RowId, Status, memory};
@@ -50,13 +51,13 @@ impl Model for Table {
 
     ghost view = { λ t. record {
       permanent = t.permanent.items;
-      changeable = t.writable.changeable.items;
-      volatile = t.writable.volatile.items;
+      changeable = t.writable.changeable;
+      volatile = t.writable.volatile;
       services = t.services;
       order = t.order;
     } };
 
-    ghost invariant = { λ t. IsTableKept t.validating t.writable.changeable.items t.writable.volatile.items };
+    ghost invariant = { λ t. IsTableKept t.validating t.writable.changeable t.writable.volatile };
 }
 
 impl Table {
@@ -85,8 +86,8 @@ impl Table {
         Ok(Table {
             permanent: permanent_rows(alloc, stock.permanent)?,
             writable: WritableRows {
-                changeable: unused_rows(alloc, stock.changeable)?,
-                volatile: unused_rows(alloc, stock.volatile)?,
+                changeable: CountedRows::unused(alloc, stock.changeable)?,
+                volatile: CountedRows::unused(alloc, stock.volatile)?,
             },
             services: stock.services(),
             order: stock.order,
@@ -133,7 +134,11 @@ impl Table {
     pub fn valid_count(&self, kind: u8) -> usize
         ensures { result ≡ valid_count self.now kind }
     {
-        self.rows(kind).iter().filter(|row| row.is_valid()).count()
+        match Memory::of(kind) {
+            Some(Memory::Changeable) => self.writable.changeable.valid_count(),
+            Some(Memory::Volatile) => self.writable.volatile.valid_count(),
+            _ => self.rows(kind).iter().filter(|row| row.is_valid()).count(),
+        }
     }
 
     /// How many rows of a type of memory are not used.
@@ -190,10 +195,8 @@ impl Table {
         ensures { result ≡ is_some (asked self.now id ask) }
     {
         self.may_ask(ask)
-            && match Writable::of(id.memory) {
-                Some(memory) => takes_in(self.writable.of(memory), id.number, ask),
-                None => false,
-            }
+            && Writable::of(id.memory).is_some()
+            && takes_in(self.rows(id.memory), id.number, ask)
     }
 
     /// Asks a row for another status.
@@ -208,7 +211,7 @@ impl Table {
         let Some(memory) = Writable::of(id.memory) else {
             return Err(Refused);
         };
-        let index = ask_in(self.writable.of_mut(memory), id.number, ask)?;
+        let index = self.writable.of_mut(memory).ask(id.number, ask)?;
         self.validating = validating_after(self.validating, ask, RowPlace { memory, index });
         Ok(())
     }
@@ -220,7 +223,7 @@ impl Table {
         ensures unchanged { OnErr result (self.new ≡ self.old) }
     {
         match Writable::of(id.memory) {
-            Some(memory) => write_in(self.writable.of_mut(memory), id.number, field),
+            Some(memory) => self.writable.of_mut(memory).write(id.number, field),
             None => Err(Refused),
         }
     }
@@ -248,7 +251,7 @@ impl Table {
         let Some(memory) = Writable::of(id.memory) else {
             return Err(RowFault::Place);
         };
-        let index = put_in(self.writable.of_mut(memory), id.number, row)?;
+        let index = self.writable.of_mut(memory).put(id.number, row)?;
         self.validating = validating_with(self.validating, row.status, RowPlace { memory, index });
         Ok(())
     }
@@ -268,7 +271,7 @@ impl Table {
         };
         let place = self.validating?;
         let rows = self.writable.of_mut(place.memory);
-        let verdict = settle_in(rows, place.index, &validator);
+        let verdict = rows.settle(place.index, &validator);
         self.validating = None;
         Some(verdict)
     }
@@ -277,8 +280,8 @@ impl Table {
     pub fn after_power(&mut self)
         ensures { self.new ≡ after_power self.old }
     {
-        interrupt_all(self.writable.changeable.as_mut_slice());
-        release_all(self.writable.volatile.as_mut_slice());
+        self.writable.changeable.interrupt();
+        self.writable.volatile.release();
         self.validating = None;
     }
 }
@@ -340,48 +343,124 @@ fn takes_in(rows: &[Row], number: u16, ask: Ask) -> bool
     }
 }
 
-/// Asks the row of a number, from 1, and says at which index it stands.
-fn ask_in(rows: &mut [Row], number: u16, ask: Ask) -> Result<usize, Refused>
-    ensures ok { OnOk result (changed_in rows.old number (asked_row ask) ≡ Some rows.new) }
-    ensures index { IfOk result (λ index. index + 1 ≡ number) }
-    ensures refused { OnErr result (changed_in rows.old number (asked_row ask) ≡ None) }
-    ensures unchanged { OnErr result (rows.new ≡ rows.old) }
-{
-    let Some(index) = index_of_number(number, rows.len()) else {
-        return Err(Refused);
-    };
-    let row = &mut rows[index];
-    row.ask(ask)?;
-    Ok(index)
+/// Rows that can be changed, at most 255. How many are valid is kept, since it is asked for more often than it changes.
+#[derive(Drop)]
+pub(crate) struct CountedRows {
+    rows: Vec<Row>,
+    valid: usize,
 }
 
-fn write_in(rows: &mut [Row], number: u16, field: Field<'_>) -> Result<(), Refused>
-    ensures ok { OnOk result (changed_in rows.old number (written_row (field_of field.entry)) ≡ Some rows.new) }
-    ensures refused { OnErr result (changed_in rows.old number (written_row (field_of field.entry)) ≡ None) }
-    ensures unchanged { OnErr result (rows.new ≡ rows.old) }
-{
-    let Some(index) = index_of_number(number, rows.len()) else {
-        return Err(Refused);
-    };
-    let row = &mut rows[index];
-    row.write(field)
+impl Model for CountedRows {
+    ghost use Rattle.std.specs.Prelude.{List};
+    ghost use Rattle.dms_table.specs.Rows.{RowModel};
+    ghost use Rattle.dms_table.specs.CountsView.{AreCounted};
+
+    ghost Value = { List RowModel };
+
+    ghost view = { λ r. r.rows.items };
+
+    ghost invariant = { λ r. AreCounted r.rows.items r.valid };
 }
 
-/// Puts a row in the place of the one of a number, from 1, and says at which index it stands.
-fn put_in(rows: &mut [Row], number: u16, row: &SavedRow<'_>) -> Result<usize, RowFault>
-    requires { FitsARow row.now }
-    ensures ok { OnOk result (changed_in rows.old number (put_over (row_saved row.now)) ≡ Some rows.new) }
-    ensures index { IfOk result (λ index. index + 1 ≡ number) }
-    ensures free { OnOk result (place_fault (numbered rows.old number) ≡ None) }
-    ensures fault { IfErr result (λ fault. place_fault (numbered rows.old number) ≡ Some fault) }
-    ensures unchanged { OnErr result (rows.new ≡ rows.old) }
-{
-    let Some(index) = index_of_number(number, rows.len()) else {
-        return Err(RowFault::Place);
-    };
-    let there = &mut rows[index];
-    there.put(row)?;
-    Ok(index)
+impl CountedRows {
+    /// So many rows that are not used.
+    fn unused(alloc: Global, count: u8) -> Result<CountedRows, AllocError>
+        ensures { IfOk result (λ rows. rows ≡ replicate count unused) }
+    {
+        let mut rows = Vec::with_capacity(alloc, usize::from(count))?;
+        'rows: for _ in 0..count {
+            rows.push(Row::unused())?;
+        }
+        Ok(CountedRows { rows, valid: 0 })
+    }
+
+    pub(crate) fn as_slice(&self) -> &[Row]
+        ensures { result.now ≡ self.now }
+    {
+        self.rows.as_slice()
+    }
+
+    fn valid_count(&self) -> usize
+        ensures { result ≡ valid_among self.now }
+    {
+        self.valid
+    }
+
+    /// Asks the row of a number, from 1, and says at which index it stands.
+    fn ask(&mut self, number: u16, ask: Ask) -> Result<usize, Refused>
+        ensures ok { OnOk result (changed_in self.old number (asked_row ask) ≡ Some self.new) }
+        ensures index { IfOk result (λ index. index + 1 ≡ number) }
+        ensures refused { OnErr result (changed_in self.old number (asked_row ask) ≡ None) }
+        ensures unchanged { OnErr result (self.new ≡ self.old) }
+    {
+        let Some(index) = index_of_number(number, self.rows.len()) else {
+            return Err(Refused);
+        };
+        let row = &mut self.rows[index];
+        let was_valid = row.is_valid();
+        row.ask(ask)?;
+        self.valid -= usize::from(was_valid);
+        Ok(index)
+    }
+
+    /// Writes a field of the row of a number, from 1.
+    fn write(&mut self, number: u16, field: Field<'_>) -> Result<(), Refused>
+        ensures ok { OnOk result (changed_in self.old number (written_row (field_of field.entry)) ≡ Some self.new) }
+        ensures refused { OnErr result (changed_in self.old number (written_row (field_of field.entry)) ≡ None) }
+        ensures unchanged { OnErr result (self.new ≡ self.old) }
+    {
+        let Some(index) = index_of_number(number, self.rows.len()) else {
+            return Err(Refused);
+        };
+        let row = &mut self.rows[index];
+        row.write(field)
+    }
+
+    /// Puts a row in the place of the one of a number, from 1, and says at which index it stands.
+    fn put(&mut self, number: u16, row: &SavedRow<'_>) -> Result<usize, RowFault>
+        requires { FitsARow row.now }
+        ensures ok { OnOk result (changed_in self.old number (put_over (row_saved row.now)) ≡ Some self.new) }
+        ensures index { IfOk result (λ index. index + 1 ≡ number) }
+        ensures free { OnOk result (place_fault (numbered self.old number) ≡ None) }
+        ensures fault { IfErr result (λ fault. place_fault (numbered self.old number) ≡ Some fault) }
+        ensures unchanged { OnErr result (self.new ≡ self.old) }
+    {
+        let Some(index) = index_of_number(number, self.rows.len()) else {
+            return Err(RowFault::Place);
+        };
+        let there = &mut self.rows[index];
+        there.put(row)?;
+        let is_valid = there.is_valid();
+        self.valid += usize::from(is_valid);
+        Ok(index)
+    }
+
+    /// Ends the validation of the row at this index, the only one that is being validated.
+    fn settle(&mut self, index: usize, validator: &Validator<'_>) -> Verdict
+        requires fit { IsTrue (fit validator.now.face.now.fonts validator.now.defaults.now) }
+        requires only { IsOnly index self.old }
+        ensures rows { self.new ≡ map (settled_by validator.now) self.old }
+        ensures verdict { Some result ≡ option_map (verdict_by validator.now) (find row_is_validating self.old) }
+        ensures judged { All (IsJudged validator.now) self.old }
+    {
+        let row = &mut self.rows[index];
+        let verdict = row.settle(validator);
+        self.valid += usize::from(verdict.passes());
+        verdict
+    }
+
+    fn interrupt(&mut self)
+        ensures { self.new ≡ map interrupted self.old }
+    {
+        interrupt_all(self.rows.as_mut_slice());
+    }
+
+    fn release(&mut self)
+        ensures { self.new ≡ map released self.old }
+    {
+        release_all(self.rows.as_mut_slice());
+        self.valid = 0;
+    }
 }
 
 fn interrupt_all(rows: &mut [Row])
@@ -398,16 +477,4 @@ fn release_all(rows: &mut [Row])
     for row in rows.iter_mut() {
         row.release();
     }
-}
-
-/// Ends the validation of the row at this index, the only one of these rows that is being validated.
-fn settle_in(rows: &mut [Row], index: usize, validator: &Validator<'_>) -> Verdict
-    requires fit { IsTrue (fit validator.now.face.now.fonts validator.now.defaults.now) }
-    requires only { IsOnly index rows.old }
-    ensures rows { rows.new ≡ map (settled_by validator.now) rows.old }
-    ensures verdict { Some result ≡ option_map (verdict_by validator.now) (find row_is_validating rows.old) }
-    ensures judged { All (IsJudged validator.now) rows.old }
-{
-    let row = &mut rows[index];
-    row.settle(validator)
 }

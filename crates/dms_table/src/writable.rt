@@ -5,7 +5,7 @@ ghost use Rattle.std.specs.Borrow.{sem};
 ghost use Rattle.dms_table.specs.PlaceView.{writable, of_type};
 ghost use Rattle.dms_table.specs.WritableView.{LendsRows};
 
-use crate::row::Row;
+use crate::table::CountedRows;
 use dms_codes::Memory;
 
 /// A type of memory whose rows can be changed.
@@ -29,8 +29,8 @@ pub struct RowPlace {
 /// The rows that can be changed, by their type of memory.
 #[derive(Drop)]
 pub(crate) struct WritableRows {
-    pub changeable: Vec<Row>,
-    pub volatile: Vec<Row>,
+    pub changeable: CountedRows,
+    pub volatile: CountedRows,
 }
 
 impl Writable {
@@ -47,24 +47,14 @@ impl Writable {
 }
 
 impl WritableRows {
-    /// The rows of a type of memory.
-    pub(crate) fn of(&self, memory: Writable) -> &[Row]
-        ensures { result.now ≡ of_type memory self.now.changeable.items self.now.volatile.items }
-    {
-        match memory {
-            Writable::Changeable => self.changeable.as_slice(),
-            Writable::Volatile => self.volatile.as_slice(),
-        }
-    }
-
     /// The rows of a type of memory, to be changed.
-    pub(crate) fn of_mut(&mut self, memory: Writable) -> &mut [Row]
+    pub(crate) fn of_mut(&mut self, memory: Writable) -> &mut CountedRows
         ensures* writes_back { sem 𝓛 (LendsRows self.entry memory result) }
-        ensures value { result.now ≡ of_type memory self.old.changeable.items self.old.volatile.items }
+        ensures value { result.now ≡ of_type memory self.old.changeable self.old.volatile }
     {
         match memory {
-            Writable::Changeable => self.changeable.as_mut_slice(),
-            Writable::Volatile => self.volatile.as_mut_slice(),
+            Writable::Changeable => &mut self.changeable,
+            Writable::Volatile => &mut self.volatile,
         }
     }
 }

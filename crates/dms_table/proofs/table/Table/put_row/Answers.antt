@@ -15,16 +15,16 @@ invariant_of-self-2 c =
     let kind = c.in-Some-of.memory in
     let put = row_saved c.args.row.now in
     let table : TableModel = table_by c.self.inside.permanent.items all c.self.inside.services c.self.inside.order in
-    let lent = are_lent kind all c.put_in.new.rows (omega arith) (omega arith) (omega (arith, ap length c.of_mut.ensures.value)) in
+    let lent = are_lent kind all c.put.new.self in
     let changed = rw c.of_mut.ensures.value at c.in_ok-index.ensures.ok in
     let used = put_used c.self.inside.services put (sym c.fault.ensures.first ∙ c.in_default.is) in
-    let empty = both_changed kind all.changeable.items all.volatile.items c.put_in.new.rows c.args.id.number (put_over put) (put_empty put used)
+    let empty = both_changed kind all.changeable all.volatile c.put.new.self c.args.id.number (put_over put) (put_empty put used)
     c.self.invariant.changeable_empty c.self.invariant.volatile_empty changed in
     let may : may_put c.args.self.now put.status ≡ true = grind arith in
-    let placed = put_place kind c.self.inside.validating put table c.put_in.new.rows c.args.id.number c.in_ok-index.index c.self.invariant.placed
+    let placed = put_place kind c.self.inside.validating put table c.put.new.self c.args.id.number c.in_ok-index.index c.self.invariant.placed
     (ap (λ (t : TableModel). may_put t put.status) c.self.view_is ∙ may) c.in_ok-index.ensures.index changed in
     rw (lent.changeable, lent.volatile) (record {
-      placed = subst (λ (validating : Option RowPlace). IsPlaced validating (of_type kind c.put_in.new.rows all.changeable.items) (of_type kind all.volatile.items c.put_in.new.rows))
+      placed = subst (λ (validating : Option RowPlace). IsPlaced validating (of_type kind c.put.new.self all.changeable) (of_type kind all.volatile c.put.new.self))
           (sym c.validating_with-self-inside.ensures) placed;
       changeable_empty = empty.changeable_empty;
       volatile_empty = empty.volatile_empty;

@@ -11,21 +11,21 @@ use Rattle.dms_table.proofs.EmptyRows.{both_settled}
 use Rattle.dms_table.proofs.Writables.{are_lent, table_by, table_lent}
 use Rattle.dms_table.proofs.table.Table.settle.Goals as goal
 
-pub settle_in-verdict-requires-clause-only : goal.settle_in-verdict-requires-clause-only
-settle_in-verdict-requires-clause-only c = grind (arith, placed_at, only_of_type)
+pub settle-verdict-requires-clause-only : goal.settle-verdict-requires-clause-only
+settle-verdict-requires-clause-only c = grind (arith, placed_at, only_of_type)
 
 pub invariant_of-self : goal.invariant_of-self
 invariant_of-self c =
     let all = c.self.inside.writable in
-    let placed = placed_at c.self.inside.validating c.in_ok-place.place all.changeable.items all.volatile.items c.in_ok-place.was c.self.invariant.placed in
-    let lent = are_lent c.in_ok-place.place.memory all c.settle_in-verdict.new.rows (omega arith) (omega arith) (omega (arith, ap length c.of_mut-rows.ensures.value)) in
-    let left : count c.settle_in-verdict.new.rows ≡ 0 =
-    ap count c.settle_in-verdict.ensures.rows ∙ none_settled c.self.inside.services (under c.args.face.now c.args.defaults.now) c.of_mut-rows.result.now in
-    let empty = both_settled c.in_ok-place.place.memory c.self.inside.services (under c.args.face.now c.args.defaults.now) all.changeable.items all.volatile.items c.settle_in-verdict.new.rows
-    c.self.invariant.changeable_empty c.self.invariant.volatile_empty (rw c.of_mut-rows.ensures.value at c.settle_in-verdict.ensures.rows) in
+    let placed = placed_at c.self.inside.validating c.in_ok-place.place all.changeable all.volatile c.in_ok-place.was c.self.invariant.placed in
+    let lent = are_lent c.in_ok-place.place.memory all c.settle-verdict.new.self in
+    let left : count c.settle-verdict.new.self ≡ 0 =
+    ap count c.settle-verdict.ensures.rows ∙ none_settled c.self.inside.services (under c.args.face.now c.args.defaults.now) c.of_mut-rows.result.now in
+    let empty = both_settled c.in_ok-place.place.memory c.self.inside.services (under c.args.face.now c.args.defaults.now) all.changeable all.volatile c.settle-verdict.new.self
+    c.self.invariant.changeable_empty c.self.invariant.volatile_empty (rw c.of_mut-rows.ensures.value at c.settle-verdict.ensures.rows) in
     rw (lent.changeable, lent.volatile) (record {
-      placed = none_left c.in_ok-place.place.memory all.changeable.items all.volatile.items c.settle_in-verdict.new.rows left
-          (none_of_other c.in_ok-place.place all.changeable.items all.volatile.items placed);
+      placed = none_left c.in_ok-place.place.memory all.changeable all.volatile c.settle-verdict.new.self left
+          (none_of_other c.in_ok-place.place all.changeable all.volatile placed);
       changeable_empty = empty.changeable_empty;
       volatile_empty = empty.volatile_empty;
     })
@@ -35,11 +35,11 @@ returns-clause-rows c =
     let all = c.self.inside.writable in
     let face = under c.args.face.now c.args.defaults.now in
     let table : TableModel = table_by c.self.inside.permanent.items all c.self.inside.services c.self.inside.order in
-    let placed = placed_at c.self.inside.validating c.in_ok-place.place all.changeable.items all.volatile.items c.in_ok-place.was c.self.invariant.placed in
-    let lent = are_lent c.in_ok-place.place.memory all c.settle_in-verdict.new.rows (omega arith) (omega arith) (omega (arith, ap length c.of_mut-rows.ensures.value)) in
-    table_lent c.self.inside.permanent.items all c.self.inside.services c.self.inside.order c.in_ok-place.place.memory c.settle_in-verdict.new.rows lent
-    ∙ settled_is face table c.in_ok-place.place.memory c.settle_in-verdict.new.rows
-    (none_of_other c.in_ok-place.place all.changeable.items all.volatile.items placed) (rw c.of_mut-rows.ensures.value at c.settle_in-verdict.ensures.rows)
+    let placed = placed_at c.self.inside.validating c.in_ok-place.place all.changeable all.volatile c.in_ok-place.was c.self.invariant.placed in
+    let lent = are_lent c.in_ok-place.place.memory all c.settle-verdict.new.self in
+    table_lent c.self.inside.permanent.items all c.self.inside.services c.self.inside.order c.in_ok-place.place.memory c.settle-verdict.new.self lent
+    ∙ settled_is face table c.in_ok-place.place.memory c.settle-verdict.new.self
+    (none_of_other c.in_ok-place.place all.changeable all.volatile placed) (rw c.of_mut-rows.ensures.value at c.settle-verdict.ensures.rows)
     ∙ ap (settled face) c.self.view_is
 
 pub returns-clause-verdict : goal.returns-clause-verdict
@@ -47,20 +47,20 @@ returns-clause-verdict c =
     let all = c.self.inside.writable in
     let face = under c.args.face.now c.args.defaults.now in
     let table : TableModel = table_by c.self.inside.permanent.items all c.self.inside.services c.self.inside.order in
-    let placed = placed_at c.self.inside.validating c.in_ok-place.place all.changeable.items all.volatile.items c.in_ok-place.was c.self.invariant.placed in
-    verdict_is face table c.in_ok-place.place.memory (Some c.settle_in-verdict.result)
-    (none_of_other c.in_ok-place.place all.changeable.items all.volatile.items placed) (rw c.of_mut-rows.ensures.value at c.settle_in-verdict.ensures.verdict)
+    let placed = placed_at c.self.inside.validating c.in_ok-place.place all.changeable all.volatile c.in_ok-place.was c.self.invariant.placed in
+    verdict_is face table c.in_ok-place.place.memory (Some c.settle-verdict.result)
+    (none_of_other c.in_ok-place.place all.changeable all.volatile placed) (rw c.of_mut-rows.ensures.value at c.settle-verdict.ensures.verdict)
     ∙ ap (verdict face) c.self.view_is
 
 pub returns-clause-good : goal.returns-clause-good
 returns-clause-good c =
     let all = c.self.inside.writable in
     let face = under c.args.face.now c.args.defaults.now in
-    let placed = placed_at c.self.inside.validating c.in_ok-place.place all.changeable.items all.volatile.items c.in_ok-place.was c.self.invariant.placed in
+    let placed = placed_at c.self.inside.validating c.in_ok-place.place all.changeable all.volatile c.in_ok-place.was c.self.invariant.placed in
     let both = all_of_type c.in_ok-place.place.memory (λ (row : RowModel). passes (verdict_of c.self.inside.services face row) ≡ true → IsGood face row.text)
-    all.changeable.items all.volatile.items (none_of_other c.in_ok-place.place all.changeable.items all.volatile.items placed)
-    (rw c.of_mut-rows.ensures.value at c.settle_in-verdict.ensures.judged) in
-    settled_rows_are_good face c.args.self.now _ c.self.inside.permanent.items all.changeable.items all.volatile.items c.self.inside.services c.self.inside.order
+    all.changeable all.volatile (none_of_other c.in_ok-place.place all.changeable all.volatile placed)
+    (rw c.of_mut-rows.ensures.value at c.settle-verdict.ensures.judged) in
+    settled_rows_are_good face c.args.self.now _ c.self.inside.permanent.items all.changeable all.volatile c.self.inside.services c.self.inside.order
     c.self.view_is both.0 both.1 (returns-clause-rows c)
 
 pub returns-in_err-place-clause-rows : goal.returns-in_err-place-clause-rows
