@@ -222,6 +222,23 @@ next_group table n has g x none other last =
     (λ object. let is = object_within object in let no = no_object object g x none in let most = last object in grind (arith, nat_tests))
     (λ column row is. grind (arith, nat_tests))
 
+no_group_one : (object : Scalar) → (scalar_number object).0 ≡ 1 → (scalar_number object).1 ≤ 0
+no_group_one object is = grind arith
+
+no_group_zero : (object : Scalar) → (scalar_number object).0 ≡ 0 → (scalar_number object).1 ≤ 0
+no_group_zero object is = let within = object_within object in omega (arith, within.group_from, is)
+
+-- the first object of all is that of the sign's height
+pub height_first : (table : TableModel) (n : Counts) → HasCounts table n
+    → next_instance table (below_dms (0 ∷ 0 ∷ [])) ≡ Some (kinds.Scalar scalars.SignHeightPixels)
+height_first table n has =
+    next_group table n has 0 0 refl (λ five eight. absurd (cc)) no_group_zero
+    ∙ next_group table n has 1 0 refl (λ five eight. absurd (cc)) no_group_one
+    ∙ next_number table n has 2 0 refl (λ five eight. absurd (cc))
+    ∙ next_number table n has 2 1 refl (λ five eight. absurd (cc))
+    ∙ next_number table n has 2 2 refl (λ five eight. absurd (cc))
+    ∙ found_object table n has 2 3 scalars.SignHeightPixels refl
+
 pub past_groups : (table : TableModel) (g : ℕ) (a : List ℕ) → 6 < g → None ≡ next_instance table (below_dms (g ∷ a))
 unfolding name_of
 past_groups table g a past = sym (none_next table (below_dms (g ∷ a)) each)

@@ -19,7 +19,7 @@ use crate::octets::{
     self, column_of, first_octet, last_object, number_after, row_number, scalar_of,
 };
 use dms_codes::{Memory, RowId, memory};
-use dms_mib::{Column, Instance};
+use dms_mib::{Column, Instance, Scalar};
 use dms_table::Table;
 use dms_wire_ber::{Oid, below_dms};
 
@@ -122,7 +122,7 @@ impl Counts {
             }
             None => {
                 if comes_before_dms(name) {
-                    self.from_object(0, 0)
+                    self.first()
                 } else {
                     None
                 }
@@ -138,7 +138,7 @@ impl Counts {
     {
         match first_octet(octets) {
             Some((group, rest)) => self.next_in_group(group, rest),
-            None => self.from_object(0, 0),
+            None => self.first(),
         }
     }
 
@@ -305,6 +305,15 @@ impl Counts {
         ensures { result ≡ is_past self.now number memory }
     {
         number < memory.number() && self.last_number(memory) != 0
+    }
+
+    /// The first instance of all.
+    #[inline]
+    fn first(&self) -> Option<Instance>
+        ensures { (table : TableModel) → HasCounts table self.now
+            → result ≡ next_instance table (below_dms (0 ∷ 0 ∷ [])) }
+    {
+        Some(Instance::Scalar(Scalar::SignHeightPixels))
     }
 
     /// The first instance of an object, or of the table, that does not come before this group and number: at most six

@@ -4,4 +4,4 @@ use Rattle.dms_mib_instances.proofs.counts.Counts.next_below.Goals as goal
 
 pub returns-in-None : goal.returns-in-None
 returns-in-None c = λ numbers e table has.
-    c.from_object.ensures table has ∙ at_dms table c.args.self.now has numbers (e ∙ c.in-None.ensures.none)
+    c.first.ensures table has ∙ at_dms table c.args.self.now has numbers (e ∙ c.in-None.ensures.none)
