@@ -15,7 +15,7 @@ use Rattle.dms_face_pages.proofs.DrawingLaws.{same_test}
 no_bit : (n k : ℕ) → bit_at n k ≡ 0 → is_bit n k ≡ false
 no_bit n k none = ap (λ d. d == 1) none
 
-above : (n k : ℕ) → n < 2 ^ 32 → 32 ≤ k → is_bit n k ≡ false
+pub above : (n k : ℕ) → n < 2 ^ 32 → 32 ≤ k → is_bit n k ≡ false
 above n k small high = no_bit n k (bit_at_above n 32 k small high)
 
 and_false : (b : Bool) → (b && false) ≡ false

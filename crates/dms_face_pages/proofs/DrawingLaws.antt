@@ -1,9 +1,9 @@
 -- A character is drawn row by row, and a row cell by cell.
-use Rattle.std.proofs.Common.{◌≡◌, ℕ, zero, suc, ◌+◌, ◌-◌, ◌*◌, ◌/◌, ◌%◌, ◌<◌, ◌≤◌, ◌&&◌, ◌||◌, Bool, true, false, cond, List, [], ◌∷◌, ◌++◌, length, Option, Some, None, sym, ap, subst, ◌∙◌, arith, min, ◌⊎◌}
-use Rattle.std.specs.Prelude.{nat_lt, slice_index_or}
+use Rattle.std.proofs.Common.{◌≡◌, ℕ, zero, suc, ◌+◌, ◌-◌, ◌*◌, ◌/◌, ◌%◌, ◌<◌, ◌≤◌, ◌&&◌, ◌||◌, Bool, true, false, cond, List, [], ◌∷◌, ◌++◌, length, Option, Some, None, sym, ap, subst, ◌∙◌, arith, min}
+use Rattle.std.specs.Prelude.{nat_le, nat_lt, slice_index_or}
 use Rattle.std.specs.Option.{option_or}
-use Rattle.std.proofs.lemmas.Bool.{and_parts, and_from, leb-true, le-leb, ltb-true, lt-ltb, eqb-true, eq-eqb}
-use Rattle.std.proofs.lemmas.Nat.{div-add-mod', mod_below, same_from_place}
+use Rattle.std.proofs.lemmas.Bool.{and_parts, and_from, and_left, leb-true, le-leb, lt-leb, ltb-true, lt-ltb, eqb-true, eq-eqb}
+use Rattle.std.proofs.lemmas.Nat.{div-add-mod', mod_below, div_below, same_from_place}
 use Rattle.std.proofs.lemmas.List.Folds.{find-append}
 use Rattle.dms_face.specs.declared.cell.Cell.{Cell}
 use Rattle.dms_face_font.specs.Glyph.{GlyphModel, lit_at}
@@ -25,10 +25,6 @@ kept lit cell b is on = grind arith
 pub wide : (place width height : ℕ) → place < width * height → 0 < width
 wide place zero height below = absurd (omega arith)
 wide place (suc width) height below = omega arith
-
--- outside of the matrix
-pub outside : (width height x y : ℕ) (glyph : GlyphModel) (row place : ℕ) → place < width * height → (width ≤ x) ⊎ (height ≤ y) → is_lit_on_row width x y glyph row place ≡ false
-outside width height x y glyph row place below out = grind arith
 
 -- A row of a picture is cut off at the matrix's right end.
 pub on_row : (width x y columns wide : ℕ) (glyph : GlyphModel) (row place : ℕ) → 0 < width → x < width → columns ≡ min wide (width - x)
@@ -64,10 +60,28 @@ pub more_above : (width x y : ℕ) (glyph : GlyphModel) (rows place : ℕ)
     ≡ (is_in_picture (place % width) (place / width) x y glyph && nat_lt (place / width) (y + (rows + 1)))
 more_above width x y glyph rows place = grind arith
 
--- all its rows
-pub all_above : (column line rows x y : ℕ) (glyph : GlyphModel) → ((k row : ℕ) → lit_at glyph k row ≡ true → row < rows)
-    → (is_in_picture column line x y glyph && nat_lt line (y + rows)) ≡ is_in_picture column line x y glyph
-all_above column line rows x y glyph within = grind arith
+-- all its rows that stand in the matrix
+pub all_above : (width height place rows x y : ℕ) (glyph : GlyphModel) → place < width * height → ((k row : ℕ) → lit_at glyph k row ≡ true → row < height - y → row < rows)
+    → (is_in_picture (place % width) (place / width) x y glyph && nat_lt (place / width) (y + rows)) ≡ is_in_picture (place % width) (place / width) x y glyph
+all_above width height place rows x y glyph below within =
+    same_test _ _ (λ h. (and_parts (is_in_picture (place % width) (place / width) x y glyph) (nat_lt (place / width) (y + rows)) h).0)
+    (λ h.
+    let parts = and_parts (nat_le x (place % width) && nat_le y (place / width)) (lit_at glyph (place % width - x) (place / width - y)) h in
+    let low : y ≤ place / width = leb-true _ _ (and_parts (nat_le x (place % width)) (nat_le y (place / width)) parts.0).1 in
+    let line : place / width < height = div_below place width height (wide place width height below) (let e : place < height * width = omega arith in e) in
+    let near : place / width - y < rows = within (place % width - x) (place / width - y) parts.1 (omega arith) in
+    and_from (is_in_picture (place % width) (place / width) x y glyph) (nat_lt (place / width) (y + rows)) h (lt-ltb (place / width) (y + rows) (omega arith)))
+
+-- right of the matrix
+pub beside : (width height place x y : ℕ) (glyph : GlyphModel) → place < width * height → width ≤ x → is_in_picture (place % width) (place / width) x y glyph ≡ false
+beside width height place x y glyph below right =
+    let column : place % width < width = mod_below place width (wide place width height below) in
+    and_left (nat_le x (place % width) && nat_le y (place / width)) (lit_at glyph (place % width - x) (place / width - y))
+    (and_left (nat_le x (place % width)) (nat_le y (place / width)) (lt-leb x (place % width) (omega arith)))
+
+-- Where nothing is lit the cells stay.
+pub lights_none : (on : ℕ → Bool) (lit : Cell) (old : StyledCells) → ((place : ℕ) → place < length old.cells → on place ≡ false) → Lights on lit old old
+lights_none on lit old none = grind arith
 
 -- ---- one character more
 

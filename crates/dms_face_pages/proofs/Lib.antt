@@ -4,6 +4,7 @@ pub mod DrawnLaws
 pub mod LayingLaws
 pub mod OneWalk
 pub mod StyleLaws
+pub mod MaskLaws
 pub mod BitLaws
 pub mod SameCells
 pub mod PageStyles

@@ -12,10 +12,10 @@ use Rattle.dms_face_pages.specs.Styled.{StyledCells, style, AreStyled, Lights}
 abbrev pub with_numbers : List Cell → ℕ → List ℕ → StyledCells
 with_numbers styles memory numbers = record { styles = styles; memory = memory; cells = map (style styles) numbers }
 
-covered_dark : (lit cell : Cell) → cell.lit ≡ false → covered true lit cell ≡ lit
+pub covered_dark : (lit cell : Cell) → cell.lit ≡ false → covered true lit cell ≡ lit
 covered_dark lit cell dark = rw dark refl
 
-covered_lit : (on : Bool) (lit cell : Cell) → cell.lit ≡ true → covered on lit cell ≡ cell
+pub covered_lit : (on : Bool) (lit cell : Cell) → cell.lit ≡ true → covered on lit cell ≡ cell
 covered_lit on lit cell bright = grind arith
 
 -- what a cell shows

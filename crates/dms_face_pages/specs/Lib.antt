@@ -10,5 +10,6 @@ pub mod PageOctets
 pub mod StylingView
 pub mod Laid
 pub mod Drawing
+pub mod Masks
 pub mod Styled
 pub mod Styles

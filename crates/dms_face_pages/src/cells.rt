@@ -1,12 +1,16 @@
 //! The cells of a page, each as one octet.
 
-ghost use Rattle.std.specs.Prelude.{◌≡◌, ℕ, ◌<◌, ◌≤◌, ◌==◌, ◌&&◌, true, false, List, [], ◌∷◌};
-ghost use Rattle.std.specs.Prelude.{length, replicate, IfOk, OnOk, OnErr, IfSome, IfNone, slice_index_or, position};
+ghost use Rattle.std.specs.Prelude.{◌≡◌, ℕ, ◌+◌, ◌-◌, ◌^◌, ◌<◌, ◌≤◌, ◌==◌, ◌&&◌, true, false, List, [], ◌∷◌};
+ghost use Rattle.std.specs.Prelude.{length, nat_le, replicate, slice_index_or, position};
+ghost use Rattle.std.specs.Prelude.{IsTrue, IfOk, OnOk, OnErr, IfSome, IfNone};
+ghost use Rattle.dms_face_font.specs.Glyph.{is_bit};
 ghost use Rattle.dms_face_pages.specs.Drawn.{unlit};
+ghost use Rattle.dms_face_pages.specs.Masks.{masked, eight_masked};
 ghost use Rattle.dms_face_pages.specs.Styled.{StyledCells, style, IsLitStyle, Lights};
 ghost use Rattle.dms_face_pages.specs.SameCells.{same_cell};
 ghost use Rattle.dms_face_pages.specs.Styles.{is_style, with_style, most_styles};
 
+use crate::lamps::mask_of;
 use dms_face::Cell;
 use std::alloc::{AllocError, Global};
 use std::marker::Model;
@@ -67,6 +71,28 @@ impl Cells {
         }
     }
 
+    /// Whether eight cells stand in a row from this place on.
+    #[inline]
+    pub fn has_eight(&self, first: usize) -> bool
+        requires { first < 2 ^ 34 }
+        ensures { IsTrue result → first + 8 ≤ length self.now.cells }
+    {
+        first + 8 <= self.numbers.len()
+    }
+
+    /// Lights those of eight cells in a row that an octet's bits name, its lowest bit the first, unless they are lit
+    /// already.
+    #[inline]
+    pub fn light_eight(&mut self, first: usize, octet: u8, number: u8)
+        requires inside { first + 8 ≤ length self.old.cells }
+        requires number { IsLitStyle self.old.styles number }
+        ensures { Lights (λ k. nat_le first k && is_bit octet (k - first)) (style self.old.styles number)
+            self.old self.new }
+    {
+        let lit = eight_masked(&self.numbers[first..first + 8], mask_of(octet), number);
+        self.numbers[first..first + 8].copy_from_slice(&lit);
+    }
+
     /// Adds the style of lit cells that show this, unless it is one of the styles. There is no memory for it only where
     /// the list of styles is full and has to grow.
     #[tactic(auto, using(crate::proofs::StyleLaws::same_cells))]
@@ -97,6 +123,32 @@ impl Cells {
         }
         number_in(self.styles.as_slice(), lit).unwrap()
     }
+}
+
+/// The number of a cell: that of the style, where it was not lit and its mask is 255.
+#[inline]
+fn masked(cell: u8, mask: u8, number: u8) -> u8
+    ensures { result ≡ masked cell mask number }
+{
+    if cell == 0 { number & mask } else { cell }
+}
+
+/// The numbers of eight cells, of which those with the mask 255 are lit.
+#[inline]
+fn eight_masked(cells: &[u8], mask: [u8; 8], number: u8) -> [u8; 8]
+    requires { length cells.now ≡ 8 }
+    ensures { result ≡ eight_masked cells.now mask number }
+{
+    [
+        masked(cells[0], mask[0], number),
+        masked(cells[1], mask[1], number),
+        masked(cells[2], mask[2], number),
+        masked(cells[3], mask[3], number),
+        masked(cells[4], mask[4], number),
+        masked(cells[5], mask[5], number),
+        masked(cells[6], mask[6], number),
+        masked(cells[7], mask[7], number),
+    ]
 }
 
 /// The style of cells that are not lit.

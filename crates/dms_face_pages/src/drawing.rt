@@ -3,15 +3,14 @@
 ghost use Rattle.std.specs.Prelude.{◌≡◌, ℕ, ◌+◌, ◌-◌, ◌*◌, ◌/◌, ◌%◌, ◌^◌, ◌<◌, ◌≤◌, ◌==◌, ◌&&◌, List, ◌++◌};
 ghost use Rattle.std.specs.Prelude.{length, map, filter, true, not, nat_le, nat_lt, slice_index_or, fold, OnOk, OnErr};
 ghost use Rattle.std.specs.List.{list_all, flat_map};
-ghost use Rattle.dms_face_font.specs.Glyph.{lit_at, is_bit};
-ghost use Rattle.dms_face_font.specs.Font.{FontModel};
+ghost use Rattle.dms_face_font.specs.Glyph.{is_bit};
 ghost use Rattle.dms_face.specs.declared.room.Block.{Block as BlockModel};
 ghost use Rattle.dms_face.specs.Layout.{Character, Line, PageModel};
 ghost use Rattle.dms_face.specs.Room.{begin, extent_at, placed_from, character_block, line_block};
-ghost use Rattle.dms_face.specs.Room.{line_height, greatest, characters_fit, page_fits};
+ghost use Rattle.dms_face.specs.Room.{characters_fit, page_fits};
 ghost use Rattle.dms_face.specs.Cells.{PlacedCharacter, is_lit_by, placed_in_line};
 ghost use Rattle.dms_face_pages.specs.Drawing.{has_place, covered, is_in_picture, is_lit_in_row};
-ghost use Rattle.dms_face_pages.specs.Drawing.{is_lit_on_row, lit_cell, placed_above, lines_characters, Shows};
+ghost use Rattle.dms_face_pages.specs.Drawing.{lit_cell, placed_above, lines_characters, Shows};
 ghost use Rattle.dms_face_pages.specs.StylingView.{style_of};
 ghost use Rattle.dms_face_pages.specs.Styled.{style, IsLitStyle, Lights};
 ghost use Rattle.dms_face_pages.specs.Styles.{with_character, with_line, has_style, has_styles, most_styles};
@@ -83,10 +82,10 @@ fn first_columns(row: u32, columns: usize) -> u32
     (u64::from(row) % (1 << columns)) as u32
 }
 
-/// Lights the cells of a row of a picture, of which `first` is that of its first column.
-fn light_bits(cells: &mut Cells, first: usize, row: u32, number: u8)
+/// Lights the cells of a row of a picture one by one.
+fn light_each(cells: &mut Cells, first: usize, row: u32, number: u8)
     requires inside { (k : ℕ) → is_bit row k ≡ true → first + k < length cells.old.cells }
-    requires small { first < 2 ^ 33 }
+    requires small { first < 2 ^ 34 }
     requires number { IsLitStyle cells.old.styles number }
     ensures { Lights (λ place. nat_le first place && is_bit row (place - first)) (style cells.old.styles number)
         cells.old cells.new }
@@ -99,6 +98,28 @@ fn light_bits(cells: &mut Cells, first: usize, row: u32, number: u8)
     }
 }
 
+/// Lights the cells of a row of a picture, of which `first` is that of its first column: eight at once, but for the
+/// last cells of the page.
+fn light_bits(cells: &mut Cells, first: usize, row: u32, number: u8)
+    requires inside { (k : ℕ) → is_bit row k ≡ true → first + k < length cells.old.cells }
+    requires small { first < 2 ^ 33 }
+    requires number { IsLitStyle cells.old.styles number }
+    ensures { Lights (λ place. nat_le first place && is_bit row (place - first)) (style cells.old.styles number)
+        cells.old cells.new }
+{
+    let mut left = row;
+    let mut place = first;
+    while left != 0 {
+        if !cells.has_eight(place) {
+            light_each(cells, place, left, number);
+            return;
+        }
+        cells.light_eight(place, (left % 256) as u8, number);
+        left /= 256;
+        place += 8;
+    }
+}
+
 /// Draws a row of a picture from the cell `first` on, in so many columns.
 fn light_row(cells: &mut Cells, first: usize, columns: usize, glyph: &Glyph, row: usize, number: u8)
     requires inside { first + columns ≤ length cells.old.cells }
@@ -108,30 +129,6 @@ fn light_row(cells: &mut Cells, first: usize, columns: usize, glyph: &Glyph, row
     ensures { Lights (is_lit_in_row first columns glyph.now row) (style cells.old.styles number) cells.old cells.new }
 {
     light_bits(cells, first, first_columns(glyph.row(row), columns), number);
-}
-
-/// Draws a row of a picture from column x on in line y; what stands outside of the matrix is left out.
-fn draw_row(
-    cells: &mut Cells,
-    face: &Face,
-    x: usize,
-    y: usize,
-    glyph: &Glyph,
-    row: usize,
-    number: u8,
-)
-    requires matrix { length cells.old.cells ≡ face.now.width * face.now.height }
-    requires number { IsLitStyle cells.old.styles number }
-    requires glyph { (column line : ℕ) → lit_at glyph.now column line ≡ true → column < glyph.now.width }
-    ensures { Lights (is_lit_on_row face.now.width x y glyph.now row) (style cells.old.styles number)
-        cells.old cells.new }
-{
-    let width = usize::from(face.width());
-    if x >= width || y >= usize::from(face.height()) {
-        return;
-    }
-    let columns = usize::from(glyph.width()).min(width - x);
-    light_row(cells, y * width + x, columns, glyph, row, number);
 }
 
 /// Draws a character with its left top corner in column x of line y.
@@ -149,24 +146,23 @@ fn draw_character(cells: &mut Cells, face: &Face, x: u32, y: u32, character: &St
     draw_picture(cells, face, x, y, character.glyph, number);
 }
 
-/// Draws a picture with its left top corner in column x of line y.
+/// Draws a picture with its left top corner in column x of line y; what stands outside of the matrix is left out.
 fn draw_picture(cells: &mut Cells, face: &Face, x: u32, y: u32, glyph: &Glyph, number: u8)
     requires matrix { length cells.old.cells ≡ face.now.width * face.now.height }
     requires number { IsLitStyle cells.old.styles number }
     ensures { Lights (λ place. is_in_picture (place % face.now.width) (place / face.now.width) x y glyph.now)
         (style cells.old.styles number) cells.old cells.new }
 {
-    for row in 0..glyph.height() {
-        let row = usize::from(row);
-        draw_row(
-            cells,
-            face,
-            x as usize,
-            y as usize + row,
-            glyph,
-            row,
-            number,
-        );
+    let width = usize::from(face.width());
+    let (x, y) = (x as usize, y as usize);
+    if x >= width {
+        return;
+    }
+    let columns = usize::from(glyph.width()).min(width - x);
+    let rows = usize::from(glyph.height()).min(usize::from(face.height()).saturating_sub(y));
+    for row in 0..rows {
+        let first = (y + row) * width + x;
+        light_row(cells, first, columns, glyph, row, number);
     }
 }
 
@@ -202,33 +198,6 @@ impl Placed for TextLine<'_> {
             spacing: self.spacing(),
             gap: self.gap,
         }
-    }
-}
-
-impl TextLine<'_> {
-    /// The greatest height of the line's fonts.
-    fn height(&self) -> u8
-        ensures { result ≡ line_height self.now }
-    {
-        if self.characters.is_empty() {
-            return self.font.height();
-        }
-        let heights = self.characters.iter().map(|it| it.style.font.height());
-        heights.fold(0, |greatest, height| greatest.max(height))
-    }
-
-    /// The greatest line spacing of the line's fonts.
-    fn spacing(&self) -> u8
-        ensures { result ≡ greatest (λ (font : FontModel). font.line_spacing) self.now }
-    {
-        if self.characters.is_empty() {
-            return self.font.line_spacing();
-        }
-        let spacings = self
-            .characters
-            .iter()
-            .map(|it| it.style.font.line_spacing());
-        spacings.fold(0, |greatest, spacing| greatest.max(spacing))
     }
 }
 

@@ -14,6 +14,7 @@
 
 mod cells;
 mod drawing;
+mod lamps;
 mod page;
 mod page_octets;
 mod page_text;

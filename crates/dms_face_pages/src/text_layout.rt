@@ -1,10 +1,12 @@
 //! Pages of lines of characters, as the items of a text make them one by one.
 
-ghost use Rattle.std.specs.Prelude.{◌≡◌, [], IsTrue, OnOk};
-ghost use Rattle.dms_face_font.specs.Font.{glyph_of};
+ghost use Rattle.std.specs.Prelude.{◌≡◌, ℕ, Option, [], IsTrue, OnOk};
+ghost use Rattle.dms_face_font.specs.Font.{FontModel, glyph_of};
+ghost use Rattle.dms_face.specs.declared.justification.Part.{Part as PartModel};
 ghost use Rattle.dms_face.specs.Face.{fit};
 ghost use Rattle.dms_face.specs.Layout.{under, first_style, styled, blank_layout, closed, has_line_in};
 ghost use Rattle.dms_face.specs.Layout.{with_character, with_line, with_page, with_part, with_item};
+ghost use Rattle.dms_face.specs.Room.{line_height, greatest};
 ghost use Rattle.dms_face_pages.specs.StylingView.{style_of};
 
 use dms_face::{Defaults, Face, Flash, Font, Glyph, Part, Side};
@@ -12,6 +14,9 @@ use dms_multi::Item;
 use std::alloc::{AllocError, Global};
 use std::marker::Model;
 use std::mem;
+
+/// For how many characters of a line there is room from its first one on: most lines have no more.
+const ROOM_OF_A_LINE: usize = 32;
 
 /// What the items so far say of all that follows them: the font, the colour and the flash of characters, their side of
 /// the line, the part of the page where lines stand, and the page's background and times.
@@ -99,14 +104,82 @@ pub(crate) struct TextLine<'a> {
     pub part: Part,
     pub font: &'a Font,
     pub gap: Option<u8>,
+    /// The greatest height and the greatest line spacing of its fonts, taken once.
+    height: u8,
+    spacing: u8,
 }
 
 impl<'a> Model for TextLine<'a> {
     ghost use Rattle.dms_face.specs.Layout.{Line};
+    ghost use Rattle.dms_face_pages.specs.StylingView.{IsMeasured};
 
     ghost Value = { Line };
 
     ghost view = { λ l. record { characters = l.characters.items; part = l.part; font = l.font.now; gap = l.gap } };
+
+    ghost invariant = { λ l. IsMeasured l.height l.spacing
+        (record { characters = l.characters.items; part = l.part; font = l.font.now; gap = l.gap }) };
+}
+
+impl<'a> TextLine<'a> {
+    /// A line of these characters.
+    fn of(
+        characters: Vec<StyledGlyph<'a>>,
+        part: Part,
+        font: &'a Font,
+        gap: Option<u8>,
+    ) -> TextLine<'a>
+        ensures { result ≡ record { characters = characters.entry.items; part = part; font = font.now; gap = gap } }
+    {
+        let height = greatest_height(characters.as_slice(), font);
+        let spacing = greatest_spacing(characters.as_slice(), font);
+        TextLine {
+            characters,
+            part,
+            font,
+            gap,
+            height,
+            spacing,
+        }
+    }
+
+    /// The greatest height of the line's fonts.
+    pub fn height(&self) -> u8
+        ensures { result ≡ line_height self.now }
+    {
+        self.height
+    }
+
+    /// The greatest line spacing of the line's fonts.
+    pub fn spacing(&self) -> u8
+        ensures { result ≡ greatest (λ (font : FontModel). font.line_spacing) self.now }
+    {
+        self.spacing
+    }
+}
+
+/// The greatest height of the fonts of a line with these characters, at whose end this font is current.
+fn greatest_height(characters: &[StyledGlyph<'_>], font: &Font) -> u8
+    ensures { (part : PartModel) (gap : Option ℕ) → result ≡ line_height
+        (record { characters = characters.now; part = part; font = font.now; gap = gap }) }
+{
+    if characters.is_empty() {
+        return font.height();
+    }
+    let heights = characters.iter().map(|it| it.style.font.height());
+    heights.fold(0, |greatest, height| greatest.max(height))
+}
+
+/// The greatest line spacing of the fonts of a line with these characters, at whose end this font is current.
+fn greatest_spacing(characters: &[StyledGlyph<'_>], font: &Font) -> u8
+    ensures { (part : PartModel) (gap : Option ℕ) → result ≡ greatest (λ (font : FontModel). font.line_spacing)
+        (record { characters = characters.now; part = part; font = font.now; gap = gap }) }
+{
+    if characters.is_empty() {
+        return font.line_spacing();
+    }
+    let spacings = characters.iter().map(|it| it.style.font.line_spacing());
+    spacings.fold(0, |greatest, spacing| greatest.max(spacing))
 }
 
 /// A page's lines, its background and its times.
@@ -181,6 +254,9 @@ impl<'a> TextLayout<'a> {
     {
         let font = self.style.font;
         if let Some(glyph) = font.glyph(character) {
+            if self.characters.is_empty() {
+                self.characters.reserve(ROOM_OF_A_LINE)?;
+            }
             self.characters.push(StyledGlyph {
                 glyph,
                 style: self.style,
@@ -193,12 +269,8 @@ impl<'a> TextLayout<'a> {
     fn close_line(&mut self, alloc: Global, gap: Option<u8>) -> Result<(), AllocError>
         ensures { OnOk result (self.new ≡ with_line self.old gap) }
     {
-        let line = TextLine {
-            characters: mem::replace(&mut self.characters, Vec::new(alloc)),
-            part: self.style.part,
-            font: self.style.font,
-            gap: self.gap,
-        };
+        let characters = mem::replace(&mut self.characters, Vec::new(alloc));
+        let line = TextLine::of(characters, self.style.part, self.style.font, self.gap);
         self.gap = gap;
         self.lines.push(line)?;
         Ok(())
