@@ -2,4 +2,7 @@
 pub mod Laid
 -- octets put into a buffer one after the other
 pub mod Parts
-mod Digits
+-- digits of octets, some after others
+pub mod Digits
+-- the table of the digits of octets
+pub mod Pairs

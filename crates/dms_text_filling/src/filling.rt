@@ -4,10 +4,8 @@ ghost use Rattle.std.specs.Prelude.{◌≡◌, ◌≤◌, ◌+◌, ◌*◌, ◌+
 ghost use Rattle.hex.specs.Hex.{encode_lower};
 ghost use Rattle.dms_text_filling.specs.Filling.{Puts, laid};
 
+use crate::digit_table::{eight_digits, high_digit, low_digit};
 use itoa::{Buffer, Integer};
-
-/// So many octets are made digits at a time.
-const FEW: usize = 64;
 
 /// Puts octets into a buffer from a place on, as far as it reaches: the place after them, which stops at the greatest
 /// number of a `usize`.
@@ -71,22 +69,27 @@ pub fn put_digits(buffer: &mut [u8], place: usize, octets: &[u8]) -> usize
 {
     let mut end = place;
     let mut rest = octets;
-    while !rest.is_empty() {
-        let (few, others) = rest.split_at(rest.len().min(FEW));
-        end = put_few_digits(buffer, end, few);
-        rest = others;
+    'eights: while let [a, b, c, d, e, f, g, h, more @ ..] = rest {
+        end = put_eight(buffer, end, [*a, *b, *c, *d, *e, *f, *g, *h]);
+        rest = more;
+    }
+    'last: while let [octet, more @ ..] = rest {
+        end = put(buffer, end, &[high_digit(*octet), low_digit(*octet)]);
+        rest = more;
     }
     end
 }
 
-/// So of at most 64 octets.
-fn put_few_digits(buffer: &mut [u8], place: usize, octets: &[u8]) -> usize
-    requires { length octets.now ≤ 64 }
-    ensures octets { Puts (encode_lower octets.now) place buffer.old result buffer.new }
-    ensures short { result ≤ place + 2 * length octets.now }
+/// So of eight octets.
+#[inline]
+fn put_eight(buffer: &mut [u8], place: usize, octets: [u8; 8]) -> usize
+    ensures octets { Puts (encode_lower octets) place buffer.old result buffer.new }
+    ensures short { result ≤ place + 16 }
 {
-    let mut digits = [0; 2 * FEW];
-    let digits = &mut digits[..2 * octets.len()];
-    hex::encode_to_slice(octets, digits).unwrap();
-    put(buffer, place, digits)
+    let digits = eight_digits(octets);
+    if place < buffer.len() && buffer.len() - place >= 16 {
+        buffer[place..place + 16].copy_from_slice(&digits);
+        return place + 16;
+    }
+    put(buffer, place, &digits)
 }
