@@ -1,16 +1,20 @@
 //! The activations of a central system's ledger, as lines of text.
 
-ghost use Rattle.std.specs.Prelude.{◌≡◌, ◌<◌, ◌+◌, ◌++◌, ℕ, length, OnOk, OnErr, flat_map, vec_len, vec_capacity};
+ghost use Rattle.std.specs.Prelude.{◌≡◌, ◌<◌, ◌+◌, ◌++◌, ℕ, codes, length, OnOk, OnErr, flat_map};
+ghost use Rattle.std.specs.Prelude.{vec_len, vec_capacity};
+ghost use Rattle.std.specs.Fmt.{signed_decimal};
+ghost use Rattle.dms_centre.specs.Texts.{outcome_text};
 ghost use Rattle.dms_centre.specs.CodeView.{entry_model};
 ghost use Rattle.dms_centre.specs.declared.ledger.Entry.{Entry};
 ghost use Rattle.dms_centre_text.specs.LedgerLine.{ledger_line};
 ghost use Rattle.dms_text_forms.specs.LineText.{code_text};
 
-use dms_centre::{Centre, Entry};
+use dms_centre::{Centre, Entry, Outcome};
 use dms_codes::{Activation, Order};
+use dms_text_filling::{high_digit, low_digit};
 use indexmap::IndexMap;
+use itoa::Buffer;
 use std::alloc::AllocError;
-use std::io::Write;
 
 /// Appends a line for each activation of the ledger, in the order of their requests. Where there is none no memory is
 /// asked for.
@@ -28,9 +32,41 @@ pub fn put_code(text: &mut Vec<u8>, order: Order, code: &Activation) -> Result<(
     ensures text { OnOk result (text.new.items ≡ text.old.items ++ code_text order code.now) }
     ensures memory { OnErr result (vec_capacity text.old < vec_len text.old + 24) }
 {
-    let mut digits = [0; 24];
-    hex::encode_to_slice(code.to_bytes(order).as_slice(), &mut digits).unwrap();
-    text.extend_from_slice(&digits)
+    text.extend_from_slice(&code_digits(order, code))
+}
+
+/// These digits.
+#[inline]
+fn code_digits(order: Order, code: &Activation) -> [u8; 24]
+    ensures { result ≡ code_text order code.now }
+{
+    let [a, b, c, d, e, f, g, h, i, j, k, l] = code.to_bytes(order);
+    [
+        high_digit(a),
+        low_digit(a),
+        high_digit(b),
+        low_digit(b),
+        high_digit(c),
+        low_digit(c),
+        high_digit(d),
+        low_digit(d),
+        high_digit(e),
+        low_digit(e),
+        high_digit(f),
+        low_digit(f),
+        high_digit(g),
+        low_digit(g),
+        high_digit(h),
+        low_digit(h),
+        high_digit(i),
+        low_digit(i),
+        high_digit(j),
+        low_digit(j),
+        high_digit(k),
+        low_digit(k),
+        high_digit(l),
+        low_digit(l),
+    ]
 }
 
 fn put_entry(
@@ -41,9 +77,34 @@ fn put_entry(
 ) -> Result<(), AllocError>
     ensures { OnOk result (report.new.items ≡ report.old.items ++ ledger_line order (entry_model (number, entry.now))) }
 {
-    write!(report, "ledger {number} ").or(Err(AllocError))?;
+    report.extend_from_slice(b"ledger ")?;
+    report.extend_from_slice(Buffer::new().format(number).as_bytes())?;
+    report.push(b' ')?;
     put_code(report, order, &entry.code)?;
-    writeln!(report, " {}", entry.outcome).or(Err(AllocError))
+    put_outcome(report, entry.outcome)
+}
+
+/// What became of an activation, after a space, and the line's end.
+fn put_outcome(report: &mut Vec<u8>, outcome: Outcome) -> Result<(), AllocError>
+    ensures { OnOk result (report.new.items ≡ report.old.items ++ codes " " ++ outcome_text outcome ++ codes "\n") }
+{
+    match outcome {
+        Outcome::Waiting => report.extend_from_slice(b" waiting\n"),
+        Outcome::Accepted => report.extend_from_slice(b" accepted\n"),
+        Outcome::Refused(status) => put_refused(report, status),
+        Outcome::NoReply => report.extend_from_slice(b" noreply\n"),
+        Outcome::Unknown => report.extend_from_slice(b" unknown\n"),
+    }
+}
+
+fn put_refused(report: &mut Vec<u8>, status: i64) -> Result<(), AllocError>
+    ensures { OnOk result (report.new.items
+        ≡ report.old.items ++ codes " refused " ++ signed_decimal status ++ codes "\n") }
+{
+    report.extend_from_slice(b" refused ")?;
+    report.extend_from_slice(Buffer::new().format(status).as_bytes())?;
+    report.push(b'\n')?;
+    Ok(())
 }
 
 fn put_entries(
