@@ -1,6 +1,7 @@
 pub mod Pictures
 pub mod RowLaws
 pub mod RowNumbers
+pub mod RowOctets
 pub mod FontLaws
 pub mod Promises
 pub mod GlyphSearch

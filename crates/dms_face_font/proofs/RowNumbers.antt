@@ -1,12 +1,12 @@
 -- The rows of a picture as numbers.
-use Rattle.std.proofs.Common.{true, ◌≡◌, ℕ, zero, suc, ◌+◌, ◌*◌, ◌/◌, ◌%◌, ◌^◌, ◌==◌, ◌<◌, ◌≤◌, Bool, false, if◌then◌else◌, List, [], ◌∷◌, ◌++◌, length, length-take, map, take, drop, get_or, set, refl, sym, ap, subst, ◌∙◌, arith, inl, inr}
+use Rattle.std.proofs.Common.{true, ◌≡◌, ℕ, zero, suc, ◌+◌, ◌*◌, ◌/◌, ◌^◌, ◌==◌, ◌<◌, Bool, false, if◌then◌else◌, List, [], ◌∷◌, ◌++◌, length, length-take, map, take, drop, get_or, set, refl, sym, ap, subst, ◌∙◌, arith, inl, inr}
 use Rattle.std.specs.List.{range_with_len, AllByRecursion}
 use Rattle.std.proofs.Math.Nat.{pow-suc}
 use Rattle.std.proofs.Math.Pow.{pow_mono}
 use Rattle.std.proofs.lemmas.Bool.{cases_lt}
 use Rattle.std.proofs.lemmas.Nat.{pow_pos}
 use Rattle.std.proofs.lemmas.Nat.Bits.{bit_at-zero, bit_at-suc, bit_at_above}
-use Rattle.std.proofs.lemmas.List.{length-map, get_or-map, get_or_past, take_more, take_more_set, take_all, map_more}
+use Rattle.std.proofs.lemmas.List.{length-map, get_or-map, get_or_past, take_more_set, take_all, map_more}
 use Rattle.std.proofs.lemmas.List.FromFn.{length-map-range_with_len, get_or-map-range_with_len}
 use Rattle.dms_face_font.specs.Glyph.{GlyphModel, lit_at, is_bit, row_bits, row_number, glyph_of_rows, glyph_from, bits_of, rows_of, bitmap_octets, octets_holding, AreRows, IsPicture}
 use Rattle.dms_face_font.proofs.Pictures.{length-rows_of, row_at}
@@ -27,7 +27,7 @@ number_below (bit ∷ bits) = omega (arith, number_below bits, bit_value_below b
 lowest_is : (bit : Bool) (n : ℕ) → is_bit (bit_value bit + 2 * n) 0 ≡ bit
 lowest_is bit n = grind arith
 
-half_is : (bit : Bool) (n : ℕ) → (bit_value bit + 2 * n) / 2 ≡ n
+pub half_is : (bit : Bool) (n : ℕ) → (bit_value bit + 2 * n) / 2 ≡ n
 half_is bit n = omega (arith, bit_value_below bit)
 
 -- the bits of a number above its lowest are those of its half
@@ -46,20 +46,7 @@ bits_again (bit ∷ bits) =
     ap (λ first. first ∷ map (is_bit (bit_value bit + 2 * n)) (range_with_len (0 + 1) (length bits))) (lowest_is bit n)
     ∙ ap (λ rest. bit ∷ rest) (next_bits (bit_value bit + 2 * n) 0 (length bits) ∙ ap (λ half. map (is_bit half) (range_with_len 0 (length bits))) (half_is bit n) ∙ bits_again bits)
 
--- one column more
-number_more : (bits : List Bool) (bit : Bool) → row_number (bits ++ bit ∷ []) ≡ row_number bits + bit_value bit * 2 ^ length bits
-number_more [] bit = omega arith
-number_more (first ∷ bits) bit = grind (arith, pow-suc, number_more bits bit)
-
 -- the first columns of a row
-pub one_column_more : (bits : List Bool) (column : ℕ) (bit : Bool) → column < length bits → get_or bits column false ≡ bit
-    → row_number (take (column + 1) bits) ≡ row_number (take column bits) + bit_value bit * 2 ^ column
-one_column_more bits column bit below is =
-    let long : length (take column bits) ≡ column = omega (arith, length-take column bits) in
-    ap row_number (take_more bits column false below ∙ ap (λ last. take column bits ++ last ∷ []) is)
-    ∙ number_more (take column bits) bit
-    ∙ ap (λ k. row_number (take column bits) + bit_value bit * 2 ^ k) long
-
 pub number_small : (bits : List Bool) (column : ℕ) → row_number (take column bits) < 2 ^ column
 number_small bits column = grind (arith, length-take, number_below, pow_mono)
 

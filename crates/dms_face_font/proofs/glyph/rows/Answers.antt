@@ -1,4 +1,4 @@
-use Rattle.std.proofs.Common.{◌∙◌, ◌*◌, refl, arith}
+use Rattle.std.proofs.Common.{refl, arith}
 use Rattle.std.proofs.lemmas.List.{length-set}
 use Rattle.dms_face_font.specs.Glyph.{bits_of}
 use Rattle.dms_face_font.proofs.RowNumbers.{one_row_more, all_rows}

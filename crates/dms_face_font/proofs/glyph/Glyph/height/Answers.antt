@@ -1,4 +1,4 @@
-use Rattle.std.proofs.Common.{◌≡◌, ◌∙◌, ℕ, ◌<◌, true, take, subst, arith}
+use Rattle.std.proofs.Common.{◌≡◌, ℕ, ◌<◌, true, take, subst, arith}
 use Rattle.std.proofs.lemmas.List.{length-map}
 use Rattle.dms_face_font.specs.Glyph.{GlyphModel, lit_at}
 use Rattle.dms_face_font.proofs.RowNumbers.{lit_within}
