@@ -19,3 +19,5 @@ pub mod Standing
 -- each such sign is restored of its text
 pub mod TakenUp
 pub mod Reached
+-- what a restored sign shows
+pub mod ShownGood

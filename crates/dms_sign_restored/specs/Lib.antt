@@ -3,3 +3,4 @@ pub mod Restored
 pub mod RestoredTexts
 pub mod Alike
 pub mod Runs
+pub mod Showing

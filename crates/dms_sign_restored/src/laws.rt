@@ -10,6 +10,7 @@ ghost use Rattle.dms_sign_state.specs.StateText.{text_of_state};
 ghost use Rattle.dms_sign_restored.specs.Restored.{made, IsPut, IsRestored};
 ghost use Rattle.dms_sign_restored.specs.Alike.{AreMadeAlike};
 ghost use Rattle.dms_sign_restored.specs.Runs.{SignEvent, after_events, RunStep, events_in, Lead};
+ghost use Rattle.dms_sign_restored.specs.Showing.{ShowsWhatIsGood};
 
 use dms_codes::laws::ids_are_their_octets;
 use dms_sign::Sign;
@@ -26,6 +27,15 @@ pub fn restored_signs_have_their_text()
 {
     ids_are_their_octets();
 }
+
+/// Whatever text it is restored of, a sign shows nothing, or a message that is good under the copy of the defaults with
+/// it, that it has the services for, and whose checksum is that of its source; and so it is with what was shown as the
+/// power was lost. So what holds of every run holds of one that begins with a restored sign.
+pub fn restored_signs_show_what_is_good()
+    ensures restored { (config : Config) (text : List ℕ) (s : SignState) → IsRestored config text s
+        → ShowsWhatIsGood s }
+    ensures put { (sign : SignState) (text : List ℕ) (s : SignState) → IsPut sign text s → ShowsWhatIsGood s }
+{}
 
 /// A text is the state of one sign at most: two signs that are restored of it by one configuration are one, and so are
 /// two in whose states one sign was put by it.
