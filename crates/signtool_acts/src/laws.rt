@@ -1,15 +1,18 @@
 //! What holds of conversations that begin with a state.
 
 ghost use Rattle.std.specs.Prelude.{◌≡◌, ℕ, List, ◌++◌};
-ghost use Rattle.dms_sign.specs.State.{SignState};
+ghost use Rattle.dms_table.specs.Rows.{TableModel};
+ghost use Rattle.dms_sign.specs.Construction.{CanBeMade};
+ghost use Rattle.dms_sign.specs.State.{ConfigModel, SignState, start};
+ghost use Rattle.dms_sign_state.specs.StateText.{text_of_state};
 ghost use Rattle.dms_sign_text.specs.declared.setup.Setup.{Setup};
 ghost use Rattle.dms_sign_text.specs.Description.{Description, SpellsSign};
 ghost use Rattle.dms_sign_text.specs.Setups.{IsMade};
 ghost use Rattle.dms_sign_restored.specs.Restored.{IsPut};
-ghost use Rattle.dms_sign_lines.specs.Answer.{answer_text};
+ghost use Rattle.dms_sign_lines.specs.Answer.{answer_text, after_line};
 ghost use Rattle.dms_sign_lines.specs.SignCall.{save};
 ghost use Rattle.dms_sign_lines.specs.SignLine.{SpellsSignCall};
-ghost use Rattle.dms_text_streams.specs.Conversation.{ok_line};
+ghost use Rattle.dms_text_streams.specs.Conversation.{ok_line, answers, left_by_all};
 ghost use Rattle.dms_centre_jobs.specs.Job.{SettingsModel};
 ghost use Rattle.dms_centre.specs.State.{CentreState};
 ghost use Rattle.dms_centre_restored.specs.Restored.{IsRestored};
@@ -19,7 +22,10 @@ ghost use Rattle.dms_centre_lines.specs.SpelledCalls.{SpellsCentreCall};
 
 use dms_centre_restored::laws::restored_centres_are_one;
 use dms_sign_lines::laws::answers_are_those_of_calls;
-use dms_sign_restored::laws::restored_signs_have_their_text;
+use dms_sign::Sign;
+use dms_sign_restored::laws::{
+    a_text_restores_one_sign, each_sign_is_restored, restored_signs_have_their_text,
+};
 
 /// A sign as it was described that is put in the state of a text answers a line `save` with this text.
 pub fn restored_signs_save_their_text()
@@ -29,6 +35,24 @@ pub fn restored_signs_save_their_text()
 {
     answers_are_those_of_calls();
     restored_signs_have_their_text();
+}
+
+/// A sign that is saved in the middle of a conversation goes on in another process: whatever lines came to it since it
+/// was made, it is put in the state of its text, and what is put in that state answers all further lines, those of a
+/// journal too, as the saved one would have.
+pub fn restored_signs_go_on(first: &Sign)
+    ensures saved { (config : ConfigModel) (table : TableModel) (lines : List (List ℕ)) → CanBeMade config table
+        → first.now ≡ start config table
+        → IsPut first.now (text_of_state (left_by_all after_line first.now lines))
+        (left_by_all after_line first.now lines) }
+    ensures answers { (config : ConfigModel) (table : TableModel) (lines more : List (List ℕ)) (again : SignState)
+        → CanBeMade config table → first.now ≡ start config table
+        → IsPut first.now (text_of_state (left_by_all after_line first.now lines)) again
+        → answers answer_text after_line again more
+        ≡ answers answer_text after_line (left_by_all after_line first.now lines) more }
+{
+    each_sign_is_restored(first);
+    a_text_restores_one_sign();
 }
 
 /// A central system that goes on from the state of a text answers a line `save` with this text.
