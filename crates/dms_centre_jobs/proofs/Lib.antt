@@ -3,3 +3,4 @@ pub mod Checksums
 pub mod Lengths
 pub mod Requests
 pub mod Written
+pub mod ShortRequests

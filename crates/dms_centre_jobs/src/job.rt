@@ -11,17 +11,17 @@ ghost use Rattle.dms_centre_jobs.specs.JobView.{HasItsChecksum};
 ghost use Rattle.dms_centre_jobs.specs.PublicationView.{publication_model, publication_in};
 
 use crate::command::{Command, CommandParts};
+use crate::kept::Kept;
 use crate::publication::{Attributes, Publication, Terms};
 use crate::step::Step;
-use arrayvec::ArrayVec;
 use dms_codes::{Activation, MAX_OWNER, MAX_TEXT, MessageId, RowId, crc};
 use std::marker::Model;
 
 /// The fields of a row that is written.
 #[derive(Drop)]
 pub(crate) struct RowFields {
-    pub(crate) text: ArrayVec<u8, MAX_TEXT>,
-    pub(crate) owner: ArrayVec<u8, MAX_OWNER>,
+    pub(crate) text: Kept<MAX_TEXT>,
+    pub(crate) owner: Kept<MAX_OWNER>,
     pub(crate) attributes: Attributes,
 }
 
@@ -61,15 +61,6 @@ pub struct Job {
     pub polls: u8,
 }
 
-/// These octets take the place of those that were there.
-fn replace<const N: usize>(old: &mut ArrayVec<u8, N>, octets: &[u8])
-    requires { length octets.now ≤ N }
-    ensures { old.new.items ≡ octets.now }
-{
-    old.clear();
-    old.try_extend_from_slice(octets).unwrap();
-}
-
 impl RowFields {
     /// Their checksum: the stored one, or else it is computed.
     fn checksum(&self, stored: Option<u16>) -> u16
@@ -96,8 +87,8 @@ impl Work {
             publishes: false,
             code,
             fields: RowFields {
-                text: ArrayVec::new(),
-                owner: ArrayVec::new(),
+                text: Kept::new(),
+                owner: Kept::new(),
                 attributes: Attributes {
                     beacon: 0,
                     pixel: 0,
@@ -192,8 +183,8 @@ impl Work {
             crc: 0,
         });
         self.checksum = None;
-        replace(&mut self.fields.text, publication.text);
-        replace(&mut self.fields.owner, publication.owner);
+        self.fields.text.replace(publication.text);
+        self.fields.owner.replace(publication.owner);
         self.fields.attributes = publication.attributes;
     }
 }

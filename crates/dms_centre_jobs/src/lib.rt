@@ -13,12 +13,15 @@
 
 mod command;
 mod job;
+mod kept;
 mod publication;
 mod request;
+mod short;
 mod step;
 
 pub use command::Command;
 pub use job::{Job, Work};
+pub use kept::Kept;
 pub use publication::{Attributes, Publication, Terms};
 pub use request::put_request;
 pub use step::Step;

@@ -1,27 +1,30 @@
 //! The requests of a job.
 
-ghost use Rattle.std.specs.Prelude.{◌≡◌, ◌≤◌, ◌<◌, ◌∷◌, [], List, pos, map, length};
+ghost use Rattle.std.specs.Prelude.{◌≡◌, ◌≤◌, ◌<◌, ◌∷◌, [], List, pos, length};
 ghost use Rattle.dms_wire.specs.Message.{VarBind, integer, octet_string};
 ghost use Rattle.dms_wire.specs.Canonical.{canonical};
 ghost use Rattle.dms_wire.specs.declared.message.Kind.TheVariants as kinds;
+ghost use Rattle.dms_mib.specs.declared.column.Column.TheVariants.{Status};
+ghost use Rattle.dms_codes.specs.Limits.{longest_community};
 ghost use Rattle.dms_wire.specs.Written.{octets_of_bindings};
 ghost use Rattle.dms_wire.specs.View.{message_around, object_value, var_bind};
 ghost use Rattle.dms_codes.specs.Status.{ask_number};
 ghost use Rattle.dms_mib.specs.Names.{cell_name, name_of};
-ghost use Rattle.dms_centre_jobs.specs.Steps.{fields, request_of, last_number};
+ghost use Rattle.dms_centre_jobs.specs.Steps.{fields, reading, request_of, writing, last_number};
 ghost use Rattle.dms_centre_jobs.specs.Requests.{AreSettings, IsWork};
 ghost use Rattle.dms_centre_jobs.specs.CodeView.{IsPushed, asking};
 ghost use Rattle.dms_wire_ber.specs.Limits.{longest_datagram};
 
 use crate::job::Work;
+use crate::short::{is_short, put_activation, put_cause, put_short_get, put_short_set};
 use crate::step::Step;
 use dms_codes::{Ask, Order, RowId};
-use dms_mib::{Column, Instance, Name, Scalar};
-use dms_wire::{Bind, BindingOctets, Header, Kind, MessageParts, Out, Value, write, write_around};
+use dms_mib::{Column, Instance, Name};
+use dms_wire::{Bind, BindingOctets, Header, Kind, Out, Value, write_around, write_binding};
 
 /// Writes the request of a step, under a number, over what `out` holds. The community must have its size, the number
 /// must be at most 2147483647, and the work must be a command's that is in range.
-#[tactic(auto, unfolding(crate::specs::Steps::request_of, dms_mib::specs::Names::name_of))]
+#[tactic(auto, unfolding(crate::specs::Steps::request_of))]
 pub fn put_request(
     community: &[u8],
     order: Order,
@@ -36,41 +39,60 @@ pub fn put_request(
     ensures { out.new.items
         ≡ canonical (request_of (record { community = community.now; order = order }) number work.now step) }
 {
+    has_few(community, order);
     let row = work.row();
-    let status = Instance::Cell(Column::Status, row);
     match step {
-        Step::Opening => {
-            let asked = ask_value(Ask::Modify);
-            put_one(community, Kind::Set, number, status, asked, out);
-        }
-        Step::Opened | Step::Polling => {
-            put_one(community, Kind::Get, number, status, Value::Null, out);
-        }
+        Step::Opening => put_ask(community, number, row, Ask::Modify, out),
+        Step::Opened | Step::Polling => put_get(community, number, Column::Status, row, out),
         Step::Filling => put_fields(community, number, work, out),
-        Step::Validating => {
-            let asked = ask_value(Ask::Validate);
-            put_one(community, Kind::Set, number, status, asked, out);
-        }
-        Step::Comparing => {
-            let checksum = Instance::Cell(Column::Crc, row);
-            put_one(community, Kind::Get, number, checksum, Value::Null, out);
-        }
+        Step::Validating => put_ask(community, number, row, Ask::Validate, out),
+        Step::Comparing => put_get(community, number, Column::Crc, row, out),
         Step::Activating => {
             let code = work.code().to_bytes(order);
-            let object = Instance::Scalar(Scalar::ActivateMessage);
-            put_one(
-                community,
-                Kind::Set,
-                number,
-                object,
-                Value::Octets(&code),
-                out,
-            );
+            put_activation(community, number, code, out);
         }
-        Step::Explaining => {
-            let object = Instance::Scalar(Scalar::ActivateMsgError);
-            put_one(community, Kind::Get, number, object, Value::Null, out);
-        }
+        Step::Explaining => put_cause(community, number, out),
+    }
+}
+
+/// A community of settings has at most 32 octets.
+fn has_few(community: &[u8], order: Order)
+    requires { AreSettings (record { community = community.now; order = order }) }
+    ensures { length community.now ≤ longest_community }
+{}
+
+/// Writes the request for the value of a cell.
+#[inline]
+#[tactic(auto, unfolding(dms_mib::specs::Names::name_of))]
+fn put_get(community: &[u8], number: u32, column: Column, row: RowId, out: &mut Out)
+    requires community { length community.now ≤ longest_community }
+    requires fits { length (canonical
+        (asking community.now kinds.Get number (reading (cell_name column row)))) ≤ longest_datagram }
+    ensures { out.new.items ≡ canonical (asking community.now kinds.Get number (reading (cell_name column row))) }
+{
+    if is_short(row) {
+        put_short_get(community, number, column, row, out);
+    } else {
+        let cell = Instance::Cell(column, row);
+        put_one(community, Kind::Get, number, cell, Value::Null, out);
+    }
+}
+
+/// Writes the request that asks for a change of a row's status.
+#[inline]
+#[tactic(auto, unfolding(dms_mib::specs::Names::name_of))]
+fn put_ask(community: &[u8], number: u32, row: RowId, ask: Ask, out: &mut Out)
+    requires community { length community.now ≤ longest_community }
+    requires fits { length (canonical (asking community.now kinds.Set number
+        (writing (cell_name Status row) (integer (pos (ask_number ask)))))) ≤ longest_datagram }
+    ensures { out.new.items ≡ canonical
+        (asking community.now kinds.Set number (writing (cell_name Status row) (integer (pos (ask_number ask))))) }
+{
+    if is_short(row) {
+        put_short_set(community, number, row, ask, out);
+    } else {
+        let status = Instance::Cell(Column::Status, row);
+        put_one(community, Kind::Set, number, status, ask_value(ask), out);
     }
 }
 
@@ -154,6 +176,7 @@ fn push_field(fields: &mut BindingOctets, row: RowId, column: Column, value: Val
 }
 
 /// Writes a request with one binding.
+#[inline(never)]
 fn put_one(
     community: &[u8],
     kind: Kind,
@@ -168,25 +191,17 @@ fn put_one(
         (asking community.now kind number (record { name = name_of object; value = object_value value.entry } ∷ [])) }
 {
     let name = Name::of(object);
-    let binds = [Bind {
+    let bind = Bind {
         name: name.oid(),
         value,
-    }];
-    put(community, kind, number, &binds, out);
+    };
+    put(community, kind, number, &bind, out);
 }
 
-/// Writes a request with these bindings.
-fn put(community: &[u8], kind: Kind, number: u32, binds: &[Bind<'_>], out: &mut Out)
-    requires { length (canonical (asking community.now kind number (map var_bind binds.now))) ≤ longest_datagram }
-    ensures { out.new.items ≡ canonical (asking community.now kind number (map var_bind binds.now)) }
+/// Writes a request with this binding alone.
+fn put(community: &[u8], kind: Kind, number: u32, binding: &Bind<'_>, out: &mut Out)
+    requires { length (canonical (asking community.now kind number (var_bind binding.now ∷ []))) ≤ longest_datagram }
+    ensures { out.new.items ≡ canonical (asking community.now kind number (var_bind binding.now ∷ [])) }
 {
-    let parts = MessageParts {
-        community,
-        kind,
-        request: i64::from(number),
-        status: 0,
-        index: 0,
-        binds,
-    };
-    write(&parts, out).unwrap();
+    write_binding(&header(community, kind, number), binding, out).unwrap();
 }
