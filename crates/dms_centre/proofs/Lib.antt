@@ -3,3 +3,4 @@ pub mod Entries
 pub mod Rising
 pub mod Fine
 pub mod Restored
+pub mod ShortNames

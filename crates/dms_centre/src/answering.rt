@@ -1,9 +1,7 @@
 //! What a datagram makes of a central system.
 
-ghost use Rattle.std.specs.Prelude.{◌≡◌, ◌∷◌, [], true, false, Some, None};
-ghost use Rattle.dms_wire.specs.Message.{null};
+ghost use Rattle.std.specs.Prelude.{◌≡◌, [], true, false, Some, None};
 ghost use Rattle.dms_wire.specs.View.{snmp_message};
-ghost use Rattle.dms_mib.specs.Names.{name_of};
 ghost use Rattle.dms_centre_jobs.specs.Steps.{is_activating};
 ghost use Rattle.dms_centre.specs.Inputs.{received};
 ghost use Rattle.dms_centre.specs.Replies.{number_read};
@@ -15,11 +13,11 @@ use crate::centre::Centre;
 use crate::ended::{Ended, Why};
 use crate::ledger::decide;
 use crate::outcome::Outcome;
-use crate::reply::number_read;
+use crate::reply::{cell_number, instance_number};
 use crate::stage::Stage;
 use dms_centre_jobs::Step;
 use dms_codes::{Order, Status};
-use dms_mib::{Column, Instance, Name, Scalar};
+use dms_mib::{Column, Instance, Scalar};
 use dms_wire::{Binds, ErrorStatus, Kind, Message, Out, heard};
 
 /// How many times a row is polled that is being validated.
@@ -129,24 +127,18 @@ impl Centre {
     }
 
     /// The number that a reply reports of the object that was asked for.
+    #[tactic(auto, unfolding(dms_mib::specs::Names::name_of))]
     fn number_reported(&self, binds: Binds<'_>) -> Option<i64>
         requires { is_reading self.now.state.phase ≡ true }
         ensures { result ≡ number_read (asked_at self.now.state self.now.state.phase) binds.entry }
     {
-        number_read(&Name::of(self.asked()).oid(), binds)
-    }
-
-    /// The object that the waiting request asks for.
-    #[tactic(auto, unfolding(dms_mib::specs::Names::name_of))]
-    fn asked(&self) -> Instance
-        requires { is_reading self.now.state.phase ≡ true }
-        ensures { record { name = name_of result; value = null } ∷ [] ≡ asked_at self.now.state self.now.state.phase }
-    {
         let row = self.job.work.row();
         match self.job.step {
-            Step::Comparing => Instance::Cell(Column::Crc, row),
-            Step::Explaining => Instance::Scalar(Scalar::ActivateMsgError),
-            _ => Instance::Cell(Column::Status, row),
+            Step::Comparing => cell_number(Column::Crc, row, binds),
+            Step::Explaining => {
+                instance_number(Instance::Scalar(Scalar::ActivateMsgError), binds)
+            }
+            _ => cell_number(Column::Status, row, binds),
         }
     }
 

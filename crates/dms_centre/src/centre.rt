@@ -193,15 +193,17 @@ impl Centre {
         ensures unchanged { OnErr result (self.new.state ≡ self.old.state) }
         ensures silent { OnErr result (out.new.items ≡ []) }
     {
-        out.clear();
         if let Some(fault) = self.refusal(&command) {
+            out.clear();
             return Err(fault);
         }
         if command.first_step().is_activating() && self.make_room().is_err() {
+            out.clear();
             return Err(CommandFault::Memory);
         }
         self.job.begin(&command);
         self.stage = Stage::Due;
+        out.clear();
         self.send(out);
         Ok(())
     }

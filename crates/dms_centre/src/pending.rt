@@ -4,7 +4,8 @@ ghost use Rattle.std.specs.Prelude.{◌≡◌, ◌<◌, []};
 ghost use Rattle.dms_centre.specs.CodeView.{pending_model};
 ghost use Rattle.dms_centre.specs.Resending.{sent_again};
 
-use dms_wire::Out;
+use dms_centre_jobs::Kept;
+use dms_wire::{MAX_DATAGRAM, Out};
 
 /// How many times a request goes out.
 pub(crate) const MOST_SENDS: u8 = 3;
@@ -18,7 +19,7 @@ pub struct Pending {
     /// Its number.
     pub number: u32,
     /// The datagram that it is.
-    pub octets: Out,
+    pub octets: Kept<MAX_DATAGRAM>,
     /// How many times it went out.
     pub sends: u8,
     /// The ticks since it went out last.
@@ -30,7 +31,7 @@ impl Pending {
     pub(crate) fn none() -> Self {
         Pending {
             number: 0,
-            octets: Out::new(),
+            octets: Kept::new(),
             sends: 0,
             age: 0,
         }
@@ -49,10 +50,7 @@ impl Pending {
             ≡ record { number = number; octets = octets.now.items; sends = sends; age = age } }
     {
         self.number = number;
-        self.octets.clear();
-        self.octets
-            .try_extend_from_slice(octets.as_slice())
-            .unwrap();
+        self.octets.replace(octets.as_slice());
         self.sends = sends;
         self.age = age;
     }
