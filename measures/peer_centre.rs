@@ -1,6 +1,6 @@
 //! The same measures over a central system that is written by hand in plain Rust: the same commands, jobs, resends and ledger as
-//! dms_centre's, over the reader and the writer of `peer`. It keeps the operator's message and the request that waits in place, and takes
-//! a checksum once a job.
+//! dms_centre's, over the reader and the writer of `peer`. It keeps the operator's message and the request that waits in place, takes
+//! a checksum once a job, and has the octets of most bindings that it asks with at hand.
 
 #![forbid(unsafe_code)]
 
@@ -118,8 +118,7 @@ mod objects {
     pub const PRIORITY: u8 = 8;
     pub const STATUS: u8 = 9;
 
-    /// dmsActivateMessage and dmsActivateMsgError.
-    pub const ACTIVATE: Oid<'static> = Oid { content: &[0x2b, 6, 1, 4, 1, 0x89, 0x36, 4, 2, 3, 6, 3, 0] };
+    /// dmsActivateMsgError.
     pub const ACTIVATE_ERROR: Oid<'static> = Oid { content: &[0x2b, 6, 1, 4, 1, 0x89, 0x36, 4, 2, 3, 6, 17, 0] };
 
     /// The name of a cell of the message table.
@@ -553,16 +552,50 @@ mod centre {
         }
 
         fn put_request(&self, out: &mut Out) {
-            let code = self.job.code.to_bytes(self.order);
             match self.job.step {
-                Step::Opening => self.put_one(Kind::Set, self.cell(objects::STATUS).oid(), Value::Integer(6), out),
-                Step::Opened | Step::Polling => self.put_one(Kind::Get, self.cell(objects::STATUS).oid(), Value::Null, out),
+                Step::Opening => self.put_ask(6, out),
+                Step::Opened | Step::Polling => self.put_get(objects::STATUS, out),
                 Step::Filling => self.put_fields(out),
-                Step::Validating => self.put_one(Kind::Set, self.cell(objects::STATUS).oid(), Value::Integer(7), out),
-                Step::Comparing => self.put_one(Kind::Get, self.cell(objects::CRC).oid(), Value::Null, out),
-                Step::Activating => self.put_one(Kind::Set, objects::ACTIVATE, Value::Octets(&code), out),
-                Step::Explaining => self.put_one(Kind::Get, objects::ACTIVATE_ERROR, Value::Null, out),
+                Step::Validating => self.put_ask(7, out),
+                Step::Comparing => self.put_get(objects::CRC, out),
+                Step::Activating => {
+                    let [a, b, c, d, e, f, g, h, i, j, k, l] = self.job.code.to_bytes(self.order);
+                    let binding = [48, 29, 6, 13, 43, 6, 1, 4, 1, 137, 54, 4, 2, 3, 6, 3, 0, 4, 12, a, b, c, d, e, f, g, h, i, j, k, l];
+                    self.put_short(Kind::Set, &binding, out);
+                }
+                Step::Explaining => self.put_short(Kind::Get, &[48, 17, 6, 13, 43, 6, 1, 4, 1, 137, 54, 4, 2, 3, 6, 17, 0, 5, 0], out),
             }
+        }
+
+        /// Asks for a cell's value, by a binding that is written at once where the numbers of its row have one octet each.
+        fn put_get(&self, column: u8, out: &mut Out) {
+            match self.job.code {
+                Activation { memory: memory @ ..128, number: number @ ..128, .. } => {
+                    let binding = [48, 20, 6, 16, 43, 6, 1, 4, 1, 137, 54, 4, 2, 3, 5, 8, 1, column, memory, number as u8, 5, 0];
+                    self.put_short(Kind::Get, &binding, out);
+                }
+                _ => self.put_one(Kind::Get, self.cell(column).oid(), Value::Null, out),
+            }
+        }
+
+        /// Asks for a change of the row's status, in the same way.
+        fn put_ask(&self, ask: u8, out: &mut Out) {
+            match self.job.code {
+                Activation { memory: memory @ ..128, number: number @ ..128, .. } => {
+                    let binding = [48, 21, 6, 16, 43, 6, 1, 4, 1, 137, 54, 4, 2, 3, 5, 8, 1, objects::STATUS, memory, number as u8, 2, 1, ask];
+                    self.put_short(Kind::Set, &binding, out);
+                }
+                _ => self.put_one(Kind::Set, self.cell(objects::STATUS).oid(), Value::Integer(i64::from(ask)), out),
+            }
+        }
+
+        /// Writes a request around the octets of its bindings.
+        #[inline]
+        fn put_short(&self, kind: Kind, bindings: &[u8], out: &mut Out) {
+            out.clear();
+            out.extend(bindings);
+            let tag = if let Kind::Set = kind { 163 } else { 160 };
+            assert!(out.finish(&self.community, tag, i64::from(self.next), 0, 0));
         }
 
         fn put_fields(&self, out: &mut Out) {
