@@ -1,7 +1,8 @@
 -- The call of a line is the one that the line spells, and the answer is the one of the call.
-use Rattle.std.proofs.Common.{◌≡◌, ℕ, ◌<◌, List, [], ◌∷◌, ◌++◌, length, Option, Some, None, option_map, refl, sym, ap, subst, ◌∙◌, arith}
+use Rattle.std.proofs.Common.{◌≡◌, ℕ, ◌<◌, List, [], ◌∷◌, ◌++◌, length, Option, Some, None, option_map, refl, sym, ap, subst, ◌∙◌, append-nil, arith}
 use Rattle.std.specs.Prelude.{codes}
 use Rattle.std.proofs.lemmas.Option.{same_Some, none-some}
+use Rattle.dms_wire.specs.Message.{VarBind}
 use Rattle.dms_text.specs.Words.{words_of}
 use Rattle.dms_text.specs.Reading.{word_at, ◌>>=◌}
 use Rattle.dms_text.proofs.WordLaws.{begun, goes_on, word_found, word_only, decimal_found, decimal_only}
@@ -12,22 +13,23 @@ use Rattle.dms_text_causes.proofs.KeywordLines.{line_found, line_read}
 use Rattle.dms_text_forms.proofs.WordReading.{last_found, by_keyword, by_text}
 use Rattle.dms_text_forms.proofs.FieldLaws.{last_octets_found, last_octets_only}
 use Rattle.dms_text_streams.proofs.CallReading.{bare_found, nothing_found}
+use Rattle.dms_text_values.specs.ValueReading.{value_at}
 use Rattle.dms_device.specs.declared.access.Access.{Access}
 use Rattle.dms_device.specs.declared.access.Access.TheVariants.{ReadOnly, Number, Octets}
 use Rattle.dms_agent.specs.declared.agent.Agent.{Agent}
 use Rattle.dms_sign_lines.specs.Answer as sign
-use Rattle.dms_agent_lines.specs.AgentCall.{AgentCall, NewObject, receive, publish, withdraw, show_fonts, tell}
-use Rattle.dms_agent_lines.specs.AgentLine.{SpellsAccess, SpellsObject, SpellsCallWords, SpellsAgentCall, SpellsNoAgentCall}
-use Rattle.dms_agent_lines.specs.AgentReading.{number_access_at, octets_access_at, access_after, written_access_at, access_at, object_at, withdraw_at, keyword_of, keyword_in, call_after, call_of}
+use Rattle.dms_agent_lines.specs.AgentCall.{AgentCall, NewObject, receive, publish, withdraw, show_fonts, tell, put_back, save}
+use Rattle.dms_agent_lines.specs.AgentLine.{SpellsAccess, SpellsObject, SpellsSet, SpellsCallWords, SpellsAgentCall, SpellsNoAgentCall}
+use Rattle.dms_agent_lines.specs.AgentReading.{number_access_at, octets_access_at, access_after, written_access_at, access_at, object_at, withdraw_at, binding_at, keyword_of, keyword_in, call_after, call_of}
 use Rattle.dms_agent_lines.specs.AgentForm.{words_cause, call_cause, bad_line_text}
 use Rattle.dms_agent_lines.specs.AgentAnswer.{answer_text, after_line, call_text, after_call, text_without, after_without, text_if, after_if}
-use Rattle.dms_agent_lines.specs.ObjectFields.{SpellsName}
+use Rattle.dms_agent_state.specs.ObjectFields.{SpellsName}
 use Rattle.dms_agent_lines.specs.declared.cause.CallCause.{CallCause}
 use Rattle.dms_agent_lines.specs.declared.cause.CallCause.TheVariants as causes
 use Rattle.dms_agent_lines.specs.declared.keywords.AgentKeyword.{AgentKeyword}
 use Rattle.dms_agent_lines.specs.declared.keywords.AgentKeyword.TheVariants as key
-use Rattle.dms_agent_lines.proofs.ObjectWordLaws.{name_found, name_only, name_some, integer_found, integer_only}
-use Rattle.dms_agent_lines.proofs.ValueLaws.{value_found, value_only}
+use Rattle.dms_agent_state.proofs.ObjectWordLaws.{name_found, name_only, name_some, integer_found, integer_only}
+use Rattle.dms_agent_state.proofs.ValueLaws.{value_found, value_only}
 
 -- ---- keywords
 
@@ -37,6 +39,8 @@ keyword_text key.Object = codes "object"
 keyword_text key.NoObject = codes "no-object"
 keyword_text key.Fonts = codes "fonts"
 keyword_text key.Objects = codes "objects"
+keyword_text key.Set = codes "set"
+keyword_text key.Save = codes "save"
 
 keyword_some : (keyword : AgentKeyword) → 0 < length (keyword_text keyword)
 keyword_some keyword = grind arith
@@ -53,6 +57,8 @@ keyword_found word keyword e =
     by_text keyword_text word key.NoObject keyword _ e λ e.
     by_text keyword_text word key.Fonts keyword _ e λ e.
     by_text keyword_text word key.Objects keyword _ e λ e.
+    by_text keyword_text word key.Set keyword _ e λ e.
+    by_text keyword_text word key.Save keyword _ e λ e.
     absurd (none-some keyword e)
 
 -- ---- what a manager may write
@@ -179,6 +185,31 @@ withdraw_only : (name word : List ℕ) → SpellsName name word → withdraw_at 
 unfolding withdraw_at
 withdraw_only name word spelled = goes_on _ _ _ (word_only word [] (name_some word name spelled)) ∙ goes_on _ _ _ (name_only word name spelled)
 
+binding_found : (words : List (List ℕ)) (binding : VarBind) → binding_at words ≡ Some binding → SpellsSet binding (codes "set" ∷ words)
+unfolding binding_at
+binding_found words binding e =
+    let read = begun _ _ _ e in
+    let name = begun _ _ _ read.2 in
+    let value = begun _ _ _ name.2 in
+    let front = value_found read.0.1 value.0 value.1 in
+    let made : VarBind = record { name = name.0; value = value.0.0 } in
+    let end = last_found made value.0.1 binding value.2 in
+    subst (λ binding. SpellsSet binding (codes "set" ∷ words)) end.1 (record {
+      name_word = read.0.0;
+      value_words = front.front;
+      words_are = ap (λ rest. codes "set" ∷ rest) ((word_found words read.0 read.1).0
+          ∙ ap (λ rest. read.0.0 ∷ rest) (front.words_are ∙ ap (λ rest. front.front ++ rest) end.0 ∙ append-nil front.front));
+      name = name_found read.0.0 name.0 name.1;
+      value = front.spelled;
+    })
+
+binding_only : (binding : VarBind) (words : List (List ℕ)) (spelled : SpellsSet binding words) → binding_at (spelled.name_word ∷ spelled.value_words) ≡ Some binding
+unfolding binding_at
+binding_only binding words spelled =
+    goes_on _ _ _ (word_only spelled.name_word _ (name_some spelled.name_word binding.name spelled.name))
+    ∙ goes_on _ _ _ (name_only spelled.name_word binding.name spelled.name)
+    ∙ goes_on _ _ _ (ap value_at (sym (append-nil spelled.value_words)) ∙ value_only binding.value spelled.value_words [] spelled.value)
+
 -- ---- calls
 
 after_found : (keyword : AgentKeyword) (words : List (List ℕ)) (call : AgentCall) → call_after keyword words ≡ Some call
@@ -191,6 +222,9 @@ after_found key.NoObject words call e =
     let made = mapped_some _ _ _ e in subst (λ call. SpellsCallWords call (codes "no-object" ∷ words)) made.2 (withdraw_found words made.0 made.1)
 after_found key.Fonts words call e = bare_found SpellsCallWords (codes "fonts") (codes "fonts") show_fonts call words refl e refl
 after_found key.Objects words call e = bare_found SpellsCallWords (codes "objects") (codes "objects") tell call words refl e refl
+after_found key.Set words call e =
+    let made = mapped_some _ _ _ e in subst (λ call. SpellsCallWords call (codes "set" ∷ words)) made.2 (binding_found words made.0 made.1)
+after_found key.Save words call e = bare_found SpellsCallWords (codes "save") (codes "save") save call words refl e refl
 
 -- what is read of a line is what it spells
 pub call_found : (line : List ℕ) (call : AgentCall) → call_of line ≡ Some call → SpellsAgentCall call line
@@ -212,6 +246,9 @@ call_only line (withdraw name) spelled =
     call_read key.NoObject line _ spelled.words_are ∙ ap (option_map withdraw) (withdraw_only name spelled.word spelled.spelled)
 call_only line show_fonts spelled = call_read key.Fonts line [] spelled
 call_only line tell spelled = call_read key.Objects line [] spelled
+call_only line (put_back binding) spelled =
+    call_read key.Set line _ spelled.words_are ∙ ap (option_map put_back) (binding_only binding (words_of line) spelled)
+call_only line save spelled = call_read key.Save line [] spelled
 
 -- a line spells at most one call
 pub one_call : (line : List ℕ) (one other : AgentCall) → SpellsAgentCall one line → SpellsAgentCall other line → one ≡ other

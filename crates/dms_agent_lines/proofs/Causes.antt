@@ -1,7 +1,7 @@
 -- A line is a call just where it has no cause.
-use Rattle.std.proofs.Common.{◌≡◌, ℕ, not, List, [], Option, Some, None, is_some, refl, ◌∙◌}
+use Rattle.std.proofs.Common.{◌≡◌, ℕ, ◌+◌, not, List, [], Option, Some, None, is_some, refl, ◌∙◌}
 use Rattle.std.specs.Prelude.{IsSome}
-use Rattle.dms_wire.specs.Message.{ObjectValue}
+use Rattle.dms_wire.specs.Message.{ObjectValue, VarBind}
 use Rattle.dms_device.specs.declared.access.Access.{Access}
 use Rattle.dms_text.specs.Reading.{word_at, ◌>>=◌}
 use Rattle.dms_codes.proofs.Options.{is_some_mapped}
@@ -11,10 +11,10 @@ use Rattle.dms_text_forms.specs.declared.vocabulary.WordName.TheVariants as name
 use Rattle.dms_text_causes.proofs.CauseLaws.{end_wanted, octets_wanted, by_fault, line_wanted, some_cause, no_cause}
 use Rattle.dms_text_values.specs.NameReading.{name_of}
 use Rattle.dms_text_values.specs.ValueReading.{value_at}
-use Rattle.dms_agent_lines.specs.AgentCall.{AgentCall, receive, publish, withdraw, show_fonts, tell}
+use Rattle.dms_agent_lines.specs.AgentCall.{AgentCall, receive, publish, withdraw, show_fonts, tell, put_back, save}
 use Rattle.dms_agent_lines.specs.AgentLine.{SpellsAgentCall, SpellsNoAgentCall}
-use Rattle.dms_agent_lines.specs.AgentReading.{access_at, object_at, withdraw_at, keyword_of, call_after, call_of}
-use Rattle.dms_agent_lines.specs.AgentForm.{access_cause, value_cause, named_cause, object_cause, last_name_cause, withdraw_cause, words_cause, call_cause}
+use Rattle.dms_agent_lines.specs.AgentReading.{access_at, object_at, withdraw_at, binding_at, keyword_of, call_after, call_of}
+use Rattle.dms_agent_lines.specs.AgentForm.{access_cause, value_cause, named_cause, object_cause, last_name_cause, withdraw_cause, value_words, last_value_cause, last_named_cause, binding_cause, words_cause, call_cause}
 use Rattle.dms_agent_lines.specs.declared.cause.CallCause.TheVariants as causes
 use Rattle.dms_agent_lines.specs.declared.keywords.AgentKeyword.{AgentKeyword}
 use Rattle.dms_agent_lines.specs.declared.keywords.AgentKeyword.TheVariants as key
@@ -59,6 +59,29 @@ withdraw_wanted words = by_word (word_at words)
     by_word None = refl
     by_word (Some found) = by_name found.1 (name_of found.0)
 
+abbrev bound : List ℕ → ObjectValue → VarBind
+bound name value = record { name = name; value = value }
+
+binding_wanted : (words : List (List ℕ)) → is_some (binding_at words) ≡ not (is_some (binding_cause (word_at words)))
+unfolding binding_at
+binding_wanted words = by_word (word_at words)
+  where
+    by_value : (name : List ℕ) (value : Option (ObjectValue × List (List ℕ)))
+        → is_some (value >>= (λ value. if_last (bound name value.0) value.1)) ≡ not (is_some (last_value_cause value))
+    by_value name None = refl
+    by_value name (Some value) =
+        end_wanted (bound name value.0) (3 + value_words value.0) value.1 ∙ by_fault causes.Word (fault_from (3 + value_words value.0) [] value.1)
+
+    by_name : (rest : List (List ℕ)) (name : Option (List ℕ))
+        → is_some (name >>= (λ name. value_at rest >>= (λ value. if_last (bound name value.0) value.1))) ≡ not (is_some (last_named_cause rest name))
+    by_name rest None = refl
+    by_name rest (Some name) = by_value name (value_at rest)
+
+    by_word : (found : Option (List ℕ × List (List ℕ)))
+        → is_some (found >>= (λ found. name_of found.0 >>= (λ name. value_at found.1 >>= (λ value. if_last (bound name value.0) value.1)))) ≡ not (is_some (binding_cause found))
+    by_word None = refl
+    by_word (Some found) = by_name found.1 (name_of found.0)
+
 -- ---- lines
 
 after_wanted : (keyword : AgentKeyword) (words : List (List ℕ)) → is_some (call_after keyword words) ≡ not (is_some (words_cause keyword words))
@@ -67,6 +90,8 @@ after_wanted key.Object words = is_some_mapped publish (object_at words) ∙ obj
 after_wanted key.NoObject words = is_some_mapped withdraw (withdraw_at words) ∙ withdraw_wanted words
 after_wanted key.Fonts words = end_wanted show_fonts 2 words ∙ by_fault causes.Word _
 after_wanted key.Objects words = end_wanted tell 2 words ∙ by_fault causes.Word _
+after_wanted key.Set words = is_some_mapped put_back (binding_at words) ∙ binding_wanted words
+after_wanted key.Save words = end_wanted save 2 words ∙ by_fault causes.Word _
 
 call_wanted : (line : List ℕ) → is_some (call_of line) ≡ not (is_some (call_cause line))
 unfolding call_of

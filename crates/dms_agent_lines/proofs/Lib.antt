@@ -1,7 +1,7 @@
-pub mod ObjectWordLaws
-pub mod ValueLaws
 pub mod CallLaws
 pub mod Causes
 pub mod Faultless
+pub mod Named
+pub mod SetBack
 pub mod SetLines
 pub mod Signs

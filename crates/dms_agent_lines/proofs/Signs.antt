@@ -1,11 +1,11 @@
 -- A line that concerns the sign alone has the sign's answer, where nothing is published and fonts cannot be read.
-use Rattle.std.proofs.Common.{◌≡◌, ℕ, List, [], ◌∷◌, Option, Some, None, option_map, refl, sym, ap, ◌∙◌}
+use Rattle.std.proofs.Common.{◌≡◌, ℕ, List, [], ◌∷◌, Option, Some, None, ◌++◌, option_map, refl, sym, ap, ◌∙◌, append-nil}
 use Rattle.std.specs.Prelude.{codes}
 use Rattle.dms_text.specs.Words.{words_of}
 use Rattle.dms_text.specs.Reading.{word_at, ◌>>=◌}
 use Rattle.dms_text.proofs.WordLaws.{word_found}
 use Rattle.dms_text_forms.specs.Form.{fault_from}
-use Rattle.dms_text_forms.specs.FieldsReading.{last_octets_at}
+use Rattle.dms_text_forms.specs.FieldsReading.{if_last, last_octets_at}
 use Rattle.dms_text_causes.specs.LineCauses.{cause_after, cause_at, form_cause}
 use Rattle.dms_text_forms.specs.declared.fault.WordFault.{WordFault}
 use Rattle.dms_text_forms.specs.declared.vocabulary.WordName.TheVariants as names
@@ -14,11 +14,13 @@ use Rattle.dms_sign.specs.State.{SignState}
 use Rattle.dms_agent.specs.Promises.{alone}
 use Rattle.dms_agent.proofs.Alone.{received_alone}
 use Rattle.dms_sign_lines.specs.Answer as sign
-use Rattle.dms_sign_lines.specs.SignCall.{datagram}
+use Rattle.dms_text_streams.specs.Conversation.{ok_line}
+use Rattle.dms_sign_state.specs.StateText.{text_of_state}
+use Rattle.dms_sign_lines.specs.SignCall.{datagram, save as save_sign}
 use Rattle.dms_sign_lines.specs.SignReading as sign_reading
 use Rattle.dms_sign_lines.specs.SignForm as sign_form
 use Rattle.dms_sign_lines.specs.declared.cause.CallCause.TheVariants as sign_causes
-use Rattle.dms_agent_lines.specs.AgentCall.{receive}
+use Rattle.dms_agent_lines.specs.AgentCall.{receive, save}
 use Rattle.dms_agent_lines.specs.AgentForm.{words_cause, call_cause}
 use Rattle.dms_agent_lines.specs.AgentReading.{keyword_of, keyword_in, call_after, call_of}
 use Rattle.dms_agent_lines.specs.AgentAnswer.{received_text, text_if, after_if, answer_text, after_line}
@@ -46,6 +48,32 @@ sign_cause : (line : List ℕ) (words : List (List ℕ)) → words_of line ≡ c
 unfolding sign_reading.keyword_of word_at
 sign_cause line words e = ap (λ words. cause_at sign_causes.Keyword sign_reading.keyword_of (form_cause sign_causes.Word sign_form.form_after) (word_at words)) e
 
+-- ---- the line that asks for the state
+
+save_words : (line : List ℕ) (found : List ℕ × List (List ℕ)) → word_at (words_of line) ≡ Some found → keyword_of found.0 ≡ Some key.Save
+    → words_of line ≡ codes "save" ∷ found.1
+save_words line found is named = (word_found (words_of line) found is).0 ∙ ap (λ word. word ∷ found.1) (keyword_found found.0 key.Save named)
+
+save_call : (line : List ℕ) (words : List (List ℕ)) → words_of line ≡ codes "save" ∷ words → sign_reading.call_of line ≡ if_last save_sign words
+unfolding sign_reading.call_of sign_reading.keyword_of word_at
+save_call line words e = ap (λ words. word_at words >>= (λ found. sign_reading.keyword_of found.0 >>= (λ keyword. sign_reading.call_after keyword found.1))) e
+
+save_cause : (line : List ℕ) (words : List (List ℕ)) → words_of line ≡ codes "save" ∷ words → sign_form.call_cause line ≡ option_map sign_causes.Word (fault_from 2 [] words)
+unfolding sign_reading.keyword_of word_at
+save_cause line words e = ap (λ words. cause_at sign_causes.Keyword sign_reading.keyword_of (form_cause sign_causes.Word sign_form.form_after) (word_at words)) e
+
+saved_text : (s : SignState) (line : List ℕ) (words : List (List ℕ)) (fault : Option WordFault)
+    → text_if (alone s) line (if_last save words) (option_map causes.Word fault) ≡ sign.text_if s (if_last save_sign words) (option_map sign_causes.Word fault)
+saved_text s line [] fault = ap (λ text. text ++ ok_line) (append-nil (text_of_state s))
+saved_text s line (word ∷ words) (Some fault) = refl
+saved_text s line (word ∷ words) None = refl
+
+saved_after : (s : SignState) (line : List ℕ) (words : List (List ℕ)) (fault : Option WordFault)
+    → after_if (alone s) line (if_last save words) (option_map causes.Word fault) ≡ alone (sign.after_if s (if_last save_sign words))
+saved_after s line [] fault = refl
+saved_after s line (word ∷ words) (Some fault) = refl
+saved_after s line (word ∷ words) None = refl
+
 -- ---- answers
 
 same_text : (s : SignState) (line : List ℕ) (octets : Option (List ℕ)) (fault : Option WordFault)
@@ -67,6 +95,12 @@ text_by_keyword s line found (Some key.Object) is named of_sign = absurd of_sign
 text_by_keyword s line found (Some key.NoObject) is named of_sign = absurd of_sign
 text_by_keyword s line found (Some key.Fonts) is named of_sign = absurd of_sign
 text_by_keyword s line found (Some key.Objects) is named of_sign = absurd of_sign
+text_by_keyword s line found (Some key.Set) is named of_sign = absurd of_sign
+text_by_keyword s line found (Some key.Save) is named of_sign =
+    let words = save_words line found is named in
+    saved_text s line found.1 (fault_from 2 [] found.1)
+    ∙ sym (ap (λ call. sign.text_if s call (sign_form.call_cause line)) (save_call line found.1 words)
+    ∙ ap (sign.text_if s (if_last save_sign found.1)) (save_cause line found.1 words))
 
 text_from : (s : SignState) (line : List ℕ) (found : Option (List ℕ × List (List ℕ))) → word_at (words_of line) ≡ found → IsOfSign (found >>= (λ found. keyword_of found.0))
     → text_if (alone s) line (found >>= (λ found. keyword_of found.0 >>= (λ keyword. call_after keyword found.1))) (cause_at causes.Keyword keyword_of words_cause found) ≡ sign.answer_text s line
@@ -96,6 +130,10 @@ after_by_keyword s line found (Some key.Object) is named of_sign = absurd of_sig
 after_by_keyword s line found (Some key.NoObject) is named of_sign = absurd of_sign
 after_by_keyword s line found (Some key.Fonts) is named of_sign = absurd of_sign
 after_by_keyword s line found (Some key.Objects) is named of_sign = absurd of_sign
+after_by_keyword s line found (Some key.Set) is named of_sign = absurd of_sign
+after_by_keyword s line found (Some key.Save) is named of_sign =
+    saved_after s line found.1 (fault_from 2 [] found.1)
+    ∙ sym (ap (λ call. alone (sign.after_if s call)) (save_call line found.1 (save_words line found is named)))
 
 after_from : (s : SignState) (line : List ℕ) (found : Option (List ℕ × List (List ℕ))) → word_at (words_of line) ≡ found → IsOfSign (found >>= (λ found. keyword_of found.0))
     → after_if (alone s) line (found >>= (λ found. keyword_of found.0 >>= (λ keyword. call_after keyword found.1))) (cause_at causes.Keyword keyword_of words_cause found) ≡ alone (sign.after_line s line)

@@ -1,13 +1,13 @@
 -- What a live sign answers to a line, with the objects beside it, and what both are afterwards (this profile). Each
 -- line of an answer ends in a newline.
-use Rattle.std.specs.Prelude.{ℕ, if◌then◌else◌, false, not, List, [], ◌++◌, map, codes, Option, Some, None}
-use Rattle.std.specs.Prelude.{is_some}
-use Rattle.std.specs.List.{flat_map}
-use Rattle.dms_wire_ber.specs.NameText.{dotted}
-use Rattle.dms_wire.specs.Message.{ObjectValue}
+use Rattle.std.specs.Prelude.{ℕ, if◌then◌else◌, false, not, List, [], ◌∷◌, ◌++◌, map, codes, Option, Some, None}
+use Rattle.std.specs.Prelude.{is_some, option_map}
+use Rattle.std.specs.List.{flat_map, find}
+use Rattle.dms_wire.specs.Message.{ObjectValue, VarBind}
 use Rattle.dms_codes.specs.declared.codes.Order.{Order}
-use Rattle.dms_device.specs.Object.{DeviceObject, fits}
-use Rattle.dms_device.specs.Objects.{device_value}
+use Rattle.dms_device.specs.declared.access.Access.{Access}
+use Rattle.dms_device.specs.Object.{DeviceObject, admits, fits}
+use Rattle.dms_device.specs.Objects.{has_name, device_value}
 use Rattle.dms_device.specs.Publishing.{published, withdrawn}
 use Rattle.dms_device.specs.Taken.{told}
 use Rattle.dms_agent.specs.declared.agent.Agent.{Agent}
@@ -15,9 +15,11 @@ use Rattle.dms_agent.specs.Values.{own_value, is_bare, showing_fonts}
 use Rattle.dms_agent.specs.Received.{AgentReceived, agent_received}
 use Rattle.dms_text_forms.specs.LineText.{ended}
 use Rattle.dms_text_streams.specs.Conversation.{bad_line, ok_line}
-use Rattle.dms_text_values.specs.ValueText.{value_text}
+use Rattle.dms_agent_state.specs.AgentText.{value_line, text_of_agent}
+use Rattle.dms_agent_state.specs.PutBack.{with_values}
 use Rattle.dms_sign_lines.specs.Answer as sign
 use Rattle.dms_agent_lines.specs.AgentCall.{AgentCall, NewObject, receive, publish, withdraw, show_fonts, tell}
+use Rattle.dms_agent_lines.specs.AgentCall.{put_back, save}
 use Rattle.dms_agent_lines.specs.AgentForm.{call_cause, bad_line_text}
 use Rattle.dms_agent_lines.specs.AgentReading.{call_of}
 use Rattle.dms_agent_lines.specs.declared.cause.CallCause.{CallCause}
@@ -30,10 +32,6 @@ refused why = ended (codes "refused " ++ why)
 
 abbrev pub received_text : Order → AgentReceived → List ℕ
 received_text order received = sign.receipt_line order received.reply received.accepted
-
--- the line of an object's name and the value that a manager set
-abbrev pub value_line : List ℕ → ObjectValue → List ℕ
-value_line name value = (codes "set " ++ dotted name ++ codes " ") ++ value_text value ++ codes "\n"
 
 -- the line of an object that a manager set, and nothing of another
 abbrev pub set_line : DeviceObject → List ℕ
@@ -90,6 +88,32 @@ after_withdraw a name =
 abbrev pub fonts_text : Agent → List ℕ
 fonts_text a = if is_bare a then ok_line else refused (codes "objects are published already")
 
+-- ---- putting values back
+
+-- what a manager may write to the object of a name
+abbrev pub access_of : List DeviceObject → List ℕ → Option Access
+access_of objects name = option_map (λ (object : DeviceObject). object.access) (find (has_name name) objects)
+
+-- why an object does not get a value, by what a manager may write to it
+abbrev pub value_refusal : Option Access → ObjectValue → Option (List ℕ)
+value_refusal None value = Some (codes "there is no object of this name")
+value_refusal (Some access) value =
+    if admits access value then None else Some (codes "the object does not take this value")
+
+abbrev pub put_refusal : Agent → VarBind → Option (List ℕ)
+put_refusal a binding = value_refusal (access_of a.device binding.name) binding.value
+
+abbrev pub put_text : Agent → VarBind → List ℕ
+put_text a binding = refused_or_ok (put_refusal a binding)
+
+-- the object has the value as if a manager had set it now
+abbrev pub put_unless : Agent → VarBind → Option (List ℕ) → Agent
+put_unless a binding None = with_values a (binding ∷ [])
+put_unless a binding (Some why) = a
+
+abbrev pub after_put : Agent → VarBind → Agent
+after_put a binding = put_unless a binding (put_refusal a binding)
+
 -- ---- calls
 
 abbrev pub call_text : Agent → AgentCall → List ℕ
@@ -98,6 +122,8 @@ call_text a (publish object) = publish_text a object
 call_text a (withdraw name) = withdraw_text a name
 call_text a show_fonts = fonts_text a
 call_text a tell = set_lines a.device ++ ok_line
+call_text a (put_back binding) = put_text a binding
+call_text a save = text_of_agent a ++ ok_line
 
 abbrev pub after_call : Agent → AgentCall → Agent
 after_call a (receive octets) = (agent_received a octets).after
@@ -105,6 +131,8 @@ after_call a (publish object) = after_publish a object
 after_call a (withdraw name) = after_withdraw a name
 after_call a show_fonts = showing_fonts a
 after_call a tell = record a { device = map told a.device }
+after_call a (put_back binding) = after_put a binding
+after_call a save = a
 
 -- ---- lines that are no call
 
@@ -137,3 +165,8 @@ answer_text a line = text_if a line (call_of line) (call_cause line)
 -- the sign and the objects after a line
 abbrev pub after_line : Agent → List ℕ → Agent
 after_line a line = after_if a line (call_of line) (call_cause line)
+
+-- the sign and the objects after lines that are handed over one by one
+abbrev pub after_lines : Agent → List (List ℕ) → Agent
+after_lines a [] = a
+after_lines a (line ∷ more) = after_lines (after_line a line) more

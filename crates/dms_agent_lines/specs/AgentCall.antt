@@ -1,6 +1,6 @@
 -- What a line asks of a sign and the objects beside it (this profile).
 use Rattle.std.specs.Prelude.{ℕ, List}
-use Rattle.dms_wire.specs.Message.{ObjectValue}
+use Rattle.dms_wire.specs.Message.{ObjectValue, VarBind}
 use Rattle.dms_device.specs.declared.access.Access.{Access}
 
 -- an object to be published
@@ -19,3 +19,7 @@ pub data AgentCall : Type 0 where
   show_fonts : AgentCall
   -- firmware is told which objects a manager set
   tell : AgentCall
+  -- the object of a name gets the value back that a manager had set
+  put_back : (binding : VarBind) → AgentCall
+  -- the state is asked for
+  save : AgentCall

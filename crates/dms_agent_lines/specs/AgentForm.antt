@@ -1,6 +1,6 @@
 -- Why a line is no call of an agent (this profile).
-use Rattle.std.specs.Prelude.{ℕ, List, [], ◌∷◌, codes, Option, Some, None, option_map}
-use Rattle.dms_wire.specs.Message.{ObjectValue}
+use Rattle.std.specs.Prelude.{ℕ, ◌+◌, List, [], ◌∷◌, codes, Option, Some, None, option_map}
+use Rattle.dms_wire.specs.Message.{ObjectValue, null, octet_string, object_identifier}
 use Rattle.dms_device.specs.declared.access.Access.{Access}
 use Rattle.dms_text.specs.Reading.{word_at}
 use Rattle.dms_text_forms.specs.Form.{fault_from}
@@ -45,6 +45,28 @@ abbrev pub withdraw_cause : Option (List ℕ × List (List ℕ)) → Option Call
 withdraw_cause None = Some causes.Name
 withdraw_cause (Some found) = last_name_cause found.1 (name_of found.0)
 
+-- ---- NAME VALUE, and nothing after them
+
+-- how many words a value has
+abbrev pub value_words : ObjectValue → ℕ
+value_words null = 1
+value_words (octet_string octets) = 3
+value_words (object_identifier numbers) = 3
+value_words _ = 2
+
+-- the value begins with word 3
+abbrev pub last_value_cause : Option (ObjectValue × List (List ℕ)) → Option CallCause
+last_value_cause None = Some causes.Value
+last_value_cause (Some value) = option_map causes.Word (fault_from (3 + value_words value.0) [] value.1)
+
+abbrev pub last_named_cause : List (List ℕ) → Option (List ℕ) → Option CallCause
+last_named_cause rest None = Some causes.Name
+last_named_cause rest (Some name) = last_value_cause (value_at rest)
+
+abbrev pub binding_cause : Option (List ℕ × List (List ℕ)) → Option CallCause
+binding_cause None = Some causes.Name
+binding_cause (Some found) = last_named_cause found.1 (name_of found.0)
+
 -- ---- lines
 
 -- what is wrong with the words after a keyword
@@ -54,6 +76,8 @@ words_cause key.Object words = object_cause (word_at words)
 words_cause key.NoObject words = withdraw_cause (word_at words)
 words_cause key.Fonts words = option_map causes.Word (fault_from 2 [] words)
 words_cause key.Objects words = option_map causes.Word (fault_from 2 [] words)
+words_cause key.Set words = binding_cause (word_at words)
+words_cause key.Save words = option_map causes.Word (fault_from 2 [] words)
 
 -- the line begins with no word of a call, or what is not as it is wanted
 abbrev pub call_cause : List ℕ → Option CallCause

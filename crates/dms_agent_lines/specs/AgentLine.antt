@@ -1,13 +1,15 @@
 -- The lines to a sign and the objects beside it (this profile).
 use Rattle.std.specs.Prelude.{◌≡◌, ℕ, List, [], ◌∷◌, ◌++◌, codes}
+use Rattle.dms_wire.specs.Message.{VarBind}
 use Rattle.dms_text.specs.Words.{words_of}
 use Rattle.dms_text.specs.Octets.{SpellsOctets}
 use Rattle.dms_text_forms.specs.Fields.{SpellsTwoOctets, SpellsOne}
 use Rattle.dms_device.specs.declared.access.Access.{Access}
 use Rattle.dms_device.specs.declared.access.Access.TheVariants.{ReadOnly, Number, Octets}
 use Rattle.dms_agent_lines.specs.AgentCall.{AgentCall, NewObject, receive, publish, withdraw, show_fonts, tell}
-use Rattle.dms_agent_lines.specs.ObjectFields.{SpellsName, SpellsInteger}
-use Rattle.dms_agent_lines.specs.ValueLine.{SpellsValue}
+use Rattle.dms_agent_lines.specs.AgentCall.{put_back, save}
+use Rattle.dms_agent_state.specs.ObjectFields.{SpellsName, SpellsInteger}
+use Rattle.dms_agent_state.specs.SpelledValue.{SpellsValue}
 
 -- a keyword, and the least and the most of what a manager may write
 pub record SpellsBounds {A : Type 0} (keyword : List ℕ) (Spelled : A → List ℕ → Type 0) (least most : A)
@@ -34,12 +36,22 @@ pub record SpellsObject (object : NewObject) (words : List (List ℕ)) : Type 0 
   pub value : SpellsValue object.value value_words
   pub access : SpellsAccess object.access access_words
 
+-- `set NAME VALUE`
+pub record SpellsSet (binding : VarBind) (words : List (List ℕ)) : Type 0 where
+  pub name_word : List ℕ
+  pub value_words : List (List ℕ)
+  pub words_are : words ≡ codes "set" ∷ name_word ∷ value_words
+  pub name : SpellsName binding.name name_word
+  pub value : SpellsValue binding.value value_words
+
 abbrev pub SpellsCallWords : AgentCall → List (List ℕ) → Type 0
 SpellsCallWords (receive octets) words = SpellsOne (codes "datagram") (SpellsOctets octets) words
 SpellsCallWords (publish object) words = SpellsObject object words
 SpellsCallWords (withdraw name) words = SpellsOne (codes "no-object") (SpellsName name) words
 SpellsCallWords show_fonts words = words ≡ codes "fonts" ∷ []
 SpellsCallWords tell words = words ≡ codes "objects" ∷ []
+SpellsCallWords (put_back binding) words = SpellsSet binding words
+SpellsCallWords save words = words ≡ codes "save" ∷ []
 
 -- the line of a call: its words, with one space between two
 abbrev pub SpellsAgentCall : AgentCall → List ℕ → Type 0

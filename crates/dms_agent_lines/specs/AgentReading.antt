@@ -1,5 +1,6 @@
 -- The lines to a sign and the objects beside it (this profile).
 use Rattle.std.specs.Prelude.{ℕ, if◌then◌else◌, List, codes, Option, Some, None, option_map}
+use Rattle.dms_wire.specs.Message.{VarBind}
 use Rattle.dms_text.specs.Words.{words_of}
 use Rattle.dms_text.specs.Reading.{same_octets, word_at, is_end, ◌>>=◌}
 use Rattle.dms_text_forms.specs.FieldsReading.{if_last, two_octets_at, last_octets_at}
@@ -8,6 +9,7 @@ use Rattle.dms_text_values.specs.ValueReading.{integer_at, value_at}
 use Rattle.dms_device.specs.declared.access.Access.{Access}
 use Rattle.dms_device.specs.declared.access.Access.TheVariants.{ReadOnly, Number, Octets}
 use Rattle.dms_agent_lines.specs.AgentCall.{AgentCall, NewObject, receive, publish, withdraw, show_fonts, tell}
+use Rattle.dms_agent_lines.specs.AgentCall.{put_back, save}
 use Rattle.dms_agent_lines.specs.declared.keywords.AgentKeyword.{AgentKeyword}
 use Rattle.dms_agent_lines.specs.declared.keywords.AgentKeyword.TheVariants as key
 
@@ -61,6 +63,21 @@ withdraw_at words = do
   name ← name_of found.0
   if_last name found.1
 
+-- NAME VALUE
+unfoldable pub binding_at : List (List ℕ) → Option VarBind
+binding_at words = do
+  found ← word_at words
+  name ← name_of found.0
+  value ← value_at found.1
+  if_last (record { name = name; value = value.0 }) value.1
+
+-- the words that ask for the state, and that put values of it back
+abbrev pub state_keyword : List ℕ → Option AgentKeyword
+state_keyword word =
+    if same_octets word (codes "set") then Some key.Set
+    else if same_octets word (codes "save") then Some key.Save
+    else None
+
 unfoldable pub keyword_of : List ℕ → Option AgentKeyword
 keyword_of word =
     if same_octets word (codes "datagram") then Some key.Datagram
@@ -68,7 +85,7 @@ keyword_of word =
     else if same_octets word (codes "no-object") then Some key.NoObject
     else if same_octets word (codes "fonts") then Some key.Fonts
     else if same_octets word (codes "objects") then Some key.Objects
-    else None
+    else state_keyword word
 
 -- the keyword of a line
 unfoldable pub keyword_in : List ℕ → Option AgentKeyword
@@ -83,6 +100,8 @@ call_after key.Object words = option_map publish (object_at words)
 call_after key.NoObject words = option_map withdraw (withdraw_at words)
 call_after key.Fonts words = if_last show_fonts words
 call_after key.Objects words = if_last tell words
+call_after key.Set words = option_map put_back (binding_at words)
+call_after key.Save words = if_last save words
 
 -- the call of a line, if it is one of these
 unfoldable pub call_of : List ℕ → Option AgentCall

@@ -9,3 +9,5 @@ call_model (calls.Publish object) = model.publish object
 call_model (calls.Withdraw name) = model.withdraw name
 call_model calls.ShowFonts = model.show_fonts
 call_model calls.Tell = model.tell
+call_model (calls.PutBack binding) = model.put_back binding
+call_model calls.Save = model.save

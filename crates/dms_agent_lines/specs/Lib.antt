@@ -1,7 +1,5 @@
 -- what a reader must believe: the lines of a live sign beside which objects are published, and their answers
 pub mod AgentCall
-pub mod ObjectFields
-pub mod ValueLine
 pub mod AgentLine
 pub mod AgentForm
 pub mod AgentAnswer

@@ -1,9 +1,10 @@
 //! The answer of a live sign, and of the objects beside it, to a line.
 
-ghost use Rattle.std.specs.Prelude.{◌≡◌, ◌++◌, true, false, None, map, IfOk, IfErr, OnOk, OnErr};
+ghost use Rattle.std.specs.Prelude.{◌≡◌, ◌∷◌, [], ◌++◌, true, false, None, map, IfOk, IfErr, OnOk, OnErr};
 ghost use Rattle.dms_wire.specs.View.{object_value};
 ghost use Rattle.dms_device.specs.Object.{can_be_sent, fits};
 ghost use Rattle.dms_device.specs.declared.fault.ObjectFault.TheVariants.{OutOfMemory};
+ghost use Rattle.dms_device.specs.Objects.{binding_of};
 ghost use Rattle.dms_device.specs.Publishing.{published};
 ghost use Rattle.dms_device.specs.Taken.{told};
 ghost use Rattle.dms_agent.specs.Values.{own_value, showing_fonts};
@@ -12,12 +13,16 @@ ghost use Rattle.dms_text_streams.specs.Conversation.{ok_line};
 ghost use Rattle.dms_agent_lines.specs.CallView.{call_model};
 ghost use Rattle.dms_agent_lines.specs.AgentAnswer.{answer_text, after_line, call_text, after_call, received_text};
 ghost use Rattle.dms_agent_lines.specs.AgentAnswer.{publish_text, after_publish, withdraw_text, after_withdraw};
-ghost use Rattle.dms_agent_lines.specs.AgentAnswer.{fonts_text, refused, value_line, set_line, set_lines};
+ghost use Rattle.dms_agent_state.specs.AgentText.{value_line, text_of_agent};
+ghost use Rattle.dms_agent_state.specs.PutBack.{with_values};
+ghost use Rattle.dms_agent_lines.specs.AgentAnswer.{fonts_text, refused, set_line, set_lines};
+ghost use Rattle.dms_agent_lines.specs.AgentAnswer.{access_of, put_text, after_put};
 
-use crate::agent_call::{AgentCall, ObjectWords};
+use crate::agent_call::{AgentCall, ObjectWords, SetWords};
 use crate::cause::CallCause;
 use crate::reading::call;
 use dms_agent::{Agent, PublishFault};
+use dms_agent_state::saved;
 use dms_device::{Access, Device, Object, ObjectFault};
 use dms_mib_replies::Objects;
 use dms_sign_lines::{LONGEST_RECEIPT, put_receipt};
@@ -37,6 +42,8 @@ use std::io::Write;
 /// no-object NAME             the object of a name is withdrawn: `ok`, or `refused there is no object of this name`
 /// fonts                      the sign's fonts can be read: `ok`, or `refused objects are published already`
 /// objects                    firmware is told which objects a manager set: a line `set NAME VALUE` for each, and `ok`
+/// set NAME VALUE             a value that a manager had set is put back: `ok`, or `refused` and why
+/// save                       the text of the state, of the sign and of what managers set, and `ok`
 /// ```
 ///
 /// A line that begins with none of these words is the sign's (`dms_sign_lines::answer`). One that does, and has no such
@@ -66,6 +73,8 @@ fn carry_out(alloc: Global, agent: &mut Agent, call: &AgentCall<'_>) -> Result<V
         AgentCall::Withdraw(name) => withdraw(alloc, agent, name),
         AgentCall::ShowFonts => show_fonts(alloc, agent),
         AgentCall::Tell => tell(alloc, agent),
+        AgentCall::PutBack(binding) => put_back(alloc, agent, binding),
+        AgentCall::Save => save(alloc, agent),
     }
 }
 
@@ -233,6 +242,62 @@ fn put_set(alloc: Global, object: &Object, text: &mut Vec<u8>) -> io::Result<()>
     write!(text, "set {} ", object.name())?;
     put_value(alloc, &object.value(), text)?;
     writeln!(text)
+}
+
+/// Puts a value back that a manager had set, or says why not. Nothing is refused then but memory.
+fn put_back(alloc: Global, agent: &mut Agent, binding: &SetWords<'_>) -> Result<Vec<u8>, AllocError>
+    ensures text { IfOk result (λ text. text.items ≡ put_text agent.old binding.now) }
+    ensures after { OnOk result (agent.new ≡ after_put agent.old binding.now) }
+    ensures memory { OnErr result (agent.new ≡ agent.old) }
+{
+    let octets = binding.value.octets(alloc)?;
+    let value = binding.value.over(octets.as_slice());
+    let name = binding.name.oid();
+    let Some(access) = access_of(agent.device().objects(), &name) else {
+        return refused(alloc, "there is no object of this name");
+    };
+    if !access.admits(&value) {
+        return refused(alloc, "the object does not take this value");
+    }
+    let done = ok_line(alloc)?;
+    match made(alloc, &name, &value, Access::ReadOnly) {
+        Ok(object) => {
+            put_value_back(agent, object);
+            Ok(done)
+        }
+        Err(_) => Err(AllocError),
+    }
+}
+
+/// What a manager may write to the object of a name, if there is one.
+#[tactic(auto, using(crate::proofs::Named::steps))]
+fn access_of(objects: &[Object], name: &Oid<'_>) -> Option<Access>
+    ensures { result ≡ access_of objects.now name.now }
+{
+    let mut rest = objects;
+    while let [object, others @ ..] = rest {
+        if object.name() == *name {
+            return Some(object.access());
+        }
+        rest = others;
+    }
+    None
+}
+
+/// Puts back the value of an object to the published one that has its name.
+fn put_value_back(agent: &mut Agent, object: Object)
+    ensures { agent.new ≡ with_values agent.old (binding_of object ∷ []) }
+{
+    agent.put_back(&[object]);
+}
+
+/// The text of the state.
+fn save(alloc: Global, agent: &Agent) -> Result<Vec<u8>, AllocError>
+    ensures { IfOk result (λ text. text.items ≡ text_of_agent agent.now ++ ok_line) }
+{
+    let mut text = saved(alloc, agent)?;
+    text.extend_from_slice(b"ok\n")?;
+    Ok(text)
 }
 
 /// The line that says why a line is refused.

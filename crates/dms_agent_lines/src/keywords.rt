@@ -10,11 +10,13 @@ pub(crate) enum AgentKeyword {
     NoObject,
     Fonts,
     Objects,
+    Set,
+    Save,
 }
 
 impl AgentKeyword {
     ghost use Rattle.std.specs.Prelude.{◌≡◌};
-    ghost use Rattle.dms_agent_lines.specs.AgentReading.{keyword_of};
+    ghost use Rattle.dms_agent_lines.specs.AgentReading.{keyword_of, state_keyword};
 
     /// The keyword that a word is, if any.
     #[tactic(auto, unfolding(crate::specs::AgentReading::keyword_of))]
@@ -31,6 +33,19 @@ impl AgentKeyword {
             Some(AgentKeyword::Fonts)
         } else if are_same(word, b"objects") {
             Some(AgentKeyword::Objects)
+        } else {
+            AgentKeyword::of_state(word)
+        }
+    }
+
+    /// The keyword of a line that asks for the state, or puts a value of it back.
+    fn of_state(word: &[u8]) -> Option<AgentKeyword>
+        ensures { result ≡ state_keyword word.now }
+    {
+        if are_same(word, b"set") {
+            Some(AgentKeyword::Set)
+        } else if are_same(word, b"save") {
+            Some(AgentKeyword::Save)
         } else {
             None
         }

@@ -1,27 +1,29 @@
 //! The call that a line spells.
 
-ghost use Rattle.std.specs.Prelude.{◌≡◌, [], true, false, IfOk, IfErr, OnErr, IsSome, option_map};
+ghost use Rattle.std.specs.Prelude.{◌≡◌, ◌+◌, [], true, false, IfOk, IfErr, OnErr, IsSome, option_map};
 ghost use Rattle.std.specs.Result.{result_ok, result_err};
 ghost use Rattle.dms_text.specs.Reading.{word_at, is_end};
 ghost use Rattle.dms_text_forms.specs.FieldsReading.{last_octets_at};
 ghost use Rattle.dms_text_forms.specs.Form.{fault_from};
 ghost use Rattle.dms_agent_lines.specs.AgentCall.{receive};
-ghost use Rattle.dms_agent_lines.specs.AgentForm.{object_cause, withdraw_cause, words_cause, call_cause};
+ghost use Rattle.dms_agent_lines.specs.AgentForm.{object_cause, withdraw_cause, binding_cause};
+ghost use Rattle.dms_agent_lines.specs.AgentForm.{value_words, words_cause, call_cause};
 ghost use Rattle.dms_agent_lines.specs.AgentReading.{call_of, access_at, written_access_at};
 ghost use Rattle.dms_agent_lines.specs.AgentReading.{number_access_at, octets_access_at};
-ghost use Rattle.dms_agent_lines.specs.AgentReading.{object_at, withdraw_at};
+ghost use Rattle.dms_agent_lines.specs.AgentReading.{object_at, withdraw_at, binding_at};
+ghost use Rattle.dms_text_values.specs.View.{worded_value};
 ghost use Rattle.dms_agent_lines.specs.CallView.{call_model};
 ghost use Rattle.dms_agent_lines.specs.declared.cause.CallCause.TheVariants.{Word};
 ghost use Rattle.dms_agent_lines.specs.declared.keywords.AgentKeyword.TheVariants.{Datagram};
 
-use crate::agent_call::{AgentCall, ObjectWords};
+use crate::agent_call::{AgentCall, ObjectWords, SetWords};
 use crate::cause::CallCause;
 use crate::keywords::AgentKeyword;
 use dms_device::Access;
 use dms_text::{Words, are_same};
 use dms_text_forms::fields::two_octets;
 use dms_text_forms::{LineWords, WordName};
-use dms_text_values::{NameRead, integer, name, value};
+use dms_text_values::{NameRead, ValueWords, integer, name, value};
 use std::alloc::{AllocError, Global};
 
 /// The call that a line spells, or why it spells none. Memory is asked for by a datagram alone, and not where its line
@@ -57,6 +59,14 @@ pub(crate) fn call(
         },
         AgentKeyword::Objects => match end(2, words) {
             Ok(()) => Ok(Ok(AgentCall::Tell)),
+            Err(cause) => Ok(Err(cause)),
+        },
+        AgentKeyword::Set => match binding(words) {
+            Ok(binding) => Ok(Ok(AgentCall::PutBack(binding))),
+            Err(cause) => Ok(Err(cause)),
+        },
+        AgentKeyword::Save => match end(2, words) {
+            Ok(()) => Ok(Ok(AgentCall::Save)),
             Err(cause) => Ok(Err(cause)),
         },
     }
@@ -105,6 +115,34 @@ fn withdrawn(words: Words<'_>) -> Result<NameRead, CallCause>
     let name = name(word).ok_or(CallCause::Name)?;
     end(3, words)?;
     Ok(name)
+}
+
+/// A name and a value, and nothing after them.
+#[tactic(auto, unfolding(crate::specs::AgentReading::binding_at))]
+fn binding(words: Words<'_>) -> Result<SetWords<'_>, CallCause>
+    ensures read { result_ok result ≡ binding_at words.entry }
+    ensures cause { result_err result ≡ binding_cause (word_at words.entry) }
+{
+    let (word, words) = words.next_word().ok_or(CallCause::Name)?;
+    let name = name(word).ok_or(CallCause::Name)?;
+    let (value, words) = match value(words) {
+        Some(found) => found,
+        None => return Err(CallCause::Value),
+    };
+    end(place_after(&value), words)?;
+    Ok(SetWords { name, value })
+}
+
+/// The place of the word after a value that begins with word 3.
+fn place_after(value: &ValueWords<'_>) -> usize
+    ensures { result ≡ 3 + value_words (worded_value value.now) }
+{
+    match value {
+        ValueWords::Null => 4,
+        ValueWords::Octets(_) => 6,
+        ValueWords::Name(_) => 6,
+        _ => 5,
+    }
 }
 
 /// No words are left; the first that is would stand in this place.

@@ -1,10 +1,13 @@
+pub mod ObjectWordLaws
+pub mod ValueLaws
 mod Ends
 mod Listed
 mod LinesRead
 mod Filled
-mod WordForms
+pub mod WordForms
 mod CutTexts
-mod ValueLines
-mod TakenOver
+pub mod ValueLines
+pub mod SavedLines
+pub mod TakenOver
 mod Kept
 mod ReadLimits

@@ -14,10 +14,10 @@ use Rattle.dms_text_forms.specs.Fields.{SpellsEach}
 use Rattle.dms_text_values.specs.NameReading.{name_of}
 use Rattle.dms_text_values.specs.ValueReading.{value_at}
 use Rattle.dms_device.specs.Object.{can_be_sent}
-use Rattle.dms_agent_lines.specs.ObjectFields.{SpellsAddressPart}
-use Rattle.dms_agent_lines.specs.ValueLine.{SpellsValue}
-use Rattle.dms_agent_lines.proofs.ObjectWordLaws.{name_found}
-use Rattle.dms_agent_lines.proofs.ValueLaws.{value_found, read_sent}
+use Rattle.dms_agent_state.specs.ObjectFields.{SpellsAddressPart}
+use Rattle.dms_agent_state.specs.SpelledValue.{SpellsValue}
+use Rattle.dms_agent_state.proofs.ObjectWordLaws.{name_found}
+use Rattle.dms_agent_state.proofs.ValueLaws.{value_found, read_sent}
 use Rattle.dms_agent_state.specs.declared.fault.SetCause.{SetCause}
 use Rattle.dms_agent_state.specs.declared.fault.SetCause.TheVariants as causes
 use Rattle.dms_agent_state.specs.declared.fault.SetFault.{SetFault}

@@ -8,19 +8,18 @@ use Rattle.dms_device.specs.Objects.{is_before, has_name, comes_after, rises, bi
 use Rattle.dms_device.specs.Setting.{set_to, set_by_binding, written}
 use Rattle.dms_device.proofs.Order.{names_itself, before_differs, after_differs, none_of}
 use Rattle.dms_device.proofs.Writes.{none_set}
-use Rattle.dms_agent_lines.specs.AgentAnswer.{value_line}
-use Rattle.dms_agent_state.specs.AgentText.{kept_line, kept_lines}
+use Rattle.dms_agent_state.specs.AgentText.{value_line, kept_line, kept_lines}
 use Rattle.dms_agent_state.specs.Alike.{CanAllBeSaved, kept_bindings, AreAlike, taken_over, all_taken_over, AreFirmwares}
 
-abbrev is_kept : DeviceObject → Bool
+abbrev pub is_kept : DeviceObject → Bool
 is_kept object = object.by_manager
 
 -- ---- bindings of names that come later
 
-abbrev binds_after : List ℕ → VarBind → Bool
+abbrev pub binds_after : List ℕ → VarBind → Bool
 binds_after name binding = is_before name binding.name
 
-all_later : (name : List ℕ) (xs : List DeviceObject) → list_all (comes_after name) xs ≡ true → list_all (binds_after name) (kept_bindings xs) ≡ true
+pub all_later : (name : List ℕ) (xs : List DeviceObject) → list_all (comes_after name) xs ≡ true → list_all (binds_after name) (kept_bindings xs) ≡ true
 all_later name [] all = refl
 all_later name (x ∷ xs) all =
     let parts = and_parts (comes_after name x) (list_all (comes_after name) xs) all in
@@ -88,6 +87,12 @@ all_put_back (x ∷ xs) (y ∷ ys) rise all alike =
           ∙ ap (λ ys. y ∷ ys) more
           ∙ ap (λ t. cond t (record y { value = x.value; is_set = true; by_manager = true }) y ∷ all_taken_over xs ys) (sym other)
     ]
+
+-- ---- in turn
+
+pub written_in_turn : (xs : List DeviceObject) (first second : List VarBind) → written xs (first ++ second) ≡ written (written xs first) second
+written_in_turn xs [] second = refl
+written_in_turn xs (b ∷ first) second = written_in_turn (map (set_by_binding b) xs) first second
 
 -- ---- the same lines again
 

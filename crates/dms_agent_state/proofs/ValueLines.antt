@@ -15,27 +15,31 @@ use Rattle.dms_sign_state.proofs.Forms.{IsFree}
 use Rattle.dms_sign_state.proofs.HexWords.{octets_free}
 use Rattle.dms_device.specs.Object.{DeviceObject, can_be_sent}
 use Rattle.dms_device.specs.Objects.{binding_of}
-use Rattle.dms_agent_lines.specs.AgentAnswer.{value_line}
-use Rattle.dms_agent_lines.specs.ValueLine.{SpellsValue}
-use Rattle.dms_agent_lines.proofs.ObjectWordLaws.{name_only, name_some}
-use Rattle.dms_agent_lines.proofs.ValueLaws.{value_only}
-use Rattle.dms_agent_state.specs.AgentText.{kept_lines}
+use Rattle.dms_agent_state.specs.SpelledValue.{SpellsValue}
+use Rattle.dms_agent_state.proofs.ObjectWordLaws.{name_only, name_some}
+use Rattle.dms_agent_state.proofs.ValueLaws.{value_only}
+use Rattle.dms_agent_state.specs.AgentText.{value_line, kept_lines}
 use Rattle.dms_agent_state.specs.ValueLines.{with_value, with_name, with_word, behind_set, set_of, in_line, put_before, sets_at}
 use Rattle.dms_agent_state.specs.Alike.{IsSettable, CanBeSaved, CanAllBeSaved, kept_bindings}
 use Rattle.dms_agent_state.proofs.LinesRead.{some_part}
 use Rattle.dms_agent_state.proofs.WordForms.{free_append, part_first, part_only, signed_free, spells_integer, spells_octets, name_free, spells_name}
 
--- the words of a value, and that they stand in one line
-record Worded (value : ObjectValue) : Type 0 where
-  spelled : SpellsValue value (words_of (value_text value))
-  free : IsFree 10 (value_text value)
+-- the words of a value, and that they stand in one line, without a carriage return
+pub record Worded (value : ObjectValue) : Type 0 where
+  pub spelled : SpellsValue value (words_of (value_text value))
+  pub free : IsFree 10 (value_text value)
+  pub bare : IsFree 13 (value_text value)
 
 integer_worded : (z : _) → can_be_sent (integer z) ≡ true → Worded (integer z)
 integer_worded z sent =
     let word = signed_decimal z in
     let words : words_of (codes "INTEGER " ++ word) ≡ codes "INTEGER" ∷ word ∷ [] =
     part_first 32 (codes "INTEGER") word refl ∙ ap (λ words. codes "INTEGER" ∷ words) (part_only 32 word (signed_free 32 z (omega arith) sent)) in
-    record { spelled = record { word = word; words_are = words; spelled = spells_integer z sent }; free = signed_free 10 z (omega arith) sent }
+    record {
+      spelled = record { word = word; words_are = words; spelled = spells_integer z sent };
+      free = signed_free 10 z (omega arith) sent;
+      bare = signed_free 13 z (omega arith) sent;
+    }
 
 octets_worded : (octets : List ℕ) → IsBytes octets → Worded (octet_string octets)
 octets_worded octets all =
@@ -44,23 +48,27 @@ octets_worded octets all =
     part_first 32 (codes "OCTET") (codes "STRING " ++ word) refl
     ∙ ap (λ words. codes "OCTET" ∷ words) (part_first 32 (codes "STRING") word refl
     ∙ ap (λ words. codes "STRING" ∷ words) (part_only 32 word (octets_free 32 octets (omega arith) all))) in
-    record { spelled = record { word = word; words_are = words; spelled = spells_octets octets all }; free = octets_free 10 octets (omega arith) all }
+    record {
+      spelled = record { word = word; words_are = words; spelled = spells_octets octets all };
+      free = octets_free 10 octets (omega arith) all;
+      bare = octets_free 13 octets (omega arith) all;
+    }
 
 -- a line without its newline
-abbrev words_in : List ℕ → ObjectValue → List ℕ
+abbrev pub words_in : List ℕ → ObjectValue → List ℕ
 words_in name value = codes "set " ++ (dotted name ++ (codes " " ++ value_text value))
 
-line_grouped : (name : List ℕ) (value : ObjectValue) (rest : List ℕ) → value_line name value ++ rest ≡ words_in name value ++ 10 ∷ rest
+pub line_grouped : (name : List ℕ) (value : ObjectValue) (rest : List ℕ) → value_line name value ++ rest ≡ words_in name value ++ 10 ∷ rest
 line_grouped name value rest = grouped (codes "set ") (codes " ") (dotted name) (value_text value) (codes "\n") rest
   where
     grouped : (set s name value end rest : List ℕ) → ((set ++ name ++ s) ++ value ++ end) ++ rest ≡ (set ++ (name ++ (s ++ value))) ++ (end ++ rest)
     grouped set s name value end rest = simp append_assoc
 
-words_free : (name : List ℕ) (value : ObjectValue) → IsNameInLimits name → Worded value → IsFree 10 (words_in name value)
+pub words_free : (name : List ℕ) (value : ObjectValue) → IsNameInLimits name → Worded value → IsFree 10 (words_in name value)
 words_free name value within worded =
     free_append 10 (dotted name) (codes " " ++ value_text value) (name_free 10 name (omega arith) within) worded.free
 
-words_are : (name : List ℕ) (value : ObjectValue) → IsNameInLimits name → words_of (words_in name value) ≡ codes "set" ∷ dotted name ∷ words_of (value_text value)
+pub words_are : (name : List ℕ) (value : ObjectValue) → IsNameInLimits name → words_of (words_in name value) ≡ codes "set" ∷ dotted name ∷ words_of (value_text value)
 words_are name value within =
     part_first 32 (codes "set") (dotted name ++ (codes " " ++ value_text value)) refl
     ∙ ap (λ words. codes "set" ∷ words) (part_first 32 (dotted name) (value_text value) (name_free 32 name (omega arith) within))
@@ -79,7 +87,7 @@ read_again name value within worded =
 
 -- ---- all lines
 
-worded_by : (object : DeviceObject) → object.by_manager ≡ true → CanBeSaved object → Worded object.value
+pub worded_by : (object : DeviceObject) → object.by_manager ≡ true → CanBeSaved object → Worded object.value
 worded_by object by is = of_value object.value (is.settable by)
   where
     of_value : (value : ObjectValue) → IsSettable value → Worded value

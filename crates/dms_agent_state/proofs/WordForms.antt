@@ -20,7 +20,7 @@ use Rattle.dms_text.specs.Words.{parts_of}
 use Rattle.dms_text_forms.specs.Fields.{SpellsEach}
 use Rattle.dms_text_values.specs.ValueText.{octets_text}
 use Rattle.dms_sign_state.proofs.Forms.{IsFree}
-use Rattle.dms_agent_lines.specs.ObjectFields.{SpellsName, SpellsInteger}
+use Rattle.dms_agent_state.specs.ObjectFields.{SpellsName, SpellsInteger}
 
 -- ---- parts
 

@@ -1,11 +1,17 @@
 -- The state of an agent as text: that of its sign, and the values of objects that managers set (this profile). What is
 -- published stands in none: it is firmware's to say.
-use Rattle.std.specs.Prelude.{ℕ, if◌then◌else◌, List, [], ◌++◌}
+use Rattle.std.specs.Prelude.{ℕ, if◌then◌else◌, List, [], ◌++◌, codes}
 use Rattle.std.specs.List.{flat_map}
+use Rattle.dms_wire_ber.specs.NameText.{dotted}
+use Rattle.dms_wire.specs.Message.{ObjectValue}
+use Rattle.dms_text_values.specs.ValueText.{value_text}
 use Rattle.dms_sign_state.specs.StateText.{text_of_state}
 use Rattle.dms_device.specs.Object.{DeviceObject}
 use Rattle.dms_agent.specs.declared.agent.Agent.{Agent}
-use Rattle.dms_agent_lines.specs.AgentAnswer.{value_line}
+
+-- the line of an object's name and the value that a manager set
+abbrev pub value_line : List ℕ → ObjectValue → List ℕ
+value_line name value = (codes "set " ++ dotted name ++ codes " ") ++ value_text value ++ codes "\n"
 
 -- the line of an object whose value a manager set, whether firmware was told or not, and nothing of another
 abbrev pub kept_line : DeviceObject → List ℕ

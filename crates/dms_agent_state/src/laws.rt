@@ -1,6 +1,6 @@
 //! What holds of each text of an agent's state, stated as functions with nothing to run.
 
-ghost use Rattle.std.specs.Prelude.{◌≡◌, ℕ, List, map, Ok, None};
+ghost use Rattle.std.specs.Prelude.{◌≡◌, ℕ, List, ◌++◌, map, Ok, None};
 ghost use Rattle.dms_wire.specs.Message.{ObjectValue, VarBind};
 ghost use Rattle.dms_wire.specs.Limits.{AreBindingsInLimits};
 ghost use Rattle.dms_device.specs.declared.access.Access.{Access};
@@ -52,6 +52,13 @@ pub fn saved_texts_are_saved_again(saved: &Agent)
 {
     saved.device().in_order();
 }
+
+/// Two lists of values that are put back one after the other are put back as if they were one: so each value may be put
+/// back by itself.
+pub fn values_are_put_back_in_turn()
+    ensures { (a : Agent) (first second : List VarBind)
+        → with_values a (first ++ second) ≡ with_values (with_values a first) second }
+{}
 
 /// All objects can be saved, whatever comes to them: an object that is made can, and what is published, withdrawn, told
 /// and put back leaves it so.

@@ -3,8 +3,7 @@
 ghost use Rattle.std.specs.Prelude.{◌≡◌, ◌≤◌, ◌+◌, IfOk, length};
 ghost use Rattle.dms_text_filling.specs.Filling.{Puts, counted, laid};
 ghost use Rattle.dms_sign_state.specs.StateText.{text_of_state, saved_rows, most_saved};
-ghost use Rattle.dms_agent_lines.specs.AgentAnswer.{value_line};
-ghost use Rattle.dms_agent_state.specs.AgentText.{kept_line, kept_lines, text_of_agent};
+ghost use Rattle.dms_agent_state.specs.AgentText.{value_line, kept_line, kept_lines, text_of_agent};
 
 use crate::words::{put_name, put_value};
 use dms_agent::Agent;

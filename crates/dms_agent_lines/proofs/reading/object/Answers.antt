@@ -1,4 +1,4 @@
-use Rattle.dms_agent_lines.proofs.ValueLaws.{read_sent}
+use Rattle.dms_agent_state.proofs.ValueLaws.{read_sent}
 use Rattle.dms_agent_lines.proofs.reading.object.Goals as goal
 
 pub invariant_of-result : goal.invariant_of-result

@@ -17,7 +17,7 @@ use Rattle.dms_text_forms.proofs.FieldLaws.{same_rest}
 use Rattle.dms_text_forms.proofs.WordReading.{last_found}
 use Rattle.dms_text_values.specs.NameReading.{numbers_at, most_second, name_of}
 use Rattle.dms_text_values.specs.ValueReading.{positive_of, negative_of, integer_of, integer_at, address_at, address_of}
-use Rattle.dms_agent_lines.specs.ObjectFields.{SpellsName, SpellsPositive, SpellsNegative, SpellsInteger, SpellsAddressPart, SpellsAddress}
+use Rattle.dms_agent_state.specs.ObjectFields.{SpellsName, SpellsPositive, SpellsNegative, SpellsInteger, SpellsAddressPart, SpellsAddress}
 
 -- ---- names
 
