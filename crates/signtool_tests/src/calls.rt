@@ -293,6 +293,22 @@ fn a_conversation_goes_on_from_a_state(rt: HostRuntime) -> Result<(), Fail> {
     check_goes_on(&rt, rt.alloc(), "sign", cases::WITHOUT_POWER, talk)
 }
 
+/// The lines behind the state put back what managers set of objects that are published again.
+#[test]
+fn objects_go_on_from_a_state(rt: HostRuntime) -> Result<(), Fail> {
+    let (state, kept) = (cases::WITHOUT_POWER, cases::KEPT_VALUES);
+    let asked = format!(in rt.alloc(); "{state}{}{kept}save\n", cases::KEPT_OBJECTS)?;
+    let printed = format!(in rt.alloc(); "ok\nok\nok\nok\n{state}{kept}ok\n")?;
+    let found = called(
+        rt.alloc(),
+        "sign --restore",
+        asked.as_str(),
+        printed.as_str(),
+    );
+    assert_eq!(rt; found, Some((0, true)));
+    Ok(())
+}
+
 /// What waits goes out again when its tick comes, and is answered once.
 #[test]
 fn a_centre_goes_on_from_a_state(rt: HostRuntime) -> Result<(), Fail> {

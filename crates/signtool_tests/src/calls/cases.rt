@@ -56,6 +56,17 @@ bad line no call begins with this word
     ),
 ];
 
+/// Lines that publish a contact and a level that managers may set, and those that put their values back.
+pub const KEPT_OBJECTS: &str = "\
+object 1.3.6.1.2.1.1.4.0 OCTET STRING - octets 0 8
+object 1.3.6.1.4.1.1206.4.2.3.7.6.0 INTEGER 7 number 0 15
+";
+
+pub const KEPT_VALUES: &str = "\
+set 1.3.6.1.2.1.1.4.0 OCTET STRING 6e6f63
+set 1.3.6.1.4.1.1206.4.2.3.7.6.0 INTEGER 15
+";
+
 /// The bench sign's state after its power was lost.
 pub const WITHOUT_POWER: &str = "\
 state 1 sign
