@@ -2,9 +2,9 @@
 """Writes what is made of the tables of objects: of that of the sign's the objects of mibs/DMS-PROFILE-MIB, and of
 python/wisangub/objects/known.py, those beside a sign's, the objects of mibs/DMS-DEVICE-MIB and mibs/RFC1213-MIB.
 
-With --code it writes what the crates have of the first too: the types of objects and of columns, the rows, and the
-matches of their numbers. That table is crates/dms_mib/specs/Objects.antt, whose limits have their numbers in
-crates/dms_codes/specs/Limits.antt. What is made stands between two marks; all else in a file is kept.
+With --code it writes what the crates have of the first too: the types of objects and of columns, the rows, the matches
+of their numbers, and the settings that are numbers. That table is crates/dms_mib/specs/Objects.antt, whose limits have
+their numbers in crates/dms_codes/specs/Limits.antt. What is made stands between two marks; all else in a file is kept.
 With --check nothing is written, and the status is 1 where one of these files is not up to date, or where two names that
 can be set share a slot of those in which a SET marks names."""
 
@@ -16,6 +16,7 @@ from collections.abc import Callable
 from mib_table import device
 from mib_table.code import CODE
 from mib_table.pages import mib_objects
+from mib_table.settings import SETTINGS
 from mib_table.slots import shared
 from mib_table.table import TABLE, BadTable, Object, read
 
@@ -27,7 +28,10 @@ _PAGES: tuple[tuple[str, str, str, Callable[[list[Object]], str]], ...] = (
     (_DEVICE, _BEGIN, _END, lambda _: device.device_objects()),
     (_SYSTEM, _BEGIN, _END, lambda _: device.system_objects()),
 )
-_CODE = tuple((name, "// made by tools/objects.py --code", "// the end of what is made", make) for name, make in CODE)
+_CODE = tuple(
+    (name, f"{mark} made by tools/objects.py --code", f"{mark} the end of what is made", make)
+    for name, mark, make in (*((name, "//", make) for name, make in CODE), *SETTINGS)
+)
 
 
 def _filled(text: str, begin: str, end: str, made: str, name: str) -> str:

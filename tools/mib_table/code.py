@@ -30,7 +30,8 @@ def _syntax(row: Object) -> str:
     return f"Syntax::{row.syntax.kind}({values})" if values else f"Syntax::{row.syntax.kind}"
 
 
-def _enum(name: str, said: str, rows: Iterable[Object]) -> str:
+def enum(name: str, said: str, rows: Iterable[Object]) -> str:
+    """A type whose values are these objects."""
     variants = "\n".join(
         f"{_comment(f'{row.name}: {_first_sentence(row.said)}', 4)}\n    {row.variant}," for row in rows
     )
@@ -85,7 +86,7 @@ pub const OBJECTS: [(&str, Object); {len(rows)}] = [
 ];"""
 
 
-def _impl(name: str, methods: Iterable[str]) -> str:
+def impl(name: str, methods: Iterable[str]) -> str:
     return f"impl {name} {{\n" + "\n\n".join(methods) + "\n}"
 
 
@@ -117,7 +118,7 @@ def _scalar(rows: list[Object]) -> str:
         _arms("Scalar", of, _syntax),
     )
     said = "An object that has one instance, in the order of names."
-    return _enum("Scalar", said, of) + "\n\n" + _impl("Scalar", [numbers, access, syntax])
+    return enum("Scalar", said, of) + "\n\n" + impl("Scalar", [numbers, access, syntax])
 
 
 def _column(rows: list[Object]) -> str:
@@ -139,7 +140,7 @@ def _column(rows: list[Object]) -> str:
         True,
         _arms("Column", of, lambda row: f"Access::{row.access}"),
     )
-    return _enum("Column", "A column of dmsMessageTable.", of) + "\n\n" + _impl("Column", [numbers, access])
+    return enum("Column", "A column of dmsMessageTable.", of) + "\n\n" + impl("Column", [numbers, access])
 
 
 # ---- the matches of numbers

@@ -1,7 +1,8 @@
 -- The text of an agent's state is cut behind the text of its sign's: before that ends no line of it is `end`.
-use Rattle.std.proofs.Common.{◌≡◌, ℕ, ◌+◌, ◌-◌, ◌<◌, ◌≤◌, ◌^◌, ◌==◌, Bool, true, false, cond, List, [], ◌∷◌, ◌++◌, codes, decimal, length, take, drop, Option, Some, None, IfSome, refl, ap, subst, ◌∙◌, append_assoc, arith}
-use Rattle.std.specs.List.{list_any}
-use Rattle.std.proofs.lemmas.Bool.{or_parts}
+use Rattle.std.proofs.Common.{◌≡◌, ℕ, ◌+◌, ◌-◌, ◌<◌, ◌≤◌, ◌^◌, ◌==◌, Bool, true, false, cond, List, [], ◌∷◌, ◌++◌, codes, decimal, length, take, drop, flat_map, Option, Some, None, IfSome, refl, ap, subst, ◌∙◌, append_assoc, arith}
+use Rattle.std.specs.Prelude.{◌&&◌, nat_le}
+use Rattle.std.specs.List.{list_any, list_all, AllByRecursion}
+use Rattle.std.proofs.lemmas.Bool.{or_parts, and_parts, and_right, leb-true}
 use Rattle.std.proofs.lemmas.Fmt.{decimal_digit}
 use Rattle.std.proofs.lemmas.List.{take_at, length-append}
 use Rattle.hex.specs.Hex.{IsBytes}
@@ -18,8 +19,10 @@ use Rattle.dms_sign.specs.State.{SignState}
 use Rattle.dms_sign.specs.InRange.{IsSignInRange}
 use Rattle.dms_sign_restored.proofs.FieldsInRange.{fields_in_range}
 use Rattle.dms_sign_state.specs.StateText.{fields_of, text_of_state}
+use Rattle.dms_sign_state.specs.declared.number_settings.NumberSetting.{NumberSetting}
+use Rattle.dms_sign_state.specs.NumberSettings.{all_numbers, number_word, number_of, greatest_number}
 use Rattle.dms_sign_state.specs.Fields.{MessageModel, UsedRow, PutModel, FieldsModel, AreFields, IsMessage, AreUsedRows, AreDefaults, AreFallbacks, AreSettings, IsPut, AreReports, IsCode, IsAddress}
-use Rattle.dms_sign_state.specs.FieldsText.{number_line, part_line, octets_line, colour_words, layout_words, defaults_words, octets_word, message_words, row_begun, row_line, row_lines, fallbacks_text, settings_text, source_line, address_line, remaining_text, copied_line, put_text, reports_text, last_lines, text_of_fields}
+use Rattle.dms_sign_state.specs.FieldsText.{number_line, part_line, octets_line, colour_words, layout_words, defaults_words, octets_word, message_words, row_begun, row_line, row_lines, fallbacks_text, setting_line, settings_text, source_line, address_line, remaining_text, copied_line, put_text, reports_text, last_lines, text_of_fields}
 use Rattle.dms_sign_state.proofs.Forms.{IsFree}
 use Rattle.dms_sign_state.proofs.HexWords.{octets_free}
 use Rattle.dms_agent_state.specs.Parts.{ends_here, behind_end, sign_part}
@@ -186,15 +189,41 @@ fallbacks_pass f are =
     (code_passes (codes "end-duration") 5 f.end_duration refl (λ rest. refl) are.1.1.1.0))
     (code_passes (codes "communications-loss") 5 f.communications_loss refl (λ rest. refl) are.1.1.1.1)
 
+-- a word of four octets or more, of one line, begins no line `end`
+begins_other : (word : List ℕ) → Free word → 4 ≤ length word → BeginsOther word
+begins_other [] free long rest = absurd (omega (arith, long))
+begins_other (a ∷ []) free long rest = absurd (omega (arith, long))
+begins_other (a ∷ b ∷ []) free long rest = absurd (omega (arith, long))
+begins_other (a ∷ b ∷ c ∷ []) free long rest = absurd (omega (arith, long))
+begins_other (a ∷ b ∷ c ∷ d ∷ word) free long rest =
+    let behind_a = or_parts (a == 10) (list_any (λ octet. octet == 10) (b ∷ c ∷ d ∷ word)) free in
+    let behind_b = or_parts (b == 10) (list_any (λ octet. octet == 10) (c ∷ d ∷ word)) behind_a.1 in
+    let behind_c = or_parts (c == 10) (list_any (λ octet. octet == 10) (d ∷ word)) behind_b.1 in
+    let last = or_parts (d == 10) (list_any (λ octet. octet == 10) word) behind_c.1 in
+    and_right (a == 101) _ (and_right (b == 110) _ (and_right (c == 100) _ (ap (λ is. is && true) last.0)))
+
+abbrev is_broken : NumberSetting → Bool
+is_broken number = list_any (λ octet. octet == 10) (number_word number)
+
+abbrev is_long : NumberSetting → Bool
+is_long number = nat_le 4 (length (number_word number))
+
+numbers_pass : (s : SignSettings) (numbers : List NumberSetting) → list_any is_broken numbers ≡ false → list_all is_long numbers ≡ true
+    → AllByRecursion (λ number. number_of s number ≤ greatest_number) numbers → Passes (flat_map (setting_line s) numbers)
+numbers_pass s [] whole long are = record { passes = λ rest. refl }
+numbers_pass s (number ∷ numbers) whole long are =
+    let free = or_parts (is_broken number) (list_any is_broken numbers) whole in
+    let size = and_parts (is_long number) (list_all is_long numbers) long in
+    let begins = begins_other (number_word number) free.0 (leb-true 4 (length (number_word number)) size.0) in
+    two (number_passes (number_word number) (number_of s number) free.0 begins (omega (arith, are.0))) (numbers_pass s numbers free.1 size.1 are.1)
+
 settings_pass : (s : SignSettings) → AreSettings s → Passes (settings_text s)
 settings_pass s are =
     two
     (two
-    (two
     (defaults_pass (codes "defaults") s.defaults refl are.0 (other_by (codes "defaults") (default_words s.defaults) (λ rest. refl)))
     (fallbacks_pass s.fallbacks are.1.0))
-    (number_passes (codes "short-power-loss-time") s.short_power_loss_time refl (λ rest. refl) (omega (arith, are.1.1.0))))
-    (number_passes (codes "time-comm-loss") s.time_comm_loss refl (λ rest. refl) (omega (arith, are.1.1.1)))
+    (numbers_pass s all_numbers refl refl are.1.1)
 
 -- ---- what is shown
 

@@ -20,6 +20,7 @@ use Rattle.dms_sign.specs.State.{SignState}
 use Rattle.dms_sign.specs.InRange as range
 use Rattle.dms_sign.specs.InRange.{IsRowInRange, AreFallbacksInRange, AreSettingsInRange, IsTimeInRange, IsShownInRange, AreReportsInRange, IsSignInRange}
 use Rattle.dms_sign.proofs.InRangeValues.{id_below}
+use Rattle.dms_sign_state.specs.NumberSettings.{all_numbers, number_of, greatest_number}
 use Rattle.dms_sign_state.specs.Fields.{UsedRow, AreOctets, IsCode, IsMessage, IsUsedRow, AreUsedRows, AreDefaults, AreFallbacks, AreSettings, IsPut, AreReports, AreFields}
 use Rattle.dms_sign_state.specs.StateText.{message_of, used_row, used_rows, put_fields, fields_of}
 
@@ -103,9 +104,12 @@ fallbacks_are f are = (
   ),
 )
 
+numbers_are : (s : SignSettings) → AreSettingsInRange s → AllByRecursion (λ number. number_of s number ≤ greatest_number) all_numbers
+numbers_are s are = grind arith
+
 settings_are : (settings : SignSettings) → AreSettingsInRange settings → AreSettings settings
 settings_are s are =
-    (defaults_are s.defaults are.defaults, (fallbacks_are s.fallbacks are.fallbacks, (are.short_power_loss_time, are.time_comm_loss)))
+    (defaults_are s.defaults are.defaults, (fallbacks_are s.fallbacks are.fallbacks, numbers_are s are))
 
 reports_are : (reports : Reports) → AreReportsInRange reports → AreReports reports
 reports_are r are = (

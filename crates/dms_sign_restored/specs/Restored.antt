@@ -34,6 +34,7 @@ use Rattle.dms_sign_restored.specs.declared.restoring.StateRefusal.{StateRefusal
 use Rattle.dms_sign_restored.specs.declared.restoring.StateRefusal.TheVariants as refusals
 use Rattle.dms_sign_restored.specs.declared.restoring.RestoreFault.{RestoreFault}
 use Rattle.dms_sign_restored.specs.declared.restoring.RestoreFault.TheVariants as faults
+use Rattle.dms_sign_state.specs.NumberSettings.{settings_lines}
 use Rattle.dms_sign_state.specs.Fields.{UsedRow, PutModel, FieldsModel, AreFields}
 use Rattle.dms_sign_state.specs.FieldsText.{text_of_fields}
 use Rattle.dms_sign_state.specs.FieldFaults.{IsErrorOf}
@@ -84,9 +85,13 @@ parts_of order f = record {
 abbrev pub rows_end : FieldsModel → ℕ
 rows_end f = 1 + length f.changeable + length f.volatile
 
--- the first line of what is shown: behind the defaults, five codes, two times and the silence
+-- the line of the silence, behind those of the settings
+abbrev pub silence_line : FieldsModel → ℕ
+silence_line f = rows_end f + settings_lines + 1
+
+-- the first line of what is shown
 abbrev pub shown_line : FieldsModel → ℕ
-shown_line f = rows_end f + 10
+shown_line f = silence_line f + 1
 
 -- how many lines a message has that is put
 abbrev pub put_lines : PutModel → ℕ
@@ -121,7 +126,7 @@ line_of_report report_faults.Position = 3
 -- the line of a part
 abbrev pub line_of_part : FieldsModel → StateFault → ℕ
 line_of_part f part_faults.Defaults = rows_end f + 1
-line_of_part f part_faults.Silence = rows_end f + 9
+line_of_part f part_faults.Silence = silence_line f
 line_of_part f (part_faults.Shown fault) = shown_line f + line_of_message f.shown fault
 line_of_part f (part_faults.Kept fault) = kept_line f + line_of_message f.shown_at_power_loss fault
 line_of_part f (part_faults.Reports fault) = reports_line f + line_of_report fault

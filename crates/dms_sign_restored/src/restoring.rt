@@ -16,7 +16,9 @@ ghost use Rattle.dms_sign_restored.specs.RestoredTexts.{cause_text, misfit_text,
 use dms_codes::{MessageId, Order, RowId, memory};
 use dms_sign::{Config, ConfigFault, MessageFault, Sign, SignParts};
 use dms_sign_access::ReportFault;
-use dms_sign_state::{PutFields, RowFields, StateError, StateFields, Stored, state_fields};
+use dms_sign_state::{
+    PutFields, RowFields, StateError, StateFields, Stored, settings_lines, state_fields,
+};
 use dms_table::{RowFault, SavedRow, SavedShown, Shown, ShownFault};
 use std::alloc::Global;
 use std::error::Error;
@@ -362,12 +364,13 @@ fn line_of_part(fields: &StateFields, fault: &dms_sign::StateFault) -> usize
     ensures { result ≡ line_of_part fields.now fault.now }
 {
     let rows = rows_end(fields);
-    let shown = rows + 10;
+    let silence = rows + settings_lines() + 1;
+    let shown = silence + 1;
     let kept = shown + put_lines(&fields.shown);
     let reports = kept + put_lines(&fields.shown_at_power_loss);
     match fault {
         dms_sign::StateFault::Defaults => rows + 1,
-        dms_sign::StateFault::Silence => rows + 9,
+        dms_sign::StateFault::Silence => silence,
         dms_sign::StateFault::Shown(fault) => shown + line_of_message(&fields.shown, fault),
         dms_sign::StateFault::Kept(fault) => {
             kept + line_of_message(&fields.shown_at_power_loss, fault)

@@ -1,5 +1,5 @@
 -- Fields one after the other: what is read of a text, and where it goes wrong.
-use Rattle.std.proofs.Common.{◌≡◌, ℕ, ◌⊎◌, Bool, true, false, cond, List, [], ◌∷◌, ◌++◌, length, Option, Some, None, Result, Ok, Err, refl, sym, ap, subst, ◌∙◌, append_assoc, inl, inr}
+use Rattle.std.proofs.Common.{◌≡◌, ℕ, List, [], ◌++◌, length, Result, Ok, Err, refl, sym, ap, subst, ◌∙◌, append_assoc, inl, inr}
 use Rattle.dms_sign_state.specs.declared.field.StateField.{StateField}
 use Rattle.dms_sign_state.specs.declared.field.Lack.{Lack}
 use Rattle.dms_sign_state.specs.FieldFaults.{Begins, Stands}

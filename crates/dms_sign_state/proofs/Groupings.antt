@@ -25,9 +25,6 @@ of_row name s number status rest = simp append_assoc
 pub of_address : (p n a b c d : List ℕ) → (a ++ p) ++ ((b ++ p) ++ ((c ++ p) ++ (d ++ n))) ≡ (a ++ ((p ++ b) ++ ((p ++ c) ++ ((p ++ d) ++ [])))) ++ n
 of_address p n a b c d = simp (append_assoc, append-nil)
 
-pub of_four : (a b c d : List ℕ) → a ++ (b ++ (c ++ d)) ≡ a ++ b ++ c ++ d
-of_four a b c d = simp append_assoc
-
 pub of_five : (a b c d e : List ℕ) → a ++ (b ++ (c ++ (d ++ e))) ≡ a ++ b ++ c ++ d ++ e
 of_five a b c d e = simp append_assoc
 

@@ -14,9 +14,13 @@ pub mod WordForms
 pub mod LineForms
 -- fields one after the other
 pub mod FieldForms
+-- the settings that are numbers
+pub mod NumberForms
 -- what was set, what is shown and what is reported
 pub mod SettingForms
 -- the rows of a type of memory
 pub mod RowForms
 -- the whole text
 pub mod StateForms
+-- how many lines the settings have
+mod LineCounts

@@ -1,5 +1,5 @@
 -- The lines of fields.
-use Rattle.std.proofs.Common.{◌≡◌, ℕ, zero, suc, ◌+◌, ◌<◌, ◌≤◌, ◌^◌, ◌==◌, Bool, true, false, List, [], ◌∷◌, ◌++◌, length, get_or, slice_index, decimal, codes, flat_map, refl, sym, ap, ◌∙◌, append_assoc, append-nil, arith, inl, inr}
+use Rattle.std.proofs.Common.{◌≡◌, ℕ, zero, suc, ◌<◌, ◌≤◌, ◌^◌, false, List, [], ◌∷◌, ◌++◌, length, get_or, decimal, codes, refl, sym, ap, ◌∙◌, append_assoc, arith, inl, inr}
 use Rattle.std.proofs.lemmas.Bool.{cases_eq}
 use Rattle.hex.specs.Hex.{IsBytes}
 use Rattle.dms_wire_ber.specs.NameText.{dotted}
@@ -13,11 +13,11 @@ use Rattle.dms_sign_state.specs.declared.field.Put.{Put}
 use Rattle.dms_sign_state.specs.declared.field.Lack.{Lack}
 use Rattle.dms_sign_state.specs.declared.field.Stored.{Stored}
 use Rattle.dms_sign_state.specs.declared.field.Stored.TheVariants.{Changeable, Volatile}
-use Rattle.dms_sign_state.specs.Fields.{MessageModel, UsedRow, AreDefaults, IsCode, IsMessage, IsAddress, IsUsedRow, AreOctets}
-use Rattle.dms_sign_state.specs.FieldsText.{number_line, part_line, octets_line, defaults_words, message_words, message_line, source_line, address_line, copied_line, row_line}
+use Rattle.dms_sign_state.specs.Fields.{MessageModel, UsedRow, AreDefaults, IsCode, IsMessage, IsAddress, IsUsedRow}
+use Rattle.dms_sign_state.specs.FieldsText.{defaults_words, message_words, message_line, address_line, copied_line, row_line}
 use Rattle.dms_sign_state.specs.FieldFaults.{put_name, stored_name, most_rows}
-use Rattle.dms_sign_state.specs.WordReading.{Reader, pair, made, after}
-use Rattle.dms_sign_state.specs.FieldReading.{number_line_at, code_line_at, colours_at, layouts_at, times_at, defaults_of, defaults_at, defaults_line_at, message_of, message_at, message_line_at, used_status, status_at, row_of, row_at, address_of, address_at}
+use Rattle.dms_sign_state.specs.WordReading.{Reader}
+use Rattle.dms_sign_state.specs.FieldReading.{number_line_at, code_line_at, defaults_of, defaults_at, defaults_line_at, message_of, message_at, message_line_at, used_status, status_at, row_of, row_at, address_of, address_at}
 use Rattle.dms_sign_state.proofs.Forms.{IsRead, pair_read, made_read, after_read}
 use Rattle.dms_sign_state.proofs.Groupings.{of_defaults, of_message, of_row, of_address}
 use Rattle.dms_sign_state.proofs.WordForms.{IsWithin, number_read, below_read, small_read, octets_read, code_read}

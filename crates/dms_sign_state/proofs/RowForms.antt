@@ -1,5 +1,5 @@
 -- The rows of a type of memory, one after the other.
-use Rattle.std.proofs.Common.{◌≡◌, ℕ, zero, suc, ◌+◌, ◌-◌, ◌<◌, ◌≤◌, ◌&&◌, Bool, true, false, cond, List, [], ◌∷◌, ◌++◌, length, Result, Ok, Err, codes, refl, sym, ap, subst, ◌∙◌, append_assoc, append-nil, arith, inl, inr}
+use Rattle.std.proofs.Common.{◌≡◌, ℕ, zero, suc, ◌+◌, ◌-◌, ◌<◌, ◌≤◌, Bool, true, false, cond, List, [], ◌∷◌, ◌++◌, length, Result, Ok, Err, codes, refl, sym, ap, subst, ◌∙◌, append_assoc, append-nil, arith, inl, inr}
 use Rattle.std.specs.Prelude.{nat_le}
 use Rattle.std.proofs.lemmas.Bool.{cases_Bool, and_parts, and_from, and_right, leb-true, le-leb}
 use Rattle.dms_codes.specs.declared.status.Status.TheVariants.{Modifying}
@@ -13,7 +13,7 @@ use Rattle.dms_sign_state.specs.Fields.{UsedRow, IsUsedRow, AreUsedRows}
 use Rattle.dms_sign_state.specs.FieldsText.{row_line, row_lines}
 use Rattle.dms_sign_state.specs.FieldFaults.{stored_name, most_rows}
 use Rattle.dms_sign_state.specs.WordReading.{◌>>=◌, Reader, Fails, starts_with}
-use Rattle.dms_sign_state.specs.FieldReading.{row_at, row_field, has_row, rows_at}
+use Rattle.dms_sign_state.specs.FieldReading.{row_field, has_row, rows_at}
 use Rattle.dms_sign_state.proofs.Forms.{bind_ok, bind_err, goes_on, ok_is}
 use Rattle.dms_sign_state.proofs.LineForms.{row_read}
 use Rattle.dms_sign_state.proofs.FieldForms.{Stops, Reads, Any, field_reads}

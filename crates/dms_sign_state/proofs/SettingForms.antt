@@ -1,7 +1,6 @@
 -- What was set, what is shown and what is reported, as fields.
-use Rattle.std.proofs.Common.{◌≡◌, ℕ, zero, suc, ◌<◌, ◌≤◌, ◌^◌, ◌==◌, Bool, true, false, cond, List, [], ◌∷◌, ◌++◌, length, Option, Some, None, Result, Ok, Err, IfSome, codes, decimal, refl, sym, ap, subst, ◌∙◌, append_assoc, arith, inl, inr}
-use Rattle.std.proofs.lemmas.Bool.{cases_Bool, cases_eq}
-use Rattle.hex.specs.Hex.{IsBytes}
+use Rattle.std.proofs.Common.{◌≡◌, ℕ, zero, suc, ◌<◌, ◌≤◌, ◌^◌, ◌==◌, Bool, true, false, cond, List, [], ◌∷◌, ◌++◌, Option, Some, None, Result, Ok, Err, IfSome, codes, decimal, refl, sym, ap, subst, ◌∙◌, append_assoc, arith, inl, inr}
+use Rattle.std.proofs.lemmas.Bool.{cases_eq}
 use Rattle.dms_face.specs.declared.defaults.Defaults.{Defaults}
 use Rattle.dms_sign_access.specs.declared.settings.Fallbacks.{Fallbacks}
 use Rattle.dms_sign_access.specs.declared.settings.SignSettings.{SignSettings}
@@ -11,16 +10,19 @@ use Rattle.dms_sign_state.specs.declared.field.Put.TheVariants.{Shown, Kept}
 use Rattle.dms_sign_state.specs.declared.field.StateField.{StateField}
 use Rattle.dms_sign_state.specs.declared.field.StateField.TheVariants as fields
 use Rattle.dms_sign_state.specs.declared.field.Lack.{Lack}
-use Rattle.dms_sign_state.specs.Fields.{MessageModel, PutModel, AreDefaults, AreFallbacks, AreSettings, AreReports, IsCode, IsMessage, IsAddress, IsPut}
-use Rattle.dms_sign_state.specs.FieldsText.{message_line, address_line, number_line, part_line, octets_line, defaults_words, fallbacks_text, settings_text, source_line, copied_line, remaining_text, put_text, reports_text, powered_number}
-use Rattle.dms_sign_state.specs.FieldFaults.{Begins, Stands, NumberStands, CodeStands, put_name}
-use Rattle.dms_sign_state.specs.WordReading.{◌>>=◌, Reader, pair, made, starts_with}
-use Rattle.dms_sign_state.specs.FieldReading.{field, number_field, code_field, defaults_field, message_field, address_field, number_line_at, code_line_at, defaults_line_at, fallbacks_of, fallback_at, fallbacks_at, settings_of, settings_at, number_at, remaining_at, put_of, put_at, reports_of, verdicts_at, reports_at, powered_at}
+use Rattle.dms_sign_state.specs.declared.number_settings.NumberSetting.{NumberSetting}
+use Rattle.dms_sign_state.specs.NumberSettings.{all_numbers, number_word, greatest_number}
+use Rattle.dms_sign_state.specs.Fields.{MessageModel, PutModel, AreDefaults, AreFallbacks, AreSettings, AreReports, IsCode, IsMessage, IsPut}
+use Rattle.dms_sign_state.specs.FieldsText.{message_line, address_line, number_line, part_line, octets_line, defaults_words, fallbacks_text, numbers_text, settings_text, source_line, copied_line, remaining_text, put_text, reports_text, powered_number}
+use Rattle.dms_sign_state.specs.FieldFaults.{Stands, NumberStands, CodeStands, put_name}
+use Rattle.dms_sign_state.specs.WordReading.{Reader, pair, made, starts_with}
+use Rattle.dms_sign_state.specs.FieldReading.{number_field, code_field, defaults_field, message_field, address_field, number_line_at, code_line_at, fallbacks_of, fallbacks_at, setting_at, settings_at, number_at, remaining_at, put_of, put_at, reports_of, verdicts_at, reports_at, powered_at}
 use Rattle.dms_sign_state.proofs.Forms.{IsRead, bind_ok, bind_err, goes_on, ok_is, starts_only}
 use Rattle.dms_text_values.specs.ValueText.{octets_text}
-use Rattle.dms_sign_state.proofs.Groupings.{of_number, of_part, of_part_begun, of_four, of_five, of_six, of_reports}
+use Rattle.dms_sign_state.proofs.Groupings.{of_number, of_part, of_part_begun, of_five, of_six, of_reports}
 use Rattle.dms_sign_state.proofs.LineForms.{respelled, number_line_read, code_line_read, set_defaults_read, copied_read, message_line_read, address_read, bytes_cons}
 use Rattle.dms_sign_state.proofs.FieldForms.{Stops, Reads, Any, field_reads, pair_reads, made_reads}
+use Rattle.dms_sign_state.proofs.NumberForms.{Parts, values_text, values_of, values_reads, settings_of, settings_are, read_alike}
 
 abbrev failed : {A : Type 0} → Lack → Result A Lack
 failed lack = Err lack
@@ -84,17 +86,21 @@ fallbacks_reads =
     made_reads _ _ _ _ fallbacks_text AreFallbacks fallbacks_of parts_of_fallbacks (then_reads short (then_reads long (then_reads loss (then_reads end silence))))
     (λ x good. (good, of_five (octets_line (codes "short-power-recovery") x.0) (octets_line (codes "long-power-recovery") x.1.0) (octets_line (codes "power-loss") x.1.1.0) (octets_line (codes "end-duration") x.1.1.1.0) (octets_line (codes "communications-loss") x.1.1.1.1))) (λ f good. (good, sym (of_five (octets_line (codes "short-power-recovery") f.short_power_recovery) (octets_line (codes "long-power-recovery") f.long_power_recovery) (octets_line (codes "power-loss") f.power_loss) (octets_line (codes "end-duration") f.end_duration) (octets_line (codes "communications-loss") f.communications_loss)), refl))
 
-abbrev parts_of_settings : SignSettings → Defaults × (Fallbacks × (ℕ × ℕ))
-parts_of_settings s = (s.defaults, (s.fallbacks, (s.short_power_loss_time, s.time_comm_loss)))
+number_setting_reads : (number : NumberSetting) → Reads (number_line (number_word number)) (λ n. n ≤ greatest_number) Any (setting_at number)
+number_setting_reads number = number_reads (fields.Number number) (number_word number) greatest_number (omega arith) (λ t s. s) (λ t s. s)
+
+abbrev parts_of_settings : SignSettings → Parts
+parts_of_settings s = (s.defaults, (s.fallbacks, values_of all_numbers s))
 
 pub settings_reads : Reads settings_text AreSettings Any settings_at
-unfolding settings_at defaults_field
+unfolding defaults_field
 settings_reads =
     let defaults = field_reads fields.Defaults set_defaults_read blank_defaults (λ t s. s) (λ t s. s) in
-    let loss = number_reads fields.ShortPowerLossTime (codes "short-power-loss-time") 65535 (omega arith) (λ t s. s) (λ t s. s) in
-    let silence = number_reads fields.TimeCommLoss (codes "time-comm-loss") 65535 (omega arith) (λ t s. s) (λ t s. s) in
-    made_reads _ _ _ _ settings_text AreSettings settings_of parts_of_settings (then_reads defaults (then_reads fallbacks_reads (then_reads loss silence)))
-    (λ x good. (good, of_four (codes "defaults" ++ defaults_words x.0) (fallbacks_text x.1.0) (number_line (codes "short-power-loss-time") x.1.1.0) (number_line (codes "time-comm-loss") x.1.1.1))) (λ s good. (good, sym (of_four (codes "defaults" ++ defaults_words s.defaults) (fallbacks_text s.fallbacks) (number_line (codes "short-power-loss-time") s.short_power_loss_time) (number_line (codes "time-comm-loss") s.time_comm_loss)), refl))
+    let numbers = values_reads number_setting_reads all_numbers in
+    read_alike settings_are
+    (made_reads _ _ _ _ settings_text AreSettings settings_of parts_of_settings (then_reads defaults (then_reads fallbacks_reads numbers))
+    (λ x good. (good, sym (append_assoc (codes "defaults" ++ defaults_words x.0) (fallbacks_text x.1.0) (values_text all_numbers x.1.1))))
+    (λ s good. (good, append_assoc (codes "defaults" ++ defaults_words s.defaults) (fallbacks_text s.fallbacks) (numbers_text s), refl)))
 
 -- ---- what is reported
 

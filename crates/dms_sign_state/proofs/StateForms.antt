@@ -1,5 +1,5 @@
 -- The text of a state's fields, and where it goes wrong.
-use Rattle.std.proofs.Common.{◌≡◌, ℕ, zero, suc, ◌+◌, ◌-◌, ◌<◌, ◌≤◌, ◌^◌, ◌==◌, Bool, true, false, cond, List, [], ◌∷◌, ◌++◌, length, take, Result, Ok, Err, codes, decimal, count_by, refl, sym, ap, subst, ◌∙◌, append_assoc, append-nil, arith, inl, inr}
+use Rattle.std.proofs.Common.{◌≡◌, ℕ, ◌+◌, ◌-◌, ◌≤◌, ◌==◌, Bool, true, cond, List, [], ◌∷◌, ◌++◌, length, take, Result, Ok, Err, codes, decimal, count_by, refl, sym, ap, subst, ◌∙◌, append_assoc, append-nil, arith, inl, inr}
 use Rattle.std.specs.Str.{byte}
 use Rattle.std.proofs.lemmas.Bool.{eqb-true, ne_eqb}
 use Rattle.std.proofs.lemmas.List.{take_at, length-append}
@@ -13,9 +13,9 @@ use Rattle.dms_sign_state.specs.declared.field.StateFault.{StateFault}
 use Rattle.dms_sign_state.specs.declared.field.Lack.{Lack}
 use Rattle.dms_sign_state.specs.Fields.{UsedRow, PutModel, FieldsModel, AreFields, AreUsedRows, AreSettings, AreReports, IsPut}
 use Rattle.dms_sign_state.specs.FieldsText.{number_line, row_lines, settings_text, put_text, reports_text, last_lines, powered_number, text_of_fields}
-use Rattle.dms_sign_state.specs.FieldFaults.{most_rows, Stands, IsStateText, IsFaultOf}
-use Rattle.dms_sign_state.specs.WordReading.{◌>>=◌, Reader, named_at}
-use Rattle.dms_sign_state.specs.FieldReading.{field, number_at, line_at, form_at, end_at, end_field, settings_at, set_at, seen_at, fields_of_parts, fields_at}
+use Rattle.dms_sign_state.specs.FieldFaults.{most_rows, Stands, IsFaultOf}
+use Rattle.dms_sign_state.specs.WordReading.{named_at}
+use Rattle.dms_sign_state.specs.FieldReading.{number_at, line_at, form_at, end_at, end_field, set_at, seen_at, fields_of_parts, fields_at}
 use Rattle.dms_sign_state.proofs.Forms.{IsRead, bind_ok, bind_err, goes_on, ok_is, err_is, named_found, named_only, named_lacks}
 use Rattle.dms_sign_state.proofs.FieldForms.{Stops, Reads, Any, field_reads, pair_reads, made_reads}
 use Rattle.dms_sign_state.proofs.Groupings.{of_state}

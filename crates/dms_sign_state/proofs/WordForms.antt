@@ -1,12 +1,11 @@
 -- The words of lines: numbers, octets, codes.
-use Rattle.std.proofs.Common.{◌≡◌, ℕ, zero, suc, ◌+◌, ◌*◌, ◌<◌, ◌≤◌, ◌^◌, ◌==◌, ◌||◌, Bool, true, false, cond, List, [], ◌∷◌, ◌++◌, length, get_or, Option, Some, None, decimal, codes, refl, sym, ap, ◌∙◌, arith, inl, inr}
-use Rattle.std.specs.List.{list_any}
+use Rattle.std.proofs.Common.{◌≡◌, ℕ, ◌<◌, ◌≤◌, ◌^◌, ◌==◌, true, false, cond, List, [], ◌∷◌, ◌++◌, length, get_or, Option, Some, None, decimal, refl, sym, ap, ◌∙◌, arith, inl, inr}
 use Rattle.std.specs.Str.Parse.{AllDigits, digits_value}
 use Rattle.std.proofs.lemmas.Bool.{or_from, ne_eqb, cases_lt}
 use Rattle.std.proofs.lemmas.Fmt.{decimal_is_IsNumeral, decimal_digit, first_decimal, decimal-digits_value, length-decimal-le}
 use Rattle.std.proofs.lemmas.Str.Parse.{numerals_by_value, tells_digits, digit_from_value}
 use Rattle.dms_text.specs.Numbers.{SpellsNumber}
-use Rattle.dms_text.specs.Reading.{number_of, within}
+use Rattle.dms_text.specs.Reading.{number_of}
 use Rattle.dms_text.proofs.NumberLaws.{number_found, number_only, within_found, within_only}
 use Rattle.dms_text_values.specs.ValueText.{octets_text}
 use Rattle.dms_sign_state.specs.Fields.{AreOctets, IsCode}
@@ -66,6 +65,9 @@ digits_free : (end : ℕ) (digits : List ℕ) → end < 48 → AllDigits 10 digi
 digits_free end [] low all = refl
 digits_free end (digit ∷ digits) low all =
     or_from _ _ (ne_eqb digit end (λ e. omega (arith, digit_from_value digit all.0, e))) (digits_free end digits low all.1)
+
+pub decimal_free : (end n : ℕ) → end < 48 → n < 2 ^ 64 → IsFree end (decimal n)
+decimal_free end n low small = digits_free end (decimal n) low (decimal_is_IsNumeral n small).0.1
 
 pub number_read : (low high end : ℕ) → high < 10 ^ 10 → end < 48 → IsRead (λ n. decimal n ++ end ∷ []) (IsWithin low high) (number low high end)
 number_read low high end small low_end =

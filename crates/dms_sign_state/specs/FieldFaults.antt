@@ -1,5 +1,5 @@
 -- What is wrong with a text that is no state's (this profile).
-use Rattle.std.specs.Prelude.{◌≡◌, ℕ, ◌+◌, ◌≤◌, ◌==◌, List, [], ◌++◌, count_by, codes, Result, Ok, Err}
+use Rattle.std.specs.Prelude.{◌≡◌, ℕ, ◌+◌, ◌≤◌, ◌==◌, List, ◌++◌, count_by, codes, Result, Ok, Err}
 use Rattle.std.specs.Str.{byte}
 use Rattle.dms_codes.specs.Limits.{most_changeable_rows, most_volatile_rows}
 use Rattle.dms_sign_state.specs.declared.field.Put.{Put}
@@ -11,6 +11,7 @@ use Rattle.dms_sign_state.specs.declared.field.StateField.TheVariants as fields
 use Rattle.dms_sign_state.specs.declared.field.StateFault.{StateFault}
 use Rattle.dms_sign_state.specs.declared.field.StateError.{StateError}
 use Rattle.dms_sign_state.specs.declared.field.StateError.TheVariants as errors
+use Rattle.dms_sign_state.specs.NumberSettings.{number_word, greatest_number}
 use Rattle.dms_sign_state.specs.Fields.{FieldsModel, AreFields, AreDefaults, IsCode, IsMessage, IsAddress, IsUsedRow}
 use Rattle.dms_sign_state.specs.FieldsText.{number_line, part_line, octets_line, defaults_words, message_line}
 use Rattle.dms_sign_state.specs.FieldsText.{source_line, address_line, copied_line, row_line, text_of_fields}
@@ -47,8 +48,7 @@ Stands fields.LongPowerRecovery text = CodeStands (codes "long-power-recovery") 
 Stands fields.PowerLoss text = CodeStands (codes "power-loss") 5 text
 Stands fields.EndDuration text = CodeStands (codes "end-duration") 5 text
 Stands fields.CommunicationsLoss text = CodeStands (codes "communications-loss") 5 text
-Stands fields.ShortPowerLossTime text = NumberStands (codes "short-power-loss-time") 65535 text
-Stands fields.TimeCommLoss text = NumberStands (codes "time-comm-loss") 65535 text
+Stands (fields.Number number) text = NumberStands (number_word number) greatest_number text
 Stands fields.Silent text = NumberStands (codes "silent") 4294967295 text
 Stands (fields.Message put) text = Begins (message_line (put_name put)) IsMessage text
 Stands (fields.Source put) text = Begins (source_line (put_name put)) (IsCode 5) text

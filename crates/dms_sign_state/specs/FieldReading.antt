@@ -1,6 +1,6 @@
 -- Reading the fields of a state from a text's front. Inner words of the readers (this profile).
 use Rattle.std.specs.Prelude.{ℕ, zero, suc, ◌+◌, ◌==◌, ◌&&◌, Bool, if◌then◌else◌, List, [], ◌∷◌, ◌++◌, length, nat_le}
-use Rattle.std.specs.Prelude.{Option, Some, None, Result, Ok, Err, codes}
+use Rattle.std.specs.Prelude.{Option, Some, None, Ok, Err, codes}
 use Rattle.std.specs.Str.{byte}
 use Rattle.dms_codes.specs.Limits.{longest_text, longest_owner}
 use Rattle.dms_codes.specs.declared.status.Status.{Status}
@@ -9,6 +9,7 @@ use Rattle.dms_face.specs.declared.defaults.Defaults.{Defaults}
 use Rattle.dms_sign_access.specs.declared.settings.Fallbacks.{Fallbacks}
 use Rattle.dms_sign_access.specs.declared.settings.SignSettings.{SignSettings}
 use Rattle.dms_sign_access.specs.declared.reports.Reports.{Reports}
+use Rattle.dms_sign_access.specs.Settings.{first_settings}
 use Rattle.dms_sign_state.specs.declared.field.Put.{Put}
 use Rattle.dms_sign_state.specs.declared.field.Put.TheVariants.{Shown, Kept}
 use Rattle.dms_sign_state.specs.declared.field.Stored.{Stored}
@@ -16,6 +17,8 @@ use Rattle.dms_sign_state.specs.declared.field.Stored.TheVariants.{Changeable, V
 use Rattle.dms_sign_state.specs.declared.field.StateField.{StateField}
 use Rattle.dms_sign_state.specs.declared.field.StateField.TheVariants as fields
 use Rattle.dms_sign_state.specs.declared.field.Lack.{Lack}
+use Rattle.dms_sign_state.specs.declared.number_settings.NumberSetting.{NumberSetting}
+use Rattle.dms_sign_state.specs.NumberSettings.{all_numbers, number_word, with_number, greatest_number}
 use Rattle.dms_sign_state.specs.Fields.{MessageModel, UsedRow, PutModel, FieldsModel}
 use Rattle.dms_sign_state.specs.FieldFaults.{put_name, stored_name, most_rows}
 use Rattle.dms_sign_state.specs.WordReading.{◌>>=◌, Reader, pair, made, starts_with, named_at, after, number, small}
@@ -143,18 +146,28 @@ fallbacks_at =
     (pair (fallback_at fields.EndDuration (codes "end-duration"))
     (fallback_at fields.CommunicationsLoss (codes "communications-loss"))))))
 
-abbrev pub settings_of : Defaults × (Fallbacks × (ℕ × ℕ)) → SignSettings
-settings_of x =
-    record { fallbacks = x.1.0; short_power_loss_time = x.1.1.0; time_comm_loss = x.1.1.1; defaults = x.0 }
-
 abbrev pub number_at : StateField → List ℕ → ℕ → Reader ℕ
 number_at wanted name high = number_field wanted name (codes " ") high
 
+-- a setting that is a number
+abbrev pub setting_at : NumberSetting → Reader ℕ
+setting_at number = number_at (fields.Number number) (number_word number) greatest_number
+
+-- these, one after the other, put among the settings
+unfoldable pub numbers_at : List NumberSetting → SignSettings → Reader SignSettings
+numbers_at [] settings text = Ok (settings, text)
+numbers_at (number ∷ numbers) settings text =
+    setting_at number text >>= λ x. numbers_at numbers (with_number number x.0 settings) x.1
+
+-- settings of which the numbers are not known
+abbrev pub begun_settings : Defaults → Fallbacks → SignSettings
+begun_settings defaults fallbacks = record (first_settings defaults) { fallbacks = fallbacks }
+
 unfoldable pub settings_at : Reader SignSettings
-settings_at =
-    made settings_of (pair (defaults_field fields.Defaults (codes "defaults") (codes " ")) (pair fallbacks_at
-    (pair (number_at fields.ShortPowerLossTime (codes "short-power-loss-time") 65535)
-    (number_at fields.TimeCommLoss (codes "time-comm-loss") 65535))))
+settings_at text =
+    defaults_field fields.Defaults (codes "defaults") (codes " ") text >>= λ defaults.
+    fallbacks_at defaults.1 >>= λ fallbacks.
+    numbers_at all_numbers (begun_settings defaults.0 fallbacks.0) fallbacks.1
 
 -- ---- what is shown
 

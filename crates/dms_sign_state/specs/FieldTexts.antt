@@ -5,6 +5,7 @@ use Rattle.dms_sign_state.specs.declared.field.StateField.TheVariants as fields
 use Rattle.dms_sign_state.specs.declared.field.StateFault.{StateFault}
 use Rattle.dms_sign_state.specs.declared.field.StateError.{StateError}
 use Rattle.dms_sign_state.specs.declared.field.StateError.TheVariants as errors
+use Rattle.dms_sign_state.specs.NumberSettings.{number_word}
 use Rattle.dms_sign_state.specs.FieldFaults.{put_name, stored_name, most_rows}
 
 abbrev pub field_text : StateField → List ℕ
@@ -18,8 +19,7 @@ field_text fields.LongPowerRecovery = codes "long-power-recovery and five octets
 field_text fields.PowerLoss = codes "power-loss and five octets"
 field_text fields.EndDuration = codes "end-duration and five octets"
 field_text fields.CommunicationsLoss = codes "communications-loss and five octets"
-field_text fields.ShortPowerLossTime = codes "short-power-loss-time and a number to 65535"
-field_text fields.TimeCommLoss = codes "time-comm-loss and a number to 65535"
+field_text (fields.Number number) = number_word number ++ codes " and a number to 65535"
 field_text fields.Silent = codes "silent and a number to 4294967295"
 field_text (fields.Message put) = put_name put ++ codes " and a message"
 field_text (fields.Source put) = put_name put ++ codes "-source and five octets"

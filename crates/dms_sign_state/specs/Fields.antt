@@ -1,5 +1,6 @@
 -- The fields of a state's text: what of a state can be written and read back (this profile).
 use Rattle.std.specs.Prelude.{◌≡◌, ℕ, ◌+◌, ◌≤◌, Bool, false, List, [], ◌∷◌, length, Option, IfSome}
+use Rattle.std.specs.List.{AllByRecursion}
 use Rattle.hex.specs.Hex.{IsBytes}
 use Rattle.dms_codes.specs.Limits.{longest_text, longest_owner, most_changeable_rows, most_volatile_rows}
 use Rattle.dms_codes.specs.declared.status.Status.{Status}
@@ -8,6 +9,7 @@ use Rattle.dms_face.specs.declared.defaults.Defaults.{Defaults}
 use Rattle.dms_sign_access.specs.declared.settings.Fallbacks.{Fallbacks}
 use Rattle.dms_sign_access.specs.declared.settings.SignSettings.{SignSettings}
 use Rattle.dms_sign_access.specs.declared.reports.Reports.{Reports}
+use Rattle.dms_sign_state.specs.NumberSettings.{all_numbers, number_of, greatest_number}
 
 -- ---- fields
 
@@ -85,7 +87,7 @@ AreFallbacks f =
 abbrev pub AreSettings : SignSettings → Type 0
 AreSettings s =
     AreDefaults s.defaults × (AreFallbacks s.fallbacks
-    × ((s.short_power_loss_time ≤ 65535) × (s.time_comm_loss ≤ 65535)))
+    × AllByRecursion (λ number. number_of s number ≤ greatest_number) all_numbers)
 
 abbrev pub IsAddress : List ℕ → Type 0
 IsAddress address = IsCode 4 address

@@ -9,6 +9,8 @@ use Rattle.dms_face.specs.declared.defaults.Defaults.{Defaults}
 use Rattle.dms_sign_access.specs.declared.settings.Fallbacks.{Fallbacks}
 use Rattle.dms_sign_access.specs.declared.settings.SignSettings.{SignSettings}
 use Rattle.dms_sign_access.specs.declared.reports.Reports.{Reports}
+use Rattle.dms_sign_state.specs.declared.number_settings.NumberSetting.{NumberSetting}
+use Rattle.dms_sign_state.specs.NumberSettings.{all_numbers, number_word, number_of}
 use Rattle.dms_sign_state.specs.Fields.{MessageModel, UsedRow, PutModel, FieldsModel}
 
 -- ---- lines
@@ -76,12 +78,18 @@ fallbacks_text f =
     ++ octets_line (codes "end-duration") f.end_duration
     ++ octets_line (codes "communications-loss") f.communications_loss
 
+abbrev pub setting_line : SignSettings → NumberSetting → List ℕ
+setting_line settings number = number_line (number_word number) (number_of settings number)
+
+-- a line for each setting that is a number
+abbrev pub numbers_text : SignSettings → List ℕ
+numbers_text settings = flat_map (setting_line settings) all_numbers
+
 abbrev pub settings_text : SignSettings → List ℕ
 settings_text settings =
     (codes "defaults" ++ defaults_words settings.defaults)
     ++ fallbacks_text settings.fallbacks
-    ++ number_line (codes "short-power-loss-time") settings.short_power_loss_time
-    ++ number_line (codes "time-comm-loss") settings.time_comm_loss
+    ++ numbers_text settings
 
 -- ---- what is shown
 

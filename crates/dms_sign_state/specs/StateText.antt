@@ -8,6 +8,7 @@ use Rattle.dms_codes.specs.Status.{is_not_used}
 use Rattle.dms_table.specs.Rows.{RowModel, TableModel}
 use Rattle.dms_table.specs.Activation.{ShownModel, shown_row}
 use Rattle.dms_sign.specs.State.{SignState}
+use Rattle.dms_sign_state.specs.NumberSettings.{all_numbers, numbers_room}
 use Rattle.dms_sign_state.specs.Fields.{MessageModel, UsedRow, PutModel, FieldsModel}
 use Rattle.dms_sign_state.specs.FieldsText.{row_line, row_lines, put_text, text_of_fields}
 
@@ -61,9 +62,9 @@ abbrev pub saved_rows : SignState → ℕ
 saved_rows s = length s.table.changeable + length s.table.volatile
 
 -- the most octets that the text of a state of a sign with so many such rows has: 1,315 for each, whose text has 512
--- octets and whose owner 127, and 3,337 for all else
+-- octets and whose owner 127, the lines of the settings that are numbers, and 3,288 for all else
 abbrev pub most_saved : ℕ → ℕ
-most_saved rows = 3337 + 1315 * rows
+most_saved rows = 3288 + numbers_room all_numbers + 1315 * rows
 
 -- ---- its parts, as they are written
 

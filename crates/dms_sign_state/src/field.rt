@@ -1,6 +1,7 @@
 //! The fields of a state's text.
 
 use crate::line_reading::{most_rows, put_name, stored_name};
+use crate::number_settings::NumberSetting;
 use std::alloc::{AllocError, AllocFailed};
 use std::error::Error;
 use std::fmt;
@@ -37,8 +38,8 @@ pub enum StateField {
     PowerLoss,
     EndDuration,
     CommunicationsLoss,
-    ShortPowerLossTime,
-    TimeCommLoss,
+    /// A setting that is a number.
+    Number(NumberSetting),
     /// The seconds of silence.
     Silent,
     /// The message that is shown or was kept.
@@ -140,10 +141,7 @@ impl fmt::Display for StateField {
             StateField::PowerLoss => f.write_str("power-loss and five octets"),
             StateField::EndDuration => f.write_str("end-duration and five octets"),
             StateField::CommunicationsLoss => f.write_str("communications-loss and five octets"),
-            StateField::ShortPowerLossTime => {
-                f.write_str("short-power-loss-time and a number to 65535")
-            }
-            StateField::TimeCommLoss => f.write_str("time-comm-loss and a number to 65535"),
+            StateField::Number(number) => write!(f, "{} and a number to 65535", number.word()),
             StateField::Silent => f.write_str("silent and a number to 4294967295"),
             StateField::Message(put) => write!(f, "{} and a message", put_name(*put)),
             StateField::Source(put) => write!(f, "{}-source and five octets", put_name(*put)),

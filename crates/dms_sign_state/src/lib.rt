@@ -49,11 +49,13 @@ mod fields;
 pub mod laws;
 mod line_reading;
 mod lines;
+mod number_settings;
 mod reading;
 mod saving;
 mod words;
 
 pub use field::{Put, StateError, StateFault, StateField, Stored};
 pub use fields::{MessageFields, PutFields, RowFields, StateFields};
+pub use number_settings::{NumberSetting, settings_lines};
 pub use reading::state_fields;
-pub use saving::{put_saved, saved};
+pub use saving::{most_saved, put_saved, saved};

@@ -6,7 +6,9 @@ ghost use Rattle.dms_sign_state.specs.Fields.{FieldsModel, AreFields};
 ghost use Rattle.dms_sign_state.specs.FieldsText.{text_of_fields};
 ghost use Rattle.dms_sign_state.specs.FieldFaults.{most_rows, put_name, IsErrorOf, AreRead};
 ghost use Rattle.dms_sign_state.specs.WordReading.{Gives};
-ghost use Rattle.dms_sign_state.specs.FieldReading.{row_field, rows_at, fallbacks_at, settings_at, remaining_at};
+ghost use Rattle.dms_sign_state.specs.NumberSettings.{all_numbers};
+ghost use Rattle.dms_sign_state.specs.FieldReading.{row_field, rows_at, fallbacks_at, setting_at, numbers_at};
+ghost use Rattle.dms_sign_state.specs.FieldReading.{settings_at, remaining_at};
 ghost use Rattle.dms_sign_state.specs.FieldReading.{put_at, verdicts_at, reports_at, form_at, end_field, powered_at};
 ghost use Rattle.dms_sign_state.specs.FieldReading.{set_at, seen_at, rows_of, fields_at};
 
@@ -16,6 +18,7 @@ use crate::line_reading::{
     address_line, defaults_line, five_line, has_row, message_line, most_rows, number_line,
     octet_line, put_name, row, twelve_line, two_octets_line,
 };
+use crate::number_settings::{NUMBER_SETTINGS, NumberSetting};
 use crate::words::{named, starts_with};
 use dms_sign_access::{Fallbacks, Reports, SignSettings};
 use std::alloc::Global;
@@ -79,32 +82,35 @@ fn fallbacks(text: &[u8]) -> Result<(Fallbacks, &[u8]), Unread>
     Ok((fallbacks, rest))
 }
 
+fn setting(number: NumberSetting, text: &[u8]) -> Result<(u16, &[u8]), Unread>
+    ensures { Gives (λ x. (x.0, x.1.now)) result (setting_at number text.now) }
+{
+    two_octets_line(StateField::Number(number), number.word(), " ", text)
+}
+
+/// The settings that are numbers, put among those that are known.
+fn numbers(known: SignSettings, text: &[u8]) -> Result<(SignSettings, &[u8]), Unread>
+    ensures { Gives (λ x. (x.0, x.1.now)) result (numbers_at all_numbers known text.now) }
+{
+    let mut settings = known;
+    let mut rest = text;
+    for number in NUMBER_SETTINGS {
+        let (value, after) = setting(number, rest)?;
+        number.put(&mut settings, value);
+        rest = after;
+    }
+    Ok((settings, rest))
+}
+
 #[tactic(auto, unfolding(crate::specs::FieldReading::settings_at))]
 fn settings(text: &[u8]) -> Result<(SignSettings, &[u8]), Unread>
     ensures { Gives (λ x. (x.0, x.1.now)) result (settings_at text.now) }
 {
     let (defaults, rest) = defaults_line(StateField::Defaults, "defaults", " ", text)?;
     let (fallbacks, rest) = fallbacks(rest)?;
-    let wanted = StateField::ShortPowerLossTime;
-    let (short_power_loss_time, rest) = two_octets_line(
-        wanted,
-        "short-power-loss-time",
-        " ",
-        rest,
-    )?;
-    let (time_comm_loss, rest) = two_octets_line(
-        StateField::TimeCommLoss,
-        "time-comm-loss",
-        " ",
-        rest,
-    )?;
-    let settings = SignSettings {
-        fallbacks,
-        short_power_loss_time,
-        time_comm_loss,
-        defaults,
-    };
-    Ok((settings, rest))
+    let mut settings = SignSettings::new(defaults);
+    settings.fallbacks = fallbacks;
+    numbers(settings, rest)
 }
 
 fn remaining_name(put: Put) -> &'static str

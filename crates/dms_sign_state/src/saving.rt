@@ -10,13 +10,16 @@ ghost use Rattle.dms_table.specs.Rows.{rows_of};
 ghost use Rattle.dms_table.specs.RowsView.{reading_of, IsShort};
 ghost use Rattle.dms_text_filling.specs.Filling.{Puts, laid};
 ghost use Rattle.dms_wire_ber.specs.NameText.{dotted};
-ghost use Rattle.dms_sign_state.specs.FieldsText.{fallbacks_text, defaults_words, settings_text, row_lines, row_line};
+ghost use Rattle.dms_sign_state.specs.NumberSettings.{all_numbers, number_word, numbers_room};
+ghost use Rattle.dms_sign_state.specs.FieldsText.{fallbacks_text, defaults_words, setting_line, numbers_text};
+ghost use Rattle.dms_sign_state.specs.FieldsText.{settings_text, row_lines, row_line};
 ghost use Rattle.dms_sign_state.specs.FieldsText.{message_line, source_line, address_line, remaining_text};
 ghost use Rattle.dms_sign_state.specs.FieldsText.{copied_line, reports_text, last_lines};
 ghost use Rattle.dms_sign_state.specs.StateText.{message_of, used_row, used_rows, row_text, rows_text, table_text};
 ghost use Rattle.dms_sign_state.specs.StateText.{shown_text, text_of_state, saved_rows, most_saved};
 
 use crate::lines::{put_code, put_defaults, put_message, put_octets, put_part};
+use crate::number_settings::{NUMBER_SETTINGS, NumberSetting, numbers_room};
 use dms_codes::{Order, RowId, Status, memory};
 use dms_face::Defaults;
 use dms_sign::Sign;
@@ -55,7 +58,7 @@ pub fn most_saved(sign: &Sign) -> usize
     signs_are_kept(sign);
     let table = sign.table();
     let rows = table.row_count(memory::CHANGEABLE) + table.row_count(memory::VOLATILE);
-    3337 + 1315 * rows
+    3288 + numbers_room() + 1315 * rows
 }
 
 fn put_state(buffer: &mut [u8], place: usize, sign: &Sign) -> usize
@@ -194,13 +197,35 @@ fn put_set_defaults(buffer: &mut [u8], place: usize, defaults: &Defaults) -> usi
 
 fn put_settings(buffer: &mut [u8], place: usize, settings: &SignSettings) -> usize
     ensures octets { Puts (settings_text settings.now) place buffer.old result buffer.new }
-    ensures short { result ≤ place + 239 }
+    ensures short { result ≤ place + 190 + numbers_room all_numbers }
 {
-    let (short, silence) = (settings.short_power_loss_time, settings.time_comm_loss);
     let place = put_set_defaults(buffer, place, &settings.defaults);
     let place = put_fallbacks(buffer, place, &settings.fallbacks);
-    let place = put_number(buffer, place, "short-power-loss-time", short);
-    put_number(buffer, place, "time-comm-loss", silence)
+    put_numbers(buffer, place, settings)
+}
+
+/// Puts a line for each setting that is a number.
+fn put_numbers(buffer: &mut [u8], place: usize, settings: &SignSettings) -> usize
+    ensures octets { Puts (numbers_text settings.now) place buffer.old result buffer.new }
+    ensures short { result ≤ place + numbers_room all_numbers }
+{
+    let mut end = place;
+    for number in NUMBER_SETTINGS {
+        end = put_setting(buffer, end, number, settings);
+    }
+    end
+}
+
+fn put_setting(
+    buffer: &mut [u8],
+    place: usize,
+    number: NumberSetting,
+    settings: &SignSettings,
+) -> usize
+    ensures octets { Puts (setting_line settings.now number) place buffer.old result buffer.new }
+    ensures short { result ≤ place + length (number_word number) + 7 }
+{
+    put_number(buffer, place, number.word(), number.of(settings))
 }
 
 /// Puts what is shown or was kept.

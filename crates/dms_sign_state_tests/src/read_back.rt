@@ -1,7 +1,9 @@
 //! States read back from their texts.
 
 use super::saved::{BUSY_STATE, STATES};
-use dms_sign_state::{Put, StateError, StateFault, StateField, Stored, state_fields};
+use dms_sign_state::{
+    NumberSetting, Put, StateError, StateFault, StateField, Stored, state_fields,
+};
 use dms_table::Status;
 use std::alloc::{AllocError, Global};
 use std::test::Fail;
@@ -90,7 +92,11 @@ fn the_first_fault_is_told(rt: HostRuntime) -> Result<(), Fail> {
         ),
         (5, "defaults 0 9 5 5 256 3 2 30 0", StateField::Defaults),
         (8, "power-loss 00021234", StateField::PowerLoss),
-        (12, "time-comm-loss +2", StateField::TimeCommLoss),
+        (
+            12,
+            "time-comm-loss +2",
+            StateField::Number(NumberSetting::TimeCommLoss),
+        ),
         (13, "silent 4294967296", StateField::Silent),
         (
             17,
@@ -111,10 +117,23 @@ fn the_first_fault_is_told(rt: HostRuntime) -> Result<(), Fail> {
 
 #[test]
 fn a_fault_is_told_in_words(rt: HostRuntime) -> Result<(), Fail> {
-    let text = with_line(rt.alloc(), 13, "silent")?;
-    let told = fault_of(rt.alloc(), text.as_slice()).ok_or("no fault")?;
-    let words = format!(in rt.alloc(); "{told}")?;
-    assert!(rt; words.as_str() == "line 13: silent and a number to 4294967295 wanted");
+    for (line, new, words) in [
+        (
+            12,
+            "time-comm-loss",
+            "line 12: time-comm-loss and a number to 65535 wanted",
+        ),
+        (
+            13,
+            "silent",
+            "line 13: silent and a number to 4294967295 wanted",
+        ),
+    ] {
+        let text = with_line(rt.alloc(), line, new)?;
+        let fault = fault_of(rt.alloc(), text.as_slice()).ok_or("no fault")?;
+        let told = format!(in rt.alloc(); "{fault}")?;
+        assert!(rt; told.as_str() == words);
+    }
     Ok(())
 }
 

@@ -22,10 +22,8 @@ use crate::sign_calls::{NewSign, fault_answer};
 use dms_agent::Agent;
 use dms_agent_state::{SetError, put_saved, saved_values, state_parts};
 use dms_agent_watched::Watched;
-use dms_codes::memory;
-use dms_sign::Sign;
-use dms_sign::laws::signs_are_kept;
 use dms_sign_restored::{StateRefusal, put_state};
+use dms_sign_state::most_saved;
 use dms_sign_text::{DescriptionFault, Setup, description};
 use std::alloc::Global;
 use wisangub_c_places::{SignHandle, SignPlace};
@@ -63,16 +61,6 @@ pub extern "C" fn wisangub_sign_save_at(
     ensures state { state.new ≡ given_buffer (text_of_agent sign.old.value.agent) state.old }
 {
     give_state(sign.as_mut().agent(), state, size)
-}
-
-/// The most octets of the text of any state of a sign with these rows.
-fn most_saved(sign: &Sign) -> usize
-    ensures { result ≡ most_saved (saved_rows sign.now) }
-{
-    signs_are_kept(sign);
-    let table = sign.table();
-    let rows = table.row_count(memory::CHANGEABLE) + table.row_count(memory::VOLATILE);
-    3337 + 1315 * rows
 }
 
 /// The most octets that the sign's own state ever has, without the lines of objects behind it.

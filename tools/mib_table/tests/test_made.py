@@ -6,6 +6,7 @@ import shutil
 import pytest
 from mib_table.code import CODE, COLUMN, OBJECTS, OCTETS, SCALAR
 from mib_table.pages import mib_objects
+from mib_table.settings import NUMBER_DEFINITIONS, NUMBER_SETTINGS, SETTINGS
 from mib_table.slots import SLOTS, shared
 from mib_table.table import TABLE, BadTable, Object, read
 
@@ -39,6 +40,24 @@ def test_an_object_of_the_table_is_in_each_file_that_is_made(tmp_path: pathlib.P
     assert "Trial" not in made[COLUMN]
     assert "vmsTrial OBJECT-TYPE\n    SYNTAX  INTEGER (3..9)\n    ACCESS  read-write\n" in mib_objects(objects)
     assert '"A number."\n    ::= { vmsCfg 7 }' in mib_objects(objects)
+
+
+def test_a_number_that_can_be_set_has_its_line_in_a_state(tmp_path: pathlib.Path) -> None:
+    row = TRIAL.replace("Trial", "TrialTime").replace("Range 3 9", "Range 0 65535")
+    objects = objects_of(tmp_path, (ROW, ROW + row), (PLACE, f"{PLACE} ∷ One TrialTime"))
+    made = {name: make(objects) for name, _, make in SETTINGS}
+    assert "NUMBER_SETTINGS: [NumberSetting; 3] = [\n    NumberSetting::TrialTime," in made[NUMBER_SETTINGS]
+    for arm in ('=> "trial-time",', "=> settings.trial_time,", "=> settings.trial_time = number,"):
+        assert f"NumberSetting::TrialTime {arm}" in made[NUMBER_SETTINGS]
+    assert "all_numbers = numbers.TrialTime ∷ " in made[NUMBER_DEFINITIONS]
+    assert 'number_word numbers.TrialTime = codes "trial-time"\n' in made[NUMBER_DEFINITIONS]
+
+
+def test_a_number_that_can_be_set_and_has_a_range_of_its_own_is_refused(tmp_path: pathlib.Path) -> None:
+    objects = objects_of(tmp_path, (ROW, ROW + TRIAL), (PLACE, f"{PLACE} ∷ One Trial"))
+    for _, _, make in SETTINGS:
+        with pytest.raises(BadTable):
+            make(objects)
 
 
 @pytest.mark.parametrize(

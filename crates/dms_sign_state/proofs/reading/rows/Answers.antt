@@ -1,5 +1,4 @@
 use Rattle.std.proofs.Common.{◌≡◌, ℕ, List, Result, ◌+◌, ◌-◌, ◌++◌, ◌∷◌, [], false, true, ap, sym, ◌∙◌, arith}
-use Rattle.std.proofs.lemmas.Result.{err_from_is_err_and}
 use Rattle.dms_sign_state.specs.declared.field.Lack.{Lack}
 use Rattle.dms_sign_state.specs.Fields.{UsedRow}
 use Rattle.dms_sign_state.specs.FieldReading.{has_row, rows_at}

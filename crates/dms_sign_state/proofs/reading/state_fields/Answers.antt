@@ -1,4 +1,4 @@
-use Rattle.std.proofs.Common.{◌≡◌, Err, subst}
+use Rattle.std.proofs.Common.{◌≡◌, subst}
 use Rattle.dms_sign_state.specs.declared.field.Unread.{Unread}
 use Rattle.dms_sign_state.specs.declared.field.Unread.TheVariants as unread
 use Rattle.dms_sign_state.specs.WordReading.{Fails}
