@@ -88,6 +88,9 @@ def of_agent_call(line: bytes) -> str | None:
         if words[0] == b"object":
             published.published(words[1:])
             return None
+        if words[0] == b"set":
+            published.assigned(words)
+            return None
         if words[0] == b"no-object":
             published.named_by(words[1:])
     except ValueError as fault:

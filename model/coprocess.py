@@ -14,12 +14,12 @@ import sys
 from collections.abc import Callable, Iterable
 from typing import TypeVar
 
-from . import causes, layout, published, text
+from . import causes, device, layout, published, text
 from .agent import Agent
 from .description import Description
 from .restored import restore
 from .restored_centre import restored
-from .saved import saved
+from .saved_agent import saved_agent
 from .saved_centre import saved as saved_centre
 from .state_text import Refused
 
@@ -69,7 +69,10 @@ def _firmware_answer(agent: Agent, words: list[bytes]) -> list[str] | None:
         return ["ok" if why is None else f"refused {why}"]
     if keyword == b"no-object":
         was_there = agent.device.withdraw(published.name(text.wants(words, keyword, 1)[0]))
-        return ["ok" if was_there else "refused there is no object of this name"]
+        return ["ok" if was_there else f"refused {device.NONE}"]
+    if keyword == b"set":
+        why = agent.device.put_back(*published.assigned(words))
+        return ["ok" if why is None else f"refused {why}"]
     if words == [b"fonts"]:
         return ["ok" if agent.show_fonts() else "refused objects are published already"]
     if words == [b"objects"]:
@@ -106,7 +109,7 @@ def sign_answer(agent: Agent, words: list[bytes]) -> list[str]:
     elif keyword == b"state":
         return [text.shown_line(sign), "ok"]
     elif keyword == b"save":
-        return [*saved(sign.state), "ok"]
+        return [*saved_agent(agent), "ok"]
     elif keyword == b"show":
         shown = sign.state.shown
         pages, _ = layout.laid_out(sign.state.face, shown.defaults, shown.text)

@@ -4,6 +4,8 @@ from dataclasses import dataclass
 
 from . import wire
 
+NONE = "there is no object of this name"
+
 
 @dataclass(frozen=True)
 class Access:
@@ -76,11 +78,15 @@ class Device:
             self.objects[name].set(value)
         return wire.NO_ERROR, 0
 
-    def put_back(self, name: wire.Name, value: wire.Tagged) -> None:
-        """The object of this name has a manager's value again, where there is one that takes it."""
+    def put_back(self, name: wire.Name, value: wire.Tagged) -> str | None:
+        """The object of this name has a manager's value again, where there is one that takes it; else why not."""
         found = self.objects.get(name)
-        if found is not None and found.access is not None and found.access.takes(value):
-            found.set(value)
+        if found is None:
+            return NONE
+        if found.access is None or not found.access.takes(value):
+            return "the object does not take this value"
+        found.set(value)
+        return None
 
     def taken(self) -> list[Object]:
         """The objects that were set since this was last asked, in the order of names."""

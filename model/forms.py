@@ -117,9 +117,12 @@ def fault(form: list[Wanted], line: bytes) -> str | None:
             return empty(place)
         if not wanted.takes(found[place]):
             return f"word {place + 1}: {wanted.words} is wanted"
-    if len(found) == len(form):
-        return None
-    return f"word {len(form) + 1}: no more words are wanted" if found[len(form)] else empty(len(form))
+    return None if len(found) == len(form) else more(len(form), found[len(form)])
+
+
+def more(place: int, found: bytes) -> str:
+    """What is wrong where the line should have ended, and goes on with this word."""
+    return f"word {place + 1}: no more words are wanted" if found else empty(place)
 
 
 def empty(place: int) -> str:

@@ -2,7 +2,7 @@
 
 import re
 
-from . import text, wire
+from . import forms, text, wire
 from .device import Access, Object
 
 _NO_ACCESS = "after the value an access is wanted, as number 0 7, or the end of the line"
@@ -79,6 +79,14 @@ def valued(words: list[bytes]) -> tuple[wire.Name, wire.Tagged, list[bytes]]:
         return named, *_value(words[1:])
     except (ValueError, IndexError):
         raise ValueError("word 3: a value is wanted, as INTEGER 7") from None
+
+
+def assigned(words: list[bytes]) -> tuple[wire.Name, wire.Tagged]:
+    """The name and the value of a line `set`; raises ValueError, which says what is not there, or is too much."""
+    named, value, more = valued(words[1:])
+    if more:
+        raise ValueError(forms.more(len(words) - len(more), more[0]))
+    return named, value
 
 
 def published(words: list[bytes]) -> Object:

@@ -134,6 +134,28 @@ def _sets() -> Iterator[_Named]:
     ]
 
 
+def _values() -> Iterator[_Named]:
+    """Values that are put back as managers set them, and what is saved of them."""
+    bright, dial = f"set {dotted(_BRIGHTNESS)}", f"set {dotted(_ILLUMINATION)}"
+    for words in ("INTEGER 9", "INTEGER -0", "INTEGER 10", "Gauge 4", "NULL", "OCTET STRING 04"):
+        yield f"set to {words}", [*_PUBLISHED, f"{bright} {words}", "objects", "objects", "save"]
+    for words in ("OCTET STRING -", "OCTET STRING 4A4b4c4D", "OCTET STRING 4142434445", "Opaque 41"):
+        yield f"set to {words}", [*_PUBLISHED, f"{dial} {words}", _get(_ILLUMINATION), "save"]
+    for word in (dotted(_TYPE), dotted(DMS + (2, 3, 0)), "1.3", f"01{dotted(_BRIGHTNESS)[1:]}"):
+        yield f"set of {word}", [*_PUBLISHED, f"set {word} INTEGER 6", "save"]
+    for line in ("set", "set 3.1 NULL", "set 1.3", f"{bright} INTEGER", f"{bright} INTEGER 4294967296"):
+        yield f"the line {line}", [*_PUBLISHED, line]
+    for words in ("INTEGER 4 number 0 9", "NULL -", "OCTET STRING 41 42", "INTEGER 4 ", "INTEGER 4  5", " INTEGER 4"):
+        yield f"more words than set to {words!r}", [*_PUBLISHED, f"{bright} {words}", "objects"]
+    both = _handed(wire.SET, (_BRIGHTNESS, (wire.INTEGER, 4)), (_ILLUMINATION, (wire.OCTETS, b"\xff")))
+    yield "what managers set is saved, told or not", [*_PUBLISHED, "save", both, "save", "objects", "save"]
+    yield "what is set by a line too", [*_PUBLISHED, both, "objects", f"{bright} INTEGER 4", "objects", "save"]
+    withdrawn = f"no-object {dotted(_ILLUMINATION)}"
+    yield "what firmware publishes anew is not saved", [*_PUBLISHED, both, _PUBLISHED[5], "save", withdrawn, "save"]
+    yield "set without power", [*_PUBLISHED, "power-lost", f"{bright} INTEGER 4", "save", "power-back 3", "save"]
+    yield "set leaves the silence", ["ticks 59", *_PUBLISHED, f"{bright} INTEGER 4", "ticks 1", "save"]
+
+
 def _power() -> Iterator[_Named]:
     off = [*_PUBLISHED, "power-lost", _get(_DESCRIPTION), "objects", "object 1.3 NULL", "no-object 1.3"]
     yield "without power", [*off, "fonts", "power-back 3", _get(_DESCRIPTION)]
@@ -166,7 +188,7 @@ def _fonts() -> Iterator[_Named]:
 
 
 def cases() -> Iterator[Case]:
-    for some in (_spellings, _reads, _sets, _power, _fonts):
+    for some in (_spellings, _reads, _sets, _values, _power, _fonts):
         for name, lines in some():
             answer = functools.partial(coprocess.sign_answer, Agent(text.bench()))
             said = [{"line": line, "answer": coprocess.answered(answer, line.encode())} for line in lines]
