@@ -114,7 +114,7 @@ SIGN = End(
     [b"state 1 sign", b"silent 5", b"powered 1", b"end"],
     "--fresh begins anew",
     {b"1.3.6.1.5": b"INTEGER 7", b"1.3.6.1.4": b"OCTET STRING 4142", b"1.3.6.1.6": b"OCTET STRING -"},
-    (b"set 1.3.6.1.5 INTEGER 7", b"set 1.3.6.1.4 OCTET STRING 4142", b"set 1.3.6.1.6 OCTET STRING -"),
+    (b"set 1.3.6.1.4 OCTET STRING 4142", b"set 1.3.6.1.5 INTEGER 7", b"set 1.3.6.1.6 OCTET STRING -"),
     (NOW.start(), NOW.clock()),
 )
 CENTRE = End(

@@ -18,7 +18,7 @@ from .started import are_shortened, cut_off
 from .test_firmware import BRIGHTNESS, DESCRIPTION, DIAL, FILE, SET
 from .test_journal import HEAD, kept
 from .waiting import MODEL, until
-from .with_objects import COUNTER, served
+from .with_objects import COUNTER, refused, served
 
 MODE = DMS + (6, 7, 0)
 LEVEL = "object 1.3.6.1.4.1.1206.4.2.3.7.6.0 INTEGER 3 number 0 9"
@@ -88,9 +88,51 @@ def test_what_managers_set_survives_a_shortening(path: pathlib.Path, listed: pat
             until(lambda: front_end.printed[1:] == again, "firmware is told again of all, once each")
             front_end.hang_up("shortened from")
             assert front_end.end() == 0
-    assert SIGN.opened(path).sets == {
-        one.encode().split(b" ")[1]: one.encode().split(b" ", 2)[2] for one in (f"{SET} 7", f"{DIAL_SET} 6")
-    }
+    assert set_records(path) == [line.encode() for line in again], "each once, in the order of names"
+
+
+def set_records(path: pathlib.Path) -> list[bytes]:
+    """The values of objects behind a journal's state."""
+    lines = [record.rpartition(b" #")[0] for record in path.read_bytes().splitlines()]
+    return [line for line in lines if line.startswith(b"set ")]
+
+
+def test_a_journal_of_the_state_alone_is_gone_on_from_with_all_that_was_set(
+    path: pathlib.Path, listed: pathlib.Path
+) -> None:
+    listed.write_text(FILE + "fonts\n", encoding="ascii")
+    words = with_objects(path, listed)
+    with served(*words) as front_end:
+        front_end.put((BRIGHTNESS, (wire.INTEGER, 7)), (DIAL, (wire.INTEGER, 5)))
+        for _ in range(3):
+            front_end.hang_up("shortened from")
+            assert set_records(path) == [f"{DIAL_SET} 5".encode(), f"{SET} 7".encode()]
+        front_end.process.kill()
+    with served(*words) as front_end:  # what it was handed over is a manager's there too
+        front_end.hang_up("shortened from")
+        assert front_end.get(BRIGHTNESS, DIAL) == [(wire.INTEGER, 7), (wire.INTEGER, 5)]
+        front_end.put((BRIGHTNESS, (wire.INTEGER, 8)))
+        front_end.hang_up("shortened from")
+        assert front_end.end() == 0
+    assert front_end.printed[1:] == [f"{DIAL_SET} 5", f"{SET} 7", f"{SET} 8"]
+    assert set_records(path) == [f"{DIAL_SET} 5".encode(), f"{SET} 8".encode()]
+
+
+def test_a_program_without_the_line_set_is_refused_in_words(
+    path: pathlib.Path, listed: pathlib.Path, tmp_path: pathlib.Path
+) -> None:
+    words = with_objects(path, listed)
+    with served(*words) as front_end:
+        front_end.put((BRIGHTNESS, (wire.INTEGER, 7)))
+        front_end.hang_up("shortened from")
+        assert front_end.end() == 0
+    old = tmp_path / "old"
+    old.write_text(f"#!/bin/sh\nsed -u 's/^set /unset /' | {MODEL} \"$@\"\n", encoding="ascii")
+    old.chmod(0o755)
+    why = "the program has no line `set`, which --objects needs\n"
+    assert refused(*words, "--signtool", str(old)) == (2, why)
+    with served(*words) as front_end:
+        assert front_end.get(BRIGHTNESS) == [(wire.INTEGER, 7)]
 
 
 def test_a_value_is_set_again_only_where_it_may_be_set_now(path: pathlib.Path, listed: pathlib.Path) -> None:

@@ -164,6 +164,20 @@ def test_a_program_that_cannot_say_its_state_is_left_alone(keeper: Keeper, told:
     assert told == [f"{keeper.journal.path} is not shortened: the program has no line `save`"]
 
 
+def test_what_managers_set_is_recorded_once_and_what_no_object_has_is_kept(keeper: Keeper, told: list[str]) -> None:
+    saved, path, trial = [*SIGN.state, b"set 1.3.6.1.9 INTEGER 8", b"set 1.3.6.1.10 NULL"], keeper.journal.path, Taken()
+    shortening, sign = Shortening(1, trial, None, None), Sign([*saved, b"ok"])
+    keeper.journal.sets.update({**SIGN.sets, b"1.3.6.1.9": b"INTEGER 7"})
+    for _ in range(2):
+        shortening.is_asked = True
+        shortening.turn(sign, keeper)
+        lines = [record.rpartition(b" #")[0] for record in pathlib.Path(path).read_bytes().splitlines()]
+        assert lines[1:-2] == [*SIGN.state, *SIGN.set_lines, *saved[-2:]] and trial.states[-1] == saved
+    found = SIGN.opened_beside(path)
+    assert found.state() == SIGN.state and len(told) == 2
+    assert found.sets == {**SIGN.sets, b"1.3.6.1.9": b"INTEGER 8", b"1.3.6.1.10": b"NULL"}
+
+
 def test_what_is_owed_comes_first(keeper: Keeper, told: list[str]) -> None:
     shortening, sign, path = Shortening(1, Taken(), None, None), Sign([*SIGN.state, b"ok"]), keeper.journal.path
     keeper.journal.__class__ = Refusing
@@ -210,6 +224,26 @@ def test_another_process_of_the_sign_looks_at_the_state(program: str, path: str 
     assert "state line 24: no such place" in trial.fault(others["its place"]) or path
     assert "No such file" in Trial("none/signtool", text).fault(state)
     assert Trial("/bin/true", text).fault(state) == "another process of the sign does not go on from its state"
+
+
+@pytest.mark.parametrize("program", PROGRAMS)
+def test_another_process_has_the_objects_and_what_managers_set_there(program: str) -> None:
+    publishing = [b"fonts", b"object 1.3.6.1.5 INTEGER 3 number 0 9", b"object 1.3.6.1.6 NULL"]
+    sign = CoProcess(program, ["sign"])
+    sign.begin(b"state", program)
+    assert sign.hand([*publishing, b"set 1.3.6.1.5 INTEGER 7"]) == [b"ok"] * 4
+    saved = sign.ask(b"save")[:-1]
+    sign.end()
+    assert saved[-2:] == [b"end", b"set 1.3.6.1.5 INTEGER 7"]
+    trial = Trial(program, None, publishing=lambda: publishing)
+    assert trial.fault(saved) == trial.fault(saved[:-1]) == ""
+    why = "another process of the sign does not go on from its state: "
+    assert Trial(program, None).fault(saved) == why + "refused there is no object of this name"
+    assert (
+        trial.fault([*saved[:-1], b"set 1.3.6.1.5 INTEGER 10"]) == why + "refused the object does not take this value"
+    )
+    assert trial.fault([*saved[:-1], b"set 1.3.6.1.5 INTEGER x"]).startswith(why + "bad line word 3: ")
+    assert trial.fault([*saved, b"hello"]) == why + "state 1 sign"
 
 
 def test_another_process_that_does_not_answer_is_not_waited_for(tmp_path: pathlib.Path) -> None:

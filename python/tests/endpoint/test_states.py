@@ -126,6 +126,7 @@ OTHERS = [
     (SIGN, [b"state 1 centre", b"end"], "it begins with 'state 1 centre', and"),
     (SIGN, [*SIGN.state, b"set 1.3.6.1.5 INTEGER x"], "is 'set 1.3.6.1.5 INTEGER x': no sign knows this line"),
     (SIGN, [*SIGN.state, b"set 1.3.6.1.5"], "is 'set 1.3.6.1.5': no sign knows this line"),
+    (SIGN, [*SIGN.state, SET + b" number 0 9"], "is 'set 1.3.6.1.5 INTEGER 7 number 0 9': no sign knows this line"),
     (SIGN, [*SIGN.state, b"hello", CLOCK, b"ticks 1"], "record 7 at octet"),
     (SIGN, [*SIGN.state, START, b"ticks 5", CLOCK, b"ticks 1"], "is 'ticks 5': no sign knows this line"),
     (SIGN, [*SIGN.state, b"clock 1 2"], "is 'clock 1 2': no sign knows this line"),

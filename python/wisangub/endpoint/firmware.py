@@ -6,10 +6,9 @@ from __future__ import annotations
 import signal
 import time
 from collections.abc import Callable
-from dataclasses import replace
 from typing import Any
 
-from wisangub.objects.lines import Object, dotted, name_of, object_of
+from wisangub.objects.lines import Object, dotted
 from wisangub.objects.listed import Listed, at_line, read, refused_by
 from wisangub.output import LOG, print_line
 from wisangub.process.coprocess import CoProcess
@@ -18,7 +17,7 @@ from wisangub.snmp import wire
 
 from .clock import running
 from .log import Log
-from .states import Sets
+from .states import Sets, set_lines
 
 _NO_LINE = "the program has no line `%s`, which --objects needs"
 _SET = b"set "
@@ -32,7 +31,6 @@ class Firmware:
     def __init__(self, path: str, trial: Callable[[], CoProcess], log: Log | None, is_quiet: bool) -> None:
         self.listed, self.trial, self.log, self.is_quiet = read(path), trial, log, is_quiet
         self.sets: Sets = {}
-        self.before: Sets = {}  # of these, what a new process has again
         self.begun = self.told = running()
         self.is_to_read = False
         again: Callable[..., None] = self.again
@@ -47,16 +45,18 @@ class Firmware:
         return running() - self.begun, time.time()
 
     def publish(self, sign: CoProcess) -> None:
-        """Hands all over to a new process; raises Refusal where it does not take it whole. Objects that may be set as
-        managers set them before the journal was shortened are so again."""
+        """Hands all over to a new process; raises Refusal where it does not take it whole. What managers set before the
+        journal was shortened is so again where an object takes it, and is told; what none takes now is kept."""
         _publish_all(sign, self.listed, self.listed.published(*self.moment()))
-        for name, value in self.sets.items():
-            one = object_of([name.decode(), *value.decode().split(" ")])
-            there = self.listed.objects.get(one.name)
-            if there is None or there.access is None or not there.access.takes(one.value):
-                continue
-            _publish(sign, self.listed, [replace(there, value=one.value)])
-            self.before[name] = value
+        lines = set_lines(self.sets)
+        for answer in sign.hand(lines) if lines else ():
+            if answer != b"ok" and not answer.startswith(b"refused "):
+                raise Refusal(_NO_LINE % "set")
+
+    def lines(self) -> list[bytes]:
+        """The lines that publish all of it, each of which is answered `ok`."""
+        fonts = [b"fonts"] if self.listed.fonts is not None else []
+        return fonts + [one.line() for one in self.listed.published(*self.moment()).values()]
 
     def keep_time(self, sign: CoProcess) -> None:
         """The times are those of now, to a second: what is handed over next may ask for them."""
@@ -104,16 +104,12 @@ class Firmware:
 
     def tell(self, sign: CoProcess) -> None:
         """Tells what managers set since this was last asked; at first what they set since the journal began."""
-        told, self.before = self.before, {}
-        for answer in sign.ask(b"objects"):
-            if answer.startswith(_SET):
-                name, _, value = answer.removeprefix(_SET).partition(b" ")
-                told[name] = self.sets[name] = value
-        for name in sorted(told, key=lambda one: name_of(one.decode())):
-            words = {"object": name.decode(), "value": told[name].decode()}
+        for answer in sign.ask(b"objects")[:-1]:
+            name, _, value = answer.removeprefix(_SET).partition(b" ")
+            self.sets[name] = value
             if not self.is_quiet:
-                print_line(f"set {words['object']} {words['value']}")
-            self.event("set", {**words})
+                print_line(answer.decode())
+            self.event("set", {"object": name.decode(), "value": value.decode()})
 
     def event(self, event: str, fields: dict[str, object]) -> None:
         """An event of the log."""

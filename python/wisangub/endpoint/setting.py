@@ -132,8 +132,15 @@ def journal_of(asked: argparse.Namespace, head: Head) -> Journal:
         os.close(old)
 
 
-def shortening_of(asked: argparse.Namespace, end: str, text: bytes | None, log: Log | None) -> Shortening | None:
-    """How the journal is shortened, where there is one, of an end of this description."""
+def shortening_of(
+    asked: argparse.Namespace,
+    end: str,
+    text: bytes | None,
+    log: Log | None,
+    publishing: Callable[[], list[bytes]] | None = None,
+) -> Shortening | None:
+    """How the journal is shortened, where there is one, of an end of this description; `publishing` gives the lines
+    that publish objects beside a sign's."""
     if not asked.journal:
         return None
     most, archive = MOST if asked.keep is None else octets_of(asked.keep), None
@@ -141,7 +148,7 @@ def shortening_of(asked: argparse.Namespace, end: str, text: bytes | None, log: 
         from .archive import Archive
 
         archive = Archive(asked.archive)
-    return Shortening(most, Trial(asked.signtool, text, end), archive, log)
+    return Shortening(most, Trial(asked.signtool, text, end, publishing), archive, log)
 
 
 def new(asked: argparse.Namespace, end: str, text: bytes | None, state: list[bytes] | None = None) -> CoProcess:

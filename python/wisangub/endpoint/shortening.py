@@ -15,6 +15,7 @@ from wisangub.refusal import Refusal
 from .clock import running
 from .files import NotKept
 from .journal import Journal
+from .states import parts, set_lines
 
 if TYPE_CHECKING:
     from .archive import Archive
@@ -38,35 +39,50 @@ def octets_of(word: str) -> int:
     return int(found[1]) * _TIMES[found[2]]
 
 
-class Trial:
-    """Another process of a sign or of a centre, which is handed a state before that counts."""
+def _text(lines: list[bytes]) -> bytes:
+    return b"".join(b"%b\n" % line for line in lines)
 
-    def __init__(self, program: str, description: bytes | None, end: str = "sign") -> None:
+
+class Trial:
+    """Another process of a sign or of a centre, which is handed a state before that counts. `publishing` gives the
+    lines that publish objects beside a sign's, as its front end has published them."""
+
+    def __init__(
+        self,
+        program: str,
+        description: bytes | None,
+        end: str = "sign",
+        publishing: Callable[[], list[bytes]] | None = None,
+    ) -> None:
         self.call = [program, end, *(["--sign"] if description is not None else []), "--restore"]
         self.program, self.end, self.description = program, end, description or b""
+        self.publishing = publishing
 
-    def fault(self, state: list[bytes]) -> str:
-        """Why it does not go on from these lines to the same state, in words; nothing where it does."""
+    def fault(self, saved: list[bytes]) -> str:
+        """Why it does not go on from what was saved to the same, in words; nothing where it does. It is handed the
+        state, what is published, and each value that a manager set, as the next start would be."""
         other = f"another process of the {self.end}"
-        octets = b"\n".join(state) + b"\n"
+        state, sets = parts(saved)
+        octets, lines = _text(state), [*(self.publishing() if self.publishing else []), *set_lines(sets)]
         if len(octets) > _MOST_STATE:
             return f"the state of the {self.end} has more than {_MOST_STATE} octets: the journal only grows"
         try:
             ended = subprocess.run(
                 self.call,
-                input=self.description + octets + b"save\n",
+                input=self.description + octets + _text(lines) + b"save\n",
                 capture_output=True,
                 timeout=_PATIENCE,
                 check=False,
             )
         except (OSError, subprocess.TimeoutExpired) as fault:
             return f"{other} is not there: {fault}"
-        if ended.stdout == octets + _OK + b"\n":
+        if ended.stdout == _text([*[_OK] * len(lines), *saved, _OK]):
             return ""
         if ended.returncode == _NO_CALL:
             return f"{self.program} has no call `{self.end} --restore`: the journal only grows"
-        said = (ended.stderr or ended.stdout[:80]).decode("latin-1").strip().splitlines()
-        return f"{other} does not go on from its state{': ' + said[0] if said else ''}"
+        told = (ended.stderr or ended.stdout).decode("latin-1").strip().splitlines()
+        said = next((line[:80] for line in told if line != "ok"), "")
+        return f"{other} does not go on from its state{': ' + said if said else ''}"
 
 
 class Kept(Protocol):
@@ -119,7 +135,9 @@ class Shortening:
         try:
             if not kept.is_paid():
                 raise NotKept(f"{journal.path}: {journal.refused}", 1)
-            journal.exchange(self.looked_at(process), lambda: self.archive and self.archive.keep(journal.place.real))
+            state, sets = parts(self.looked_at(process))
+            journal.sets.update(sets)  # what no object has now, or firmware published anew, is kept beside these
+            journal.exchange(state, lambda: self.archive and self.archive.keep(journal.place.real))
         except NotKept as fault:
             if is_asked or str(fault) != self.refused:
                 LOG.info(f"{journal.path} is not shortened: {fault}")
@@ -131,14 +149,14 @@ class Shortening:
         self.event("shortened", {"from": before, "octets": journal.size})
 
     def looked_at(self, process: CoProcess) -> list[bytes]:
-        """The lines of the state; raises NotKept where they are none that another process goes on from."""
-        state = process.ask(b"save")
-        if state.pop() != _OK:
+        """What the process is saved as; raises NotKept where another process does not go on from that."""
+        saved = process.ask(b"save")
+        if saved.pop() != _OK:
             raise NotKept("the program has no line `save`", 1)
-        fault = self.trial.fault(state)
+        fault = self.trial.fault(saved)
         if fault:
             raise NotKept(fault, 1)
-        return state
+        return saved
 
     def event(self, event: str, fields: dict[str, object]) -> None:
         """An event of the log."""

@@ -105,7 +105,7 @@ def main() -> int:
         hand_over(asked)
     log, text = log_of(asked), description.read(asked.sign)
     firmware = firmware_of(asked, text, log)
-    shortening = shortening_of(asked, "sign", text, log)
+    shortening = shortening_of(asked, "sign", text, log, firmware.lines if firmware else None)
     with bound(asked.host, asked.port) as udp_socket:
         journal = journal_of(asked, Head("sign", description.digest(text))) if asked.journal else None
         if firmware and journal:

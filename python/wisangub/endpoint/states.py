@@ -64,7 +64,24 @@ class _Records:
 def written(state: list[bytes], sets: Sets, last: Moment) -> list[bytes]:
     """The lines of the records that stand behind the first one of a sign's: `last` is the moment up to which the sign
     was handed its seconds. A centre's has those of the state alone."""
-    return [*state, *(b"set %b %b" % one for one in sets.items()), last.start(), last.clock()]
+    return [*state, *set_lines(sets), last.start(), last.clock()]
+
+
+def set_lines(sets: Sets) -> list[bytes]:
+    """The lines that say these values, in the order of names."""
+    if not sets:
+        return []
+    from wisangub.objects.lines import name_of  # few journals have one
+
+    return [b"set %b %b" % (name, sets[name]) for name in sorted(sets, key=lambda one: name_of(one.decode()))]
+
+
+def parts(saved: list[bytes]) -> tuple[list[bytes], Sets]:
+    """What a process was saved as: the lines of its own state, and the values that managers set of what is published
+    beside it."""
+    count = saved.index(_LAST) + 1 if _LAST in saved else len(saved)
+    words = [line.split(b" ", 2) for line in saved[count:] if line.startswith(_SET)]
+    return saved[:count], {name: value for _, name, value in words}
 
 
 def next_number(state: list[bytes]) -> int | None:
@@ -122,11 +139,10 @@ def _sets_of(records: _Records) -> Sets:
 
 
 def _is_object(words: bytes) -> bool:
-    """Whether these are an object's name and its value."""
+    """Whether these are an object's name and its value, and no more."""
     from wisangub.objects.lines import Bad, object_of  # few journals have one
 
     try:
-        object_of(words.decode("ascii").split(" "))
+        return object_of(words.decode("ascii").split(" ")).access is None
     except (Bad, UnicodeDecodeError):
         return False
-    return True
