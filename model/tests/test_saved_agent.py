@@ -12,8 +12,8 @@ from model.saved import saved
 from model.saved_agent import parts, put_objects, saved_agent
 from model.state_text import Refused
 
+from .program_texts import CRATES
 from .test_agent import DESCRIPTION, put
-from .test_saved import CRATES
 
 CONTACT, LEVEL = (1, 3, 6, 1, 2, 1, 1, 4, 0), DMS + (7, 6, 0)
 PROGRAM = (CRATES / "dms_agent_tests/src/states.rt").read_text()
