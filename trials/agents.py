@@ -1,6 +1,8 @@
-"""Signs with objects beside their own, to be tried: lines that publish these, and requests that name them."""
+"""Signs with objects beside their own, to be tried: lines that publish these and give them values, and requests that
+name them."""
 
 import random
+import re
 
 from wisangub.process.coprocess import CoProcess
 from wisangub.snmp import wire
@@ -17,7 +19,16 @@ _NUMBERS = (0, 1, 2, 3, 4, 9, 127, 128, 255, 256, 65_535, 2**31, 2**32 - 1)
 _INTEGERS = (0, 1, -1, 9, 127, 128, -128, -129, 65_535, 2**31 - 1, 2**31, -(2**31), 2**32 - 1)
 _OUT_OF_RANGE = (2**32, -(2**31) - 1, 9_999_999_999, 10_000_000_000)
 _SIZES = (0, 0, 1, 3, 5, 127, 128, 255, 600)  # of octets
-_WRONG = ("object", "no-object", "no-object 3.1", "objects 1", "object 1.40 NULL", "object 2.4294967216 NULL")
+_WRONG = (
+    "object",
+    "no-object",
+    "no-object 3.1",
+    "objects 1",
+    "object 1.40 NULL",
+    "object 2.4294967216 NULL",
+    "set 1.3",
+)
+_WRITABLE = re.compile(r" (number|octets) (-?[0-9]+) (-?[0-9]+)")
 _KINDS = [GET, GET, GET_NEXT, GET_NEXT, SET, SET, SET]
 
 
@@ -40,12 +51,36 @@ def dotted(name: wire.Name) -> str:
     return ".".join(map(str, name))
 
 
+class Published:
+    """What a live sign has beside its own objects, by the lines that it answered `ok`."""
+
+    def __init__(self, has_fonts: bool) -> None:
+        self.has_fonts, self.objects = has_fonts, dict[str, str]()
+
+    def told(self, line: str, answer: list[str]) -> None:
+        """A line was answered so."""
+        word, *words = line.split(" ")
+        if answer != ["ok"]:
+            return
+        if word == "fonts":
+            self.has_fonts = True
+        elif word == "object":
+            self.objects[words[0]] = line
+        elif word == "no-object":
+            del self.objects[words[0]]
+
+    def lines(self) -> list[str]:
+        """Lines that publish the same beside another sign."""
+        return [*(["fonts"] if self.has_fonts else []), *self.objects.values()]
+
+
 class Firmware:
-    """Publishes objects whose names lie before, between and after the sign's, withdraws them, and asks for what was
-    set: the lines of that, the same for the same chance. `names` are those that it tried."""
+    """Publishes objects whose names lie before, between and after the sign's, withdraws them, gives them values, and
+    asks for what was set: the lines of that, the same for the same chance. `names` are those that it tried."""
 
     def __init__(self, chance: random.Random, has_fonts: bool) -> None:
         self.chance, self.names, self.has_fonts = chance, list[wire.Name](), has_fonts
+        self.accesses: dict[wire.Name, tuple[str, int, int]] = {}  # what may be written there, where it was published
 
     def new_name(self) -> wire.Name:
         """A name near the sign's."""
@@ -101,7 +136,24 @@ class Firmware:
             words = f"INTEGER {self.chance.choice(_OUT_OF_RANGE)}"
         elif kind > 0.94:
             words = self.chance.choice(("", "INTEGER", "OCTET", "OCTET STRING 0", "Integer 1", "NULL -", "Gauge -1"))
+        found = _WRITABLE.search(words)
+        if found:
+            self.accesses[name] = found[1], int(found[2]), int(found[3])
         return f"object {dotted(name)} {words}".rstrip(" ")
+
+    def set(self) -> str:
+        """A line that gives an object a value, mostly one that it takes."""
+        name = self.chance.choice([*self.accesses]) if self.accesses and self.chance.random() < 0.9 else self.name()
+        kind, least, most = self.accesses.get(name, ("", 0, 0))
+        value = self.value()
+        if kind == "number":
+            value = f"INTEGER {self.chance.choice((least, most, (least + most) // 2, least - 1, most + 1))}"
+        elif kind == "octets":
+            value = (
+                f"OCTET STRING {self.chance.randbytes(min(most, max(least, self.chance.choice(_SIZES)))).hex() or '-'}"
+            )
+        more = self.chance.choice((" 1", " ", " number 0 9", "  1")) if self.chance.random() < 0.05 else ""
+        return f"set {dotted(name)} {value}{more}"
 
     def published(self, count: int) -> list[str]:
         """Lines that publish so many objects, but for some that are refused."""
@@ -116,8 +168,10 @@ class Firmware:
             if name not in self.names:
                 self.names.append(name)
             return self.object(name)
-        if kind < 0.7:
+        if kind < 0.6:
             return f"no-object {dotted(self.name())}"
+        if kind < 0.75:
+            return self.set()
         if kind < 0.95:
             return "objects"
         return self.chance.choice(_WRONG) if kind < 0.99 or not self.has_fonts else "fonts"

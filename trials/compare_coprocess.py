@@ -6,8 +6,9 @@ Two pairs of a sign and a centre are spoken to, one of each kind. What a centre 
 sign replies to its centre, now and then changed in an octet; between them come ticks, power losses, commands, datagrams
 of vectors/ and lines that are none. Then as many lines go to signs that have up to 1,000 objects beside their own, and
 their fonts: objects are published and withdrawn, read, walked and set, by hostile requests too. Last the states that
-the signs were asked for are handed to both with --restore, as they are and changed, and those of the centre to the
-model. Each answer has to be the same. It prints what differs, and last `N passed, N failed`.
+the signs were asked for are handed to both with --restore, as they are and changed, with what was published beside them
+and what managers set there, and those of the centre to the model. Each answer has to be the same. It prints what
+differs, and last `N passed, N failed`.
 """
 
 import argparse
@@ -24,6 +25,7 @@ from wisangub.process.places import SIGNTOOL, TOP, program
 from . import agents, states
 
 _CHANGED = 20  # times that a state is changed
+Saved = tuple[str, tuple[str, ...]]  # a state, and the lines that published what was beside the sign
 _WORDS = [
     "tick",
     "ticks",
@@ -131,16 +133,17 @@ class AgentLines(Lines):
 class Pair:
     """The same end of the program and of the model."""
 
-    def __init__(self, end: str, processes: list[CoProcess]) -> None:
-        self.end, self.processes = end, processes
+    def __init__(self, end: str, processes: list[CoProcess], published: agents.Published) -> None:
+        self.end, self.processes, self.published = end, processes, published
         self.passed = self.failed = 0
-        self.saved = list[str]()  # states
+        self.saved = list[Saved]()
 
     def answers_to(self, line: str) -> list[str]:
         """The program's answer to a line, which has to be the model's."""
         answers = [process.send(line) for process in self.processes]
+        self.published.told(line, answers[0])
         if line == "save" and answers[0][-1] == "ok":
-            self.saved.append("".join(f"{one}\n" for one in answers[0][:-1]))
+            self.saved.append(("".join(f"{one}\n" for one in answers[0][:-1]), tuple(self.published.lines())))
         if answers[0] == answers[1]:
             self.passed += 1
         else:
@@ -162,7 +165,8 @@ def _begun(program: str, end: str, sign: str | None) -> CoProcess:
 
 
 def _begun_pair(program: str, end: str, sign: str | None) -> Pair:
-    return Pair(end, [_begun(one, end, sign) for one in (program, str(TOP / "model/signtool"))])
+    both = [_begun(one, end, sign) for one in (program, str(TOP / "model/signtool"))]
+    return Pair(end, both, agents.Published(False))
 
 
 def _to_both_ends(asked: argparse.Namespace) -> list[Pair]:
@@ -189,6 +193,7 @@ def _to_agents(asked: argparse.Namespace) -> list[Pair]:
         has_fonts = agents.has_fonts(pair.processes[0], size)
         if has_fonts:
             pair.processes[1].send("fonts")
+            pair.published.has_fonts = True
         chance = random.Random(asked.seed + size)
         firmware = agents.Firmware(chance, has_fonts)
         for line in firmware.published(size):
@@ -199,14 +204,18 @@ def _to_agents(asked: argparse.Namespace) -> list[Pair]:
     return pairs
 
 
-def _restored(asked: argparse.Namespace, saved: list[str]) -> tuple[int, int]:
+def _restored(asked: argparse.Namespace, saved: list[Saved]) -> tuple[int, int]:
     """States that go on, as they are and changed: how many did as the model, and how many did not."""
     description_of, chance = description.read(asked.sign), random.Random(asked.seed)
-    if saved and states.of_program(asked.signtool, description_of, f"{saved[0]}save\n") == ([], ""):
+    if saved and states.of_program(asked.signtool, description_of, f"{saved[0][0]}save\n") == ([], ""):
         print("skipped states: the program has no option --restore")
         return 0, 0
     some = chance.sample(saved, min(len(saved), asked.count // 50))
-    found = [one for text in some for one in states.compared(chance, asked.signtool, description_of, text, _CHANGED)]
+    found = [
+        fault
+        for text, published in some
+        for fault in states.compared(chance, asked.signtool, description_of, text, _CHANGED, published)
+    ]
     print("".join(f"{one}\n" for one in found), end="")
     return len(some) * (1 + _CHANGED) - len(found), len(found)
 
@@ -240,7 +249,7 @@ def main() -> int:
     for pair in pairs:
         pair.over()
     again = _restored(asked, sorted({one for pair in pairs for one in pair.saved if pair.end == "sign"}))
-    read = _read_back(asked, sorted({one for pair in pairs for one in pair.saved if pair.end == "centre"}))
+    read = _read_back(asked, sorted({one for pair in pairs for one, _ in pair.saved if pair.end == "centre"}))
     passed = sum(pair.passed for pair in pairs) + again[0] + read[0]
     failed = sum(pair.failed for pair in pairs) + again[1] + read[1]
     print(f"{passed} passed, {failed} failed")

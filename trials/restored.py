@@ -1,6 +1,6 @@
 """Signs and centres that are saved, and go on in another process: python3 -m trials.restored
 
-    python3 -m trials.restored [--signtool PATH] [--count 600] [--seed 1] [--sign FILE ..]
+    python3 -m trials.restored [--signtool PATH] [--count 600] [--states 40] [--changed 1] [--seed 1] [--sign FILE ..]
 
 Of each description (the bench sign, signs/roadside.sign and signs/gantry.sign where none is named) a sign and a centre
 are spoken to at random, as `trials.compare_coprocess` does. Now and then each is saved, and another process begins with
@@ -9,7 +9,13 @@ So it is with the model's centre, which begins in the states of the program's, a
 model's. A sign without power, one that validates a row and one that shows a message for a time are among those saved,
 and a centre with a request that waits, and with one that is due. Of some states of a centre each octet is changed, left
 out and doubled, and lines are exchanged: each such text is refused with a line, or is the state whose text it is.
-`trials.compare_coprocess` has changed texts of signs. It prints what differs, and last `N passed, N failed`.
+`trials.compare_coprocess` has changed texts of signs.
+
+Then so many --states of talks with signs that have objects beside their own, of each description: another process and
+the model go on from each, where the same is published, by a line `set` for each value that a manager set. Of --changed
+of them each octet of these lines is changed, left out and doubled, and lines are exchanged, left out and doubled: each
+is refused by its answer, or its value is what is saved, by the program as by the model. It prints what differs, and
+last `N passed, N failed`.
 """
 
 import argparse
@@ -25,7 +31,7 @@ from wisangub.process import description
 from wisangub.process.coprocess import CoProcess
 from wisangub.process.places import SIGNTOOL, TOP, program
 
-from . import centre_states
+from . import agent_states, centre_states
 from .compare_coprocess import Lines, datagrams
 
 _SIGNS = (None, str(TOP / "signs/roadside.sign"), str(TOP / "signs/gantry.sign"))
@@ -160,12 +166,24 @@ def _change(asked: argparse.Namespace, sign: str | None, counts: Counts, states:
                 counts.look(False, f"{sign}: {one}")
 
 
+def _with_objects(asked: argparse.Namespace, sign: str | None, counts: Counts) -> None:
+    """States of a sign with objects beside its own."""
+    trial = agent_states.Trial(asked.signtool, sign, asked.seed)
+    agent_states.tried(trial, asked.states, asked.changed)
+    counts.passed, counts.failed = counts.passed + trial.passed, counts.failed + trial.failed
+    counts.look(trial.sets > 0 or not asked.states, f"{sign}: no value was put back that a manager set")
+    counts.look(trial.taken > 0 or not asked.changed, f"{sign}: no changed text was taken")
+    print(f"{sign or 'the bench sign'}: {trial}", flush=True)
+
+
 def main() -> int:
     parser = argparse.ArgumentParser(description="ends that are saved and begun again, against those that go on")
     parser.add_argument(
         "--signtool", type=program, default=str(SIGNTOOL), help="the program signtool, as tools/build.py makes it"
     )
     parser.add_argument("--count", type=int, default=600, help="how many lines to each end, of each sign")
+    parser.add_argument("--states", type=int, default=40, help="how many of signs with objects, of each sign")
+    parser.add_argument("--changed", type=int, default=1, help="of how many of these lines are changed")
     parser.add_argument("--seed", type=int, default=1, help="of all that is random: the same again gives the same")
     parser.add_argument("--sign", nargs="*", help="descriptions, as in signs/; else three signs")
     asked = parser.parse_args()
@@ -176,6 +194,7 @@ def main() -> int:
     for sign in asked.sign or _SIGNS:
         states = _speak(asked, sign, counts, ("centre", "sign") if is_here else ("sign",))
         _change(asked, sign, counts, states, is_here)
+        _with_objects(asked, sign, counts)
     for kind in _KINDS:
         counts.look(counts.kinds[kind] > 0, f"no state was saved {kind}")
     print(f"{counts.passed} passed, {counts.failed} failed")

@@ -6,6 +6,7 @@ import io
 import random
 import re
 import subprocess
+from collections.abc import Sequence
 
 from model import coprocess, text
 from model.agent import Agent
@@ -75,13 +76,31 @@ def changed(chance: random.Random, octets: str) -> str:
     return "".join(f"{line}\n" for line in lines)
 
 
-def compared(chance: random.Random, program: str, description: bytes | None, octets: str, count: int) -> list[str]:
-    """What the program answers otherwise than the model, of a state that the program has, and of it so often
-    changed."""
+def _handed(octets: str, published: Sequence[str]) -> str:
+    """What is handed over with --restore, to be saved again: a state up to its first line `end`, lines that publish,
+    and what stands behind that line."""
+    end = re.search(r"(?m)^end\r?\n", octets)
+    at = end.end() if end else len(octets)
+    return octets[:at] + "".join(f"{line}\n" for line in published) + octets[at:] + "save\n"
+
+
+def compared(
+    chance: random.Random,
+    program: str,
+    description: bytes | None,
+    octets: str,
+    count: int,
+    published: Sequence[str] = (),
+) -> list[str]:
+    """What the program answers otherwise than the model, of a state that the program has, beside which is published
+    what was so there, and of it so often changed."""
     described = text.bench() if description is None else text.described(description)
     found, others = [], [octets, *(changed(chance, octets) for _ in range(count))]
+    lines = octets.splitlines()
+    again = ["ok"] * (len(published) + len(lines) - lines.index("end") - 1) + [*lines, "ok"]
     for other in others:
-        told, wanted = of_program(program, description, f"{other}save\n"), of_model(described, f"{other}save\n")
-        if told != wanted or other == octets and wanted != ([*octets.splitlines(), "ok"], ""):
-            found.append(f"state {other!r}: signtool {told}, the model {wanted}")
+        handed = _handed(other, published)
+        told, wanted = of_program(program, description, handed), of_model(described, handed)
+        if told != wanted or other == octets and wanted != (again, ""):
+            found.append(f"state {other!r} beside {published}: signtool {told}, the model {wanted}")
     return found

@@ -56,14 +56,14 @@ def _centre_lines(trial: Trial, count: int = _LINES) -> list[str]:
 
 def _object_lines(trial: Trial, count: int, has_fonts: bool) -> list[str]:
     """Objects that are published, withdrawn and set beside the sign's, where it is so its fonts' too, requests of all,
-    and what else happens."""
+    and what else happens; without lines `set`, in whose place the library puts back those of a whole state."""
     firmware = Firmware(trial.chance, has_fonts)
     requests = Requests(trial.chance.randrange(2**32), firmware)
     lines = [*(["fonts"] if has_fonts else []), *firmware.published(40)]
     for _ in range(count):
         kind = trial.chance.random()
         if kind < 0.3:
-            lines.append(firmware.line())
+            lines.append(next(line for line in iter(firmware.line, "") if not line.startswith("set ")))
         elif kind < 0.95:
             lines.append(f"datagram {requests.datagram().hex() or '-'}")
         else:
