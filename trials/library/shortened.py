@@ -18,8 +18,11 @@ from .objects import LEVEL, Manager, eventually, written_file
 from .trial import Trial
 
 _FIRST, _BOTH = b"state 1 sign", ("signd", "front end")
-_LINE = "object 1.3.6.1.4.1.1206.4.2.3.7.6.0 INTEGER 3 number 0 15"
-_SET = f"set {'.'.join(map(str, LEVEL))} INTEGER"
+_CONTACT = (1, 3, 6, 1, 2, 1, 1, 4, 0)
+_PUBLISHED = (
+    "object 1.3.6.1.4.1.1206.4.2.3.7.6.0 INTEGER 3 number 0 15",
+    "object 1.3.6.1.2.1.1.4.0 OCTET STRING - octets 0 9",
+)
 _OPTIONS = (
     (["--keep", "1x"], "--keep 1x is no size: a number of octets, perhaps with k or M behind it\n"),
     (["--keep", "0M"], "--keep 0M is no size: a number of octets, perhaps with k or M behind it\n"),
@@ -79,28 +82,38 @@ def _turns(trial: Trial, kinds: tuple[str, ...], is_killed: bool, is_linked: boo
     trial.check(f"{name}: replies", all(before), before)
 
 
+def _sets(turn: int) -> list[str]:
+    """What is told of a turn, and stands in the journal, in the order of names."""
+    return [
+        f"set {'.'.join(map(str, _CONTACT))} OCTET STRING {turn:02x}",
+        f"set {'.'.join(map(str, LEVEL))} INTEGER {turn + 4}",
+    ]
+
+
 def _with_objects(trial: Trial, kinds: tuple[str, ...]) -> None:
-    """What a manager set of an object is there behind a shortening, and told once. One that has no object now is kept
-    for later."""
+    """What a manager set of objects is there behind a shortening, and told once; by each kind it is the same records.
+    One that has no object now is kept for later."""
     name = f"shortened, objects, {' then '.join(kinds)}"
     path, journal = trial.folder / "short.objects", trial.folder / f"objects {len(kinds)} {kinds[0]}.journal"
     for turn, kind in enumerate(kinds):
-        written_file(path, _LINE)
+        written_file(path, *_PUBLISHED)
         front_end = FrontEnd(trial, kind, journal, "--objects", str(path))
         manager = Manager(front_end)
         if turn:
-            trial.same(f"{name}: told by {kind}", manager.told(1), [f"{_SET} {turn + 3}"])
+            trial.same(f"{name}: told by {kind}", manager.told(2), _sets(turn - 1))
             trial.same(f"{name}: there again", manager.value(LEVEL), (LEVEL, (wire.INTEGER, turn + 3)))
         trial.same(f"{name}: set", manager.set(LEVEL, (wire.INTEGER, turn + 4)), 0)
+        trial.same(f"{name}: set", manager.set(_CONTACT, (wire.OCTETS, bytes([turn]))), 0)
         _shortens(trial, front_end, journal)
-        trial.check(f"{name}: it is kept", f"{_SET} {turn + 4}".encode() in _lines(journal), _lines(journal))
+        kept = [line.decode() for line in _lines(journal) if line.startswith(b"set ")]
+        trial.same(f"{name}: what {kind} keeps", kept, _sets(turn))
         trial.same(f"{name}: it stays", manager.value(LEVEL), (LEVEL, (wire.INTEGER, turn + 4)))
         front_end.end(signal.SIGKILL)
         written_file(path, "object 1.3.8 Gauge 7")
         front_end = FrontEnd(trial, kind, journal, "--objects", str(path))
         _shortens(trial, front_end, journal)
         status, faults = front_end.end()
-        trial.check(f"{name}: without its object", status == 0 and front_end.more == b"", (status, faults))
+        trial.check(f"{name}: without its objects", status == 0 and front_end.more == b"", (status, faults))
 
 
 def _state(line: bytes, other: bytes) -> tuple[list[bytes], str]:
