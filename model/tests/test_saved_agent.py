@@ -1,5 +1,6 @@
 """The state of an agent of the model: what managers set is saved and put back, as the program's tests want it."""
 
+import random
 import re
 
 import pytest
@@ -11,6 +12,8 @@ from model.objects import DMS
 from model.saved import saved
 from model.saved_agent import parts, put_objects, saved_agent
 from model.state_text import Refused
+from trials.centre_states import others
+from wisangub.objects.lines import object_of
 
 from .program_texts import CRATES
 from .test_agent import DESCRIPTION, put
@@ -72,6 +75,29 @@ def test_a_line_that_says_no_value_changes_nothing(lines: bytes, why: str) -> No
     with pytest.raises(Refused, match=f"^{re.escape(why)}$"):
         put_objects(agent, lines)
     assert agent.device.objects == firmware().device.objects
+
+
+def test_a_changed_octet_is_refused_with_its_line_or_what_it_says_is_saved() -> None:
+    saved_one = firmware()
+    put(saved_one, (LEVEL, (wire.INTEGER, 15)), (CONTACT, (wire.OCTETS, b"noc")))
+    sign, objects = parts(lines_of(saved_one))
+    taken = refused = 0
+    for other in others(random.Random(1), objects):
+        agent, text_of = firmware(), sign + other
+        try:
+            put_objects(agent, text_of)
+        except Refused as fault:
+            assert sign.count(b"\n") < fault.line <= text_of.count(b"\n") + 1, other
+            assert agent.device.objects == firmware().device.objects, other
+            refused += 1
+            continue
+        said = [object_of(line.decode().split(" ")[1:]) for line in other.splitlines()]
+        values = {one.name: one.value for one in said}
+        for name, one in agent.device.objects.items():
+            assert one.value == (values[name] if one.by_manager else firmware().device.objects[name].value), other
+            assert one.by_manager == (name in values and one.access is not None and one.access.takes(values[name]))
+        taken += 1
+    assert taken > 50 and refused > 100
 
 
 def test_each_refusal_of_the_program_is_looked_at() -> None:
