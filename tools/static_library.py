@@ -5,8 +5,9 @@
 
 The code is for processors of the level x86-64-v2, and for any with --cpu x86-64; for ARM64 it is for any.
 The crates below are taken as tools/build.py or `rt ci` proved them, from the sources that stand here, so the crate
-alone is proved, in some minutes. Those of which no proof stands are proved first, as tools/build.py does it and where
-it finds them again. A library that was made from the same is taken as it is, in a second.
+alone is proved, in some minutes; where tools/prove.py left its verdict on it, it is compiled alone. Those of which no
+proof stands are proved first, as tools/build.py does it and where it finds them again. A library that was made from the
+same is taken as it is, in a second.
 
 With --standing no other crate is proved: where one lacks, nothing is built, a line `skipped libCRATE.a: why` says
 which, and the exit status is 3. So it is where there is no kit; but a library that is there is then taken unseen.
@@ -50,7 +51,8 @@ def libraries(mine: Proofs, wanted: set[str]) -> Iterator[Proofs]:
 def _built(library: Static, over: Proofs, processors: int) -> int:
     """Builds it over the crates below, and returns the status."""
     name, minutes = library.crate.name, library.crate.work * SECONDS_A_LINE / 60
-    print(f"proving {name}, in some {minutes:.0f} minutes", file=sys.stderr, flush=True)
+    how = "making it of the gate's verdict" if library.is_checked else f"proving it, in some {minutes:.0f} minutes"
+    print(f"{name}: {how}", file=sys.stderr, flush=True)
     ended = library.prove(over.room, max(1, min(MOST_JOBS, processors)))
     if ended.returncode:
         print(f"{ended.stdout[-_MOST_SHOWN:]}{ended.stderr[-_MOST_SHOWN:]}{name} is not built")

@@ -1,4 +1,5 @@
-"""Of `rt ci` the gate leaves out the edits of must-fail/, which are tried with all other wrong bodies."""
+"""Of `rt ci` the gate leaves out the edits of must-fail/, which are tried with all other wrong bodies, and keeps the
+verdicts on static libraries."""
 
 import pathlib
 
@@ -56,3 +57,40 @@ def test_of_a_kit_without_that_part_all_runs(
     said = capsys.readouterr()
     assert said.out == "ci dms_wire/must-fail/wrong.edit\n"
     assert "tries must-fail/ itself" in said.err
+
+
+CHECKS = """
+
+class Crate:
+    def __init__(self, name, is_static):
+        self.name, self.is_static = name, is_static
+
+    def prove(self, *commands):
+        print(self.name, *(" ".join(words) for words in commands), sep=": ")
+        return 1 if "fails" in self.name else 0
+
+
+def main(words):
+    check, build = ["check", "--jobs", "1"], ["build"]
+    return [
+        Crate("ffi", True).prove(check),
+        Crate("ffi's tests", True).prove([*check, "--test"]),
+        Crate("low", False).prove(build),
+        Crate("program", False).prove(check),
+        Crate("it fails", True).prove(check),
+    ][-1]
+"""
+
+
+def test_the_check_of_a_static_library_leaves_its_verdict(
+    tmp_path: pathlib.Path, monkeypatch: pytest.MonkeyPatch, capsys: pytest.CaptureFixture[str]
+) -> None:
+    assert run(kit(tmp_path, PROGRAM.partition("def main")[0] + CHECKS), monkeypatch) == 1
+    check = "check --jobs 1"
+    assert capsys.readouterr().out.splitlines() == [
+        f"ffi: {check} -o out/checked",
+        f"ffi's tests: {check} --test",
+        "low: build",
+        f"program: {check}",
+        f"it fails: {check} -o out/checked",
+    ]

@@ -3,6 +3,7 @@
 from __future__ import annotations
 
 import argparse
+import os
 import pathlib
 
 import pytest
@@ -12,16 +13,19 @@ from building import plan as planning
 from building.kit import Kit
 from building.plan import Plan
 from building.proofs import Proofs
-from building.static import Static
+from building.static import CHECKED, Static
 from tries.libraries import whole_plan
 
 ARM = "aarch64-unknown-linux-gnu"
 KIT = """#!/bin/sh
+is_checked=
+echo "$*" >> calls
 while [ $# != 0 ]; do
-    case $1 in -o) made=$2 ;; esac
+    case $1 in -o) made=$2 ;; --crate-checked) is_checked=1 ;; esac
     echo "$1" >> said
     shift
 done
+[ ! "$is_checked" ] || [ ! -e out/checked/of_others ] || exit 2
 [ ! -e fails ] && date +%N > "$made"
 """
 
@@ -119,6 +123,44 @@ def test_what_fails_leaves_the_last_library(plan: Plan, capsys: pytest.CaptureFi
     made = library.made.read_bytes()
     assert status() == 1 and library.made.read_bytes() == made
     assert capsys.readouterr().out.endswith("ffi is not built\n")
+
+
+def left_by_gate(plan: Plan, *names: str) -> None:
+    """A verdict on the crate with these files."""
+    folder = plan.crates["ffi"].folder / CHECKED
+    folder.mkdir(parents=True)
+    for name in ("verdict", *names):
+        (folder / name).touch()
+        os.utime(folder / name, (4e9, 4e9))  # later than its sources
+
+
+def calls_of(plan: Plan) -> list[str]:
+    return (plan.crates["ffi"].folder / "calls").read_text(encoding="utf-8").splitlines()
+
+
+def test_it_is_made_of_the_verdict_that_the_gate_left(plan: Plan) -> None:
+    library = Static(proved(plan, "low"), plan.crates["ffi"])
+    left_by_gate(plan)
+    assert status() == 0 and library.stands()
+    (call,) = calls_of(plan)
+    assert call.endswith("--crate-checked out/checked") and "--crate-type staticlib" in call
+    assert not any(word in call for word in ("--logic-built", "--jobs", "--incremental"))
+    assert status(target=ARM) == 0 and "--crate-checked" not in calls_of(plan)[-1]
+
+
+def test_a_verdict_on_other_files_is_not_taken(plan: Plan) -> None:
+    library = Static(proved(plan, "low"), plan.crates["ffi"])
+    left_by_gate(plan, "of_others")
+    assert status() == 0 and library.stands()
+    assert ["--crate-checked" in call for call in calls_of(plan)] == [True, False]
+    assert "--logic-built" in calls_of(plan)[-1] and "--incremental out/incremental" in calls_of(plan)[-1]
+
+
+def test_a_verdict_that_is_older_than_a_source_is_not_tried(plan: Plan) -> None:
+    proved(plan, "low")
+    left_by_gate(plan)
+    os.utime(plan.crates["low"].folder / "src/lib.rt", (5e9, 5e9))
+    assert status() == 0 and ["--crate-checked" in call for call in calls_of(plan)] == [False]
 
 
 def test_without_a_kit_what_is_there_is_taken(plan: Plan, capsys: pytest.CaptureFixture[str]) -> None:
