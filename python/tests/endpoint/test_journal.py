@@ -5,7 +5,7 @@ import functools
 import os
 import pathlib
 import tempfile
-from typing import Callable
+from typing import Callable, Iterator
 from unittest import mock
 
 from wisangub.endpoint import reading, records
@@ -104,9 +104,10 @@ def test_damage_that_is_accepted_is_put_aside() -> None:
         assert len(os.listdir(folder)) == 3
 
 
-def test_what_is_cut_off_is_on_the_disk_before_it_is_cut() -> None:
+@contextlib.contextmanager
+def noted(*names: str) -> Iterator[list[str]]:
+    """Which of these calls of the system are made, in their order."""
     done: list[str] = []
-    calls = ("fsync", "ftruncate", "write")
 
     def told(name: str, call: Callable[..., object]) -> Callable[..., object]:
         def telling(*words: object) -> object:
@@ -115,14 +116,27 @@ def test_what_is_cut_off_is_on_the_disk_before_it_is_cut() -> None:
 
         return telling
 
+    with contextlib.ExitStack() as stack:
+        for name in names:
+            stack.enter_context(mock.patch(f"os.{name}", told(name, getattr(os, name))))
+        yield done
+
+
+def test_what_is_cut_off_is_on_the_disk_before_it_is_cut() -> None:
     with tempfile.TemporaryDirectory() as folder:
         text = made(f"{folder}/journal")
         pathlib.Path(folder, "journal").write_bytes(text[:-3])
-        with contextlib.ExitStack() as stack:
-            for name in calls:
-                stack.enter_context(mock.patch(f"os.{name}", told(name, getattr(os, name))))
+        with noted("fsync", "ftruncate", "write") as done:
             assert kept(f"{folder}/journal") == LINES[:-1]
         assert done == ["write", "fsync", "fsync", "ftruncate", "fsync", "fsync"]
+
+
+def test_what_is_written_anew_is_on_the_disk_before_it_has_its_name() -> None:
+    with tempfile.TemporaryDirectory() as folder:
+        pathlib.Path(folder, "journal").write_bytes(older([HEAD.line(), NOW.start(), NOW.clock(), *LINES]))
+        with noted("fsync", "link", "rename", "write") as done:
+            assert kept(f"{folder}/journal") == LINES
+        assert done == ["write", "fsync", "link", "rename", "fsync"]
 
 
 def test_a_damaged_journal_of_a_centre_is_refused_since_its_numbers_are_not_known() -> None:
