@@ -17,6 +17,7 @@ static void whole(void)
 {
     clear();
     check("a new journal", lives("ttkhtkthth") == 0 && is_in("+ + ", handed));
+    check("a sync for its start, each datagram and its end", is_in("dddd", done));
     read_lines();
     check("its lines", is_in("\nticks 2\ndatagram 3000\nticks 1\ndatagram 3000\n", lines));
     check("and those after them", is_in("\nticks 1\nheard\nticks 1\nheard\nclock ", lines));
@@ -34,6 +35,7 @@ static void torn(void)
     size_t kept = size;
     write_file(path, octets, size - 5);
     check("a torn end", lives("k") == 0 && is_in("t4 ", handed) && !is_in("d ", handed));
+    check("is on the disk with its folder before it is cut", strcmp(done, "sscsssddd") == 0);
     check("is told", is_in("cut away, and kept as", said));
     check("is put aside", found_beside(".cut-*", handed) == 1 && strncmp(handed, "datagram 3001 #5 5 ", 19) == 0);
     read_lines();
@@ -123,6 +125,7 @@ static void older(void)
     lines[size] = '\0';
     write_file(beside(".new"), "a part", 6);
     check("a journal of form 1", lives("k") == 0 && is_in("t4 d ", handed) && is_in(".form1-2", said));
+    check("is on the disk, and the old one is kept, before it has its name", strcmp(done, "sllsrsssddd") == 0);
     check("is kept", found_beside(".form1*", handed) == 2 && is_in("a file", handed) && is_in(lines, handed));
     read_lines();
     check("is written anew", is_in(with(older_head + 10, "ticks 4\ndatagram 3001\nstart"), lines));

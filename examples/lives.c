@@ -10,6 +10,7 @@
 #include <string.h>
 #include <sys/resource.h>
 #include <sys/stat.h>
+#include <sys/syscall.h>
 #include <sys/wait.h>
 #include <unistd.h>
 
@@ -18,7 +19,7 @@
 #include "exchange.h"
 #include "records.h"
 
-char path[512], octets[LIVES_ROOM], lines[LIVES_ROOM], handed[LIVES_ROOM], said[LIVES_ROOM];
+char path[512], octets[LIVES_ROOM], lines[LIVES_ROOM], handed[LIVES_ROOM], said[LIVES_ROOM], done[LIVES_ROOM];
 size_t size;
 int failed;
 
@@ -29,7 +30,8 @@ const char state_text[] = "state 1 sign\nsilent 5\npowered 1\nend\n";
 void check(const char *what, int is_so)
 {
     if (!is_so) {
-        printf("%s\n--- lines:\n%.600s\n--- handed:\n%.600s\n--- said:\n%.600s\n", what, lines, handed, said);
+        printf("%s\n--- lines:\n%.600s\n--- handed:\n%.600s\n--- said:\n%.600s\n--- done:\n%.60s\n", what, lines, handed,
+               said, done);
         failed = 1;
     }
 }
@@ -146,6 +148,48 @@ void make_older(const char *from)
     write_file(path, octets, size);
 }
 
+/* ---- what a life does to the disk */
+
+static int noted = -1; /* where a life notes it */
+
+static void note(char call)
+{
+    if (noted >= 0) {
+        dprintf(noted, "%c", call);
+    }
+}
+
+/* These stand in place of the C library's. */
+int fsync(int file)
+{
+    note('s');
+    return (int)syscall(SYS_fsync, file);
+}
+
+int fdatasync(int file)
+{
+    note('d');
+    return (int)syscall(SYS_fdatasync, file);
+}
+
+int ftruncate(int file, off_t length)
+{
+    note('c');
+    return (int)syscall(SYS_ftruncate, file, length);
+}
+
+int link(const char *from, const char *to)
+{
+    note('l');
+    return linkat(AT_FDCWD, from, AT_FDCWD, to, 0);
+}
+
+int rename(const char *from, const char *to)
+{
+    note('r');
+    return renameat(AT_FDCWD, from, AT_FDCWD, to);
+}
+
 /* ---- lives */
 
 static struct power power;
@@ -223,10 +267,11 @@ static void step(struct journal *journal, char what, int to, double *up)
 }
 
 /* A life in a process of its own. */
-static void live(struct journal_asked asked, const char *steps, int to, int faults)
+static void live(struct journal_asked asked, const char *steps, int to, int faults, int calls)
 {
     static struct journal journal;
     double up = running();
+    noted = calls;
     dup2(faults, STDERR_FILENO);
     signal(SIGXFSZ, SIG_IGN);
     if (*steps == 'f' || *steps == 'F') {
@@ -257,21 +302,23 @@ static void drain(int from, char *to)
 
 int lived(struct journal_asked asked, const char *steps)
 {
-    int told[2], faults[2], status = 0;
-    if (pipe(told) != 0 || pipe(faults) != 0) {
+    int told[2], faults[2], calls[2], status = 0;
+    if (pipe(told) != 0 || pipe(faults) != 0 || pipe(calls) != 0) {
         perror("pipe");
         exit(1);
     }
     fflush(stdout);
     pid_t child = fork();
     if (child == 0) {
-        live(asked, steps, told[1], faults[1]);
+        live(asked, steps, told[1], faults[1], calls[1]);
     }
     close(told[1]);
     close(faults[1]);
+    close(calls[1]);
     waitpid(child, &status, 0);
     drain(told[0], handed);
     drain(faults[0], said);
+    drain(calls[0], done);
     return WIFEXITED(status) ? WEXITSTATUS(status) : -1;
 }
 

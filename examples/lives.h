@@ -8,8 +8,8 @@
 
 enum { LIVES_ROOM = 1 << 20, UNRECORDED = 7 };
 
-/* The journal's name; its octets; its lines; what a life handed over, and what it said. */
-extern char path[512], octets[LIVES_ROOM], lines[LIVES_ROOM], handed[LIVES_ROOM], said[LIVES_ROOM];
+/* The journal's name; its octets; its lines; what a life handed over, and what it said; what it did to the disk. */
+extern char path[512], octets[LIVES_ROOM], lines[LIVES_ROOM], handed[LIVES_ROOM], said[LIVES_ROOM], done[LIVES_ROOM];
 extern size_t size; /* of these octets */
 extern int failed;
 
@@ -52,7 +52,8 @@ void make_older(const char *from);
  * The exit status of a life; what was handed over, and what was said, stands in `handed` and `said`. A letter is a step:
  * a datagram is kept (k), a second passes (t) or a minute (m), a poll is heard (h), the disk is full (f), takes no octet
  * of any file (z) or has room again (r), the power goes (o), the journal is shortened (s), it is polled for long (p), it
- * ends at once (x). Where `f` comes first the disk is full from the start on, and so with `F` for each file.
+ * ends at once (x). Where `f` comes first the disk is full from the start on, and so with `F` for each file. `done` has
+ * the life's calls of fsync (s), fdatasync (d), ftruncate (c), link (l) and rename (r) in their order.
  */
 int lived(struct journal_asked asked, const char *steps);
 int lives(const char *steps);

@@ -47,6 +47,7 @@ static void in_place(void)
     char begun[512], state[32];
     clear();
     check("a journal is shortened", lives("tkhtks") == 0 && is_in("+ + = ", handed));
+    check("it is on the disk before it has its name", is_in("ddsrsd", done));
     read_lines();
     snprintf(begun, sizeof begun, "%s%s%sstart ", first, state_text, set);
     check("it begins with the state", strncmp(lines, begun, strlen(begun)) == 0 && !is_in("datagram", lines));
@@ -228,6 +229,7 @@ static void archived(void)
     (void)mkdir(beside(".kept"), 0700);
     for (int at = 0; at < 12; at++) {
         check("an archive", lives("ks") == 0 && is_in("+ = ", handed));
+        check("it is on the disk before the new file has its name", is_in("dslsrsd", done));
     }
     check("each old file", found_beside(".kept/journal.20*-*", handed) == 12 && count_in("\ndatagram 3000 ", handed) == 12);
     check("the last one", found_beside(".kept/journal.*-12", handed) == 1 && count_in("\nstate 1 sign ", handed) == 1);
