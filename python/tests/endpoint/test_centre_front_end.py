@@ -86,6 +86,30 @@ def test_a_reply_from_elsewhere_is_not_taken_and_told_once(
     centre.end()
 
 
+class Recorded(Listened):
+    """A co-process beside a journal: of each line that it is handed, what the journal has then."""
+
+    def __init__(self, path: pathlib.Path) -> None:
+        super().__init__()
+        self.path, self.handed, self.last = path, list[bytes](), list[bytes]()
+
+    def hand(self, lines: list[bytes]) -> list[bytes]:
+        self.handed += lines
+        self.last.append(self.path.read_bytes().splitlines()[-1].partition(b" #")[0])
+        return super().hand(lines)
+
+
+def test_each_line_is_recorded_before_it_is_handed_over(silent: socket.socket, tmp_path: pathlib.Path) -> None:
+    journal = Journal.opened(str(tmp_path / "journal"), Head("centre", "bench", 1))
+    centre = Recorded(tmp_path / "journal")
+    front_end = CentreFrontEnd(centre, silent, journal, None, 0.1, 1.0)
+    front_end.hand(BLANK)
+    assert not front_end.carry_on(0.5)
+    assert centre.handed == centre.last and centre.handed[:3] == [BLANK, b"tick", b"tick"]
+    journal.close()
+    centre.end()
+
+
 class Sign(BenchSign):
     """A bench sign; what it is asked with numbers below 0 it answers so."""
 
