@@ -255,6 +255,25 @@ static void zero_newline(void)
     }
 }
 
+/* What no record follows is one write at most. */
+static void long_tail(void)
+{
+    enum { WRITE_MOST = 1 << 20 };
+    static char large[TEXT_MOST + WRITE_MOST];
+    uint64_t found = 0;
+    begin();
+    memcpy(large, text, size);
+    memset(large + size, 'x', WRITE_MOST + 1);
+    size_t whole = records_whole(large, size + WRITE_MOST + 1, &found);
+    for (size_t more = 0; more < 2; more++) {
+        enum tail wanted = more == 0 ? TAIL_TORN : TAIL_DAMAGED;
+        enum tail tail = tail_of(large, size + WRITE_MOST + more, whole, found + 1);
+        if (tail != wanted || whole != size) {
+            wrong("a tail of more than a write", size + WRITE_MOST + more, (size_t)tail);
+        }
+    }
+}
+
 /* ---- journals of several ends */
 
 static void try_end(size_t datagrams, size_t most, int is_unsynced)
@@ -374,6 +393,7 @@ int main(int words, char **word)
     try_end(3, 40, 1);
     lost_sector();
     zero_newline();
+    long_tail();
     for (size_t times = 0; times < 20000; times += step) {
         silences();
     }
