@@ -179,7 +179,9 @@ static void full(void)
     check("each minute", lives("fmmm") == UNRECORDED && is_in("60 seconds", said) && is_in("180 seconds", said));
     check("needed", lived((struct journal_asked){.is_needed = 1}, "ft") == 1 && is_in("it is needed", said));
     size_t before = size;
-    check("polled for long", lives("kftpkrk") == 0 && is_in("+ - + ", handed));
+    int status = lives("kftpkrk");
+    check("polled for long, in the memory that it has", !is_in("grown ", handed));
+    check("polled for long", status == 0 && is_in("+ - + ", handed));
     read_lines();
     check("nothing grows", size < before + 10000);
     uint64_t seconds = 0;

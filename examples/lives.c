@@ -4,6 +4,7 @@
 #include <fcntl.h>
 #include <glob.h>
 #include <inttypes.h>
+#include <malloc.h>
 #include <signal.h>
 #include <stdio.h>
 #include <stdlib.h>
@@ -259,10 +260,12 @@ static void step(struct journal *journal, char what, int to, double *up)
     } else if (what == 'x') {
         _exit(0);
     } else if (what == 'p') {
+        size_t before = mallinfo2().uordblks;
         for (int times = 0; times < 5000; times++) {
             step(journal, 't', to, up);
             step(journal, 'h', to, up);
         }
+        dprintf(to, "%s", mallinfo2().uordblks > before ? "grown " : "");
     }
 }
 
