@@ -202,6 +202,21 @@ static void full_and_torn(void)
     check("until there is room", lives("k") == 0 && found_beside(".cut-*", handed) == 1);
 }
 
+/* Where no boot has an id, less time since it is another boot. */
+static void boots(void)
+{
+    static const struct {
+        struct moment last, now;
+        int is_same;
+    } rows[] = {
+        {{"one", 7, 9}, {"one", 8, 10}, 1}, {{"one", 7, 9}, {"one", 8, 3}, 1}, {{"one", 7, 9}, {"two", 8, 10}, 0},
+        {{"-", 7, 9}, {"-", 8, 9}, 1},      {{"-", 7, 9}, {"-", 8, 8}, 0},     {{"-", 7, 9}, {"one", 8, 10}, 0},
+    };
+    for (size_t at = 0; at < sizeof rows / sizeof *rows; at++) {
+        check("the same boot", is_same_boot(&rows[at].last, &rows[at].now) == rows[at].is_same);
+    }
+}
+
 /* What the time without a process was. */
 static void downs(void)
 {
@@ -249,6 +264,7 @@ int main(int count, char **words)
     older_ends();
     full();
     full_and_torn();
+    boots();
     downs();
     if (!failed) {
         puts("ok");
