@@ -22,7 +22,7 @@
 
 char path[512], octets[LIVES_ROOM], lines[LIVES_ROOM], handed[LIVES_ROOM], said[LIVES_ROOM], done[LIVES_ROOM];
 size_t size;
-int failed;
+int failed, killed_at;
 
 const char head[] = "journal 2 sign rules 1 description bench\nstart - 1795543676 1\nclock 1795543676 1\n";
 const char older_head[] = "journal 1 sign rules 1 description bench\nstart - 1795543676 1\nclock 1795543676 1\n";
@@ -153,9 +153,14 @@ void make_older(const char *from)
 
 static int noted = -1; /* where a life notes it */
 
+/* A life is killed before the call that is asked for. */
 static void note(char call)
 {
+    static int calls;
     if (noted >= 0) {
+        if (++calls == killed_at) {
+            _exit(KILLED);
+        }
         dprintf(noted, "%c", call);
     }
 }

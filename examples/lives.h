@@ -6,12 +6,13 @@
 
 #include "journal.h"
 
-enum { LIVES_ROOM = 1 << 20, UNRECORDED = 7 };
+enum { LIVES_ROOM = 1 << 20, UNRECORDED = 7, KILLED = 9 };
 
 /* The journal's name; its octets; its lines; what a life handed over, and what it said; what it did to the disk. */
 extern char path[512], octets[LIVES_ROOM], lines[LIVES_ROOM], handed[LIVES_ROOM], said[LIVES_ROOM], done[LIVES_ROOM];
 extern size_t size; /* of these octets */
 extern int failed;
+extern int killed_at; /* before which of the calls in `done`, from 1, a life is killed with that status; 0 for none */
 
 /* The first line of a journal, and its first two records of the time. */
 extern const char head[], older_head[];

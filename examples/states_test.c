@@ -222,6 +222,31 @@ static void refusing_disk(void)
     check("one of an earlier kill is", lives("sk") == 0 && is_in("= + ", handed) && found_beside(".new", handed) == 0);
 }
 
+/* Killed at any call there is one whole journal of the same sign, and what was answered is in it. */
+static void killed(int has_archive)
+{
+    int status = KILLED, states = 0;
+    for (int at = 1; status == KILLED; at++) {
+        clear();
+        if (has_archive) {
+            (void)mkdir(beside(".kept"), 0700);
+        }
+        make(with(head, "ticks 4\ndatagram 3001\n"));
+        killed_at = at;
+        status = lives("ks");
+        killed_at = 0;
+        size_t answered = count_in("+ ", handed), is_over = count_in("= ", handed);
+        check("a kill", status == KILLED || (status == 0 && is_over == 1));
+        check("is gone on from", lives("") == 0);
+        size_t datagrams = count_in("d ", handed), is_state = count_in("s36,1 ", handed);
+        check("to the lines or the state", is_state == 1 ? datagrams == 0 : is_over == 0 && is_in("t4 d ", handed));
+        check("with what was answered", is_state == 1 || datagrams > answered);
+        check("and shortened", lives("ks") == 0 && is_in("+ = ", handed) && found_beside(".new", handed) == 0);
+        states += is_state == 1;
+    }
+    check("a kill behind the new file's name", states > 1);
+}
+
 /* What is cut off is kept, once each. */
 static void archived(void)
 {
@@ -339,7 +364,9 @@ int main(int count, char **words)
     in_other_order();
     by_name();
     refusing_disk();
+    killed(0);
     archived();
+    killed(1);
     linked();
     ordered();
     if (!failed) {
