@@ -73,6 +73,7 @@ class Work:
     total: str  # a sum of all that its checks read
     known: list[Outcome]
     left: list[Edit]
+    checks: int = 0  # that were made
 
 
 @dataclass
@@ -113,8 +114,11 @@ class Run:
             return
         with tempfile.TemporaryDirectory(prefix="wrong-bodies-") as room:
             checker = Checker(self.plan, self.kit, work.crate, below, pathlib.Path(room))
+            is_same = True  # whether the files stand as they were when the sum was made, looked at after each check
             for outcome in tried(checker, work.left):
-                if outcome.is_refused and self.sum_of(work.crate) == work.total:
+                if checker.checks > work.checks:
+                    work.checks, is_same = checker.checks, self.sum_of(work.crate) == work.total
+                if outcome.is_refused and is_same:
                     self.kept.keep(self.name_of(work.total, outcome.edit), outcome.goals)
                 yield outcome
 
@@ -128,7 +132,7 @@ class Run:
             elif self.says_goals:
                 print(f"{work.crate.name}/{outcome.edit.name}: {'; '.join(dict.fromkeys(outcome.goals))}", flush=True)
         passed, kept = sum(one.is_refused for one in found), sum(one.is_kept for one in found)
-        words = f"{passed} of {len(found)} refused, {kept} of them by an earlier run"
+        words = f"{passed} of {len(found)} refused, {kept} of them by an earlier run, {work.checks} checks"
         print(f"{work.crate.name}: {words} ({time.monotonic() - begun:.0f} s)", file=sys.stderr, flush=True)
         return passed, len(found) - passed, kept
 
@@ -189,7 +193,7 @@ def main() -> int:
         with libraries(run.plan, names, asked.libraries, asked.jobs) as below:
             counts = run.side_by_side(works, below, asked.jobs)
         run.kept.shrink()
-        print(f"wrong bodies: {cost}", file=sys.stderr)
+        print(f"wrong bodies: {sum(work.checks for work in works)} checks, {cost}", file=sys.stderr)
     passed, failed, kept = (sum(column) for column in zip(*counts)) if counts else (0, 0, 0)
     if kept:
         print(f"{kept} of them were refused by an earlier run on this machine, over the same files")
