@@ -232,6 +232,18 @@ def test_a_text_is_published_once_for_a_key(tmp_path: pathlib.Path, where: str) 
     run(tmp_path, where, act)
 
 
+def test_what_is_no_text_is_refused(tmp_path: pathlib.Path, where: str) -> None:
+    async def act(bench: Bench, visitor: Visitors) -> None:
+        system = System(bench, visitor, "operator")
+        for wrong in ("A\0B", "A\ud800B"):
+            for said in ({"signs": [bench.one], "text": wrong}, {wrong: 1}, {"signs": [wrong]}, wrong):
+                assert (await system.post("/publish", said, "k1"))[0] == 400, said
+        said = {"signs": [bench.one], "text": r"\u0000"}  # a backslash and letters
+        assert (await system.post("/publish", said, "k1"))[0] in (202, 422)
+
+    run(tmp_path, where, act)
+
+
 def test_brightness_is_asked_for_once_for_a_key(tmp_path: pathlib.Path) -> None:
     async def act(bench: Bench, visitor: Visitors) -> None:
         bench.itself(bench.one)

@@ -2,6 +2,7 @@
 
 import contextlib
 import pathlib
+import re
 import socket
 import time
 import urllib.request
@@ -73,6 +74,47 @@ def test_who_is_slow_is_let_go(
         post = b"POST /login HTTP/1.1\r\nHost: a\r\nContent-Type: application/x-www-form-urlencoded\r\n"
         assert said(standing.port, post + b"Content-Length: 9\r\n\r\nname").startswith(b"HTTP/1.1 408")
     assert "Traceback" not in capfd.readouterr().err
+
+
+COOKIE = re.compile(rb"Set-Cookie: (before=[^;]+)")
+OWN_TOKEN = re.compile(rb'name="token" value="([0-9a-f]{64})"')
+
+
+def asked(port: int, first: bytes, body: bytes = b"", **headers: bytes) -> bytes:
+    """What comes back for a request of these octets, after which the connection ends."""
+    lines = [first + b" HTTP/1.1", b"Host: a", b"Connection: close", b"Content-Length: %d" % len(body)]
+    lines += [name.replace("_", "-").encode() + b": " + value for name, value in headers.items()]
+    return said(port, b"\r\n".join([*lines, b"", body]))
+
+
+def test_what_is_no_text_is_refused_and_told_nowhere(
+    tmp_path: pathlib.Path, monkeypatch: pytest.MonkeyPatch, capfd: pytest.CaptureFixture[str]
+) -> None:
+    monkeypatch.setattr(passwords, "COST", 2**4)
+    with pages(tmp_path) as standing:
+        form = asked(standing.port, b"GET /login")
+        cookie, token = COOKIE.search(form), OWN_TOKEN.search(form)
+        assert cookie is not None and token is not None
+        fields = b"name=%b&password=b&token=" + token[1]
+        kind = b"application/x-www-form-urlencoded"
+        own: dict[str, bytes] = {"Cookie": cookie[1], "Content_Type": kind}
+        requests: tuple[tuple[int, bytes, bytes, dict[str, bytes]], ...] = (
+            (200, b"GET /login", b"", {"Cookie": b'before="a.\xff"'}),
+            (303, b"GET /", b"", {"Cookie": b'login="a.\xff"'}),
+            (400, b"GET /?find=\xff", b"", {}),
+            (400, b"GET /login?next=%00", b"", {}),
+            (400, b"POST /login", fields % b"\xff", own),
+            (400, b"POST /login", fields % b"a%00", own),
+            (400, b"POST /login", fields % b"\\ud800", {**own, "Content_Type": kind + b"; charset=unicode_escape"}),
+            (403, b"POST /login", fields % b"a", {**own, "X_Token": b"\xff"}),
+            (403, b"POST /login", fields % b"a", {**own, "Origin": b"http://["}),
+            (401, b"GET /api/1/signs", b"", {"Authorization": b"Bearer \xff"}),
+            (404, b"GET /static/" + b"a" * 5000, b"", {}),
+        )
+        for status, first, body, headers in requests:
+            found = asked(standing.port, first, body, **headers)
+            assert found.startswith(b"HTTP/1.1 %d" % status), (first[:40], headers, found[:80])
+    assert "failed" not in capfd.readouterr().err
 
 
 def test_one_that_waits_gives_way(tmp_path: pathlib.Path, monkeypatch: pytest.MonkeyPatch) -> None:

@@ -2,6 +2,7 @@
 
 import asyncio
 import contextlib
+import errno
 import pathlib
 import traceback
 from dataclasses import dataclass
@@ -151,6 +152,7 @@ async def _limits(request: web.Request, handler: _Handler) -> web.StreamResponse
 async def _faults(request: web.Request, handler: _Handler) -> web.StreamResponse:
     """What went wrong, in words. A fault of the service is one line of the log, whatever was asked for."""
     try:
+        bodies.check_address(request)
         if request.can_read_body:
             await bodies.check(request, service_of(request).settings.patience.body)
         return await handler(request)
@@ -163,6 +165,8 @@ async def _faults(request: web.Request, handler: _Handler) -> web.StreamResponse
     except (Failed, Taken):
         return _refused(request, 503, "The database does not answer. What was asked for may not have been done.")
     except Exception as fault:
+        if isinstance(fault, OSError) and fault.errno == errno.ENAMETOOLONG:  # of a file below /static
+            return _refused(request, 404, _UNSAID[404])
         LOG.error(f"a page failed: {request.method} {request.match_info.route.resource}: {_placed(fault)}")
         return _refused(request, 500, "Something went wrong here. The service's log says what.")
 

@@ -1,12 +1,27 @@
-"""Bodies of requests: they come in time, and spell what they are said to spell, or the request is a bad one."""
+"""What requests say: addresses and bodies are text, and bodies come in time and spell what they are said to spell, or
+the request is a bad one."""
 
 import asyncio
 import json
-from typing import Any
+import re
+from typing import Any, Iterator
 
 from aiohttp import web
 
 FORM, JSON = "application/x-www-form-urlencoded", "application/json"
+_NO_TEXT = re.compile("[\0\ud800-\udfff]")
+
+
+def is_text(word: str) -> bool:
+    """Whether a word can stand on a page and in a table: it has no character of number 0, and no half of a pair, as
+    which octets are read that are no UTF-8."""
+    return not _NO_TEXT.search(word)
+
+
+def check_address(request: web.Request) -> None:
+    """Raises what answers 400 where the path or the query is no text."""
+    if not all(map(is_text, [request.path, *(word for pair in request.query.items() for word in pair)])):
+        raise web.HTTPBadRequest(text="This address is no text.")
 
 
 async def check(request: web.Request, seconds: float) -> None:
@@ -31,15 +46,24 @@ def _ended(answer: web.HTTPException) -> web.HTTPException:
 
 
 async def _is_spelled(request: web.Request) -> bool:
-    """Whether the body is what its type says. A character of number 0 stands in no form and in no table."""
+    """Whether the body is what its type says, and text."""
     try:
         if request.content_type == FORM:
-            return all("\0" not in word for word in await _words(request))
+            return all(map(is_text, await _words(request)))
         if request.content_type == JSON:
-            return "\0" not in json.dumps(json.loads(await request.text()), ensure_ascii=False)
+            return all(map(is_text, _strings(json.loads(await request.text()))))
     except (ValueError, LookupError, RecursionError):  # LookupError: of an encoding that there is not
         return False
     return False
+
+
+def _strings(value: Any) -> Iterator[str]:
+    """The strings of a value of JSON, and its names."""
+    if isinstance(value, str):
+        yield value
+    elif isinstance(value, (dict, list)):
+        for one in [*value, *(value.values() if isinstance(value, dict) else ())]:
+            yield from _strings(one)
 
 
 async def _words(request: web.Request) -> list[str]:

@@ -38,7 +38,7 @@ class Seal:
         self.prefix = "__Host-" if is_behind_tls else ""
 
     def _sum(self, use: str, value: str) -> str:
-        return hmac.new(self.key, f"{use} {value}".encode(), hashlib.sha256).hexdigest()
+        return hmac.new(self.key, _octets(f"{use} {value}"), hashlib.sha256).hexdigest()
 
     def set(self, response: web.StreamResponse, name: str, value: str, seconds: int) -> None:
         """A cookie with its signature: no script reads it, and no other site sends it."""
@@ -55,7 +55,7 @@ class Seal:
     def get(self, request: web.Request, name: str) -> str | None:
         """What a cookie says, if it was signed here."""
         value, dot, found = request.cookies.get(self.prefix + name, "").rpartition(".")
-        is_signed = bool(dot) and hmac.compare_digest(found.encode(), self._sum(name, value).encode())
+        is_signed = bool(dot) and _is_same(found, self._sum(name, value))
         return value if is_signed else None
 
     def drop(self, response: web.StreamResponse, name: str) -> None:
@@ -76,7 +76,7 @@ class Seal:
     def is_confirmation(self, word: str, login: str, shown: str) -> bool:
         """Whether the word was made for that."""
         nonce = word.partition(".")[0]
-        return bool(nonce) and hmac.compare_digest(word.encode(), self.confirmation(login, shown, nonce).encode())
+        return bool(nonce) and _is_same(word, self.confirmation(login, shown, nonce))
 
     async def is_own(self, request: web.Request, of: str) -> bool:
         """Whether a request comes from a page of ours that this cookie's holder was shown."""
@@ -84,13 +84,27 @@ class Seal:
         if found is None:
             held = (await request.post()).get(_FIELD, "")
             found = held if isinstance(held, str) else ""
-        return _is_same_site(request) and hmac.compare_digest(found.encode(), self.token(of).encode())
+        return _is_same_site(request) and _is_same(found, self.token(of))
+
+
+def _octets(word: str) -> bytes:
+    """The octets of what was sent, though it may be no UTF-8."""
+    return word.encode("utf-8", "surrogatepass")
+
+
+def _is_same(sent: str, own: str) -> bool:
+    """Whether what was sent is our own word, in a time that tells nothing of it."""
+    return hmac.compare_digest(_octets(sent), _octets(own))
 
 
 def _is_same_site(request: web.Request) -> bool:
     """Whether the browser does not say that another site's page asks."""
     origin = request.headers.get("Origin")
-    if origin is not None and urlsplit(origin).netloc != request.host:
+    try:
+        is_other = origin is not None and urlsplit(origin).netloc != request.host
+    except ValueError:  # no address
+        is_other = True
+    if is_other:
         return False
     return request.headers.get("Sec-Fetch-Site", "same-origin") in ("same-origin", "none")
 

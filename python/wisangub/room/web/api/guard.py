@@ -38,7 +38,7 @@ async def enter(request: web.Request, least: Role) -> None:
     service = service_of(request)
     word = request.headers.get("Authorization", "")
     address = address_of(request, service.settings.is_behind_tls)
-    if not word.startswith(_WORD):
+    if not word.startswith(_WORD) or not word.isascii():
         raise Wrong(401, "A request has a header Authorization: Bearer, with a token.")
     sent = word.removeprefix(_WORD).strip()
     found = await service.connections.run(lambda database: _holding(database, sent, address))
