@@ -139,9 +139,9 @@ class Bench:
 
 
 @contextlib.contextmanager
-def bench(*words: str, program: str = PROGRAM, ticks: bool = False) -> Iterator[Bench]:
+def bench(*words: str, program: str = PROGRAM, ticks: bool = False, sign: str = SIGN) -> Iterator[Bench]:
     """A front end; no second passes but by a button, where nothing else is said."""
-    call = [sys.executable, "-m", "wisangub.endpoint.sign", "--sign", SIGN, "--port", "0", "--page", "0"]
+    call = [sys.executable, "-m", "wisangub.endpoint.sign", "--sign", sign, "--port", "0", "--page", "0"]
     call += ["--signtool", program, *([] if ticks else ["--no-ticks"]), *words]
     process = subprocess.Popen(call, cwd=TOP, env=environment(), stdout=subprocess.PIPE, stdin=subprocess.DEVNULL)
     assert process.stdout is not None

@@ -1,15 +1,18 @@
 """What a sign's page shows: what is lit, whose it is, the table, and the last datagrams, as they come."""
 
 import json
+import os
+import pathlib
 from collections.abc import Iterator
 
 import pytest
 
 from wisangub.endpoint.page.exchanges import MOST
+from wisangub.process.places import TOP
 from wisangub.snmp import wire
 from wisangub.snmp.names import scalar
 
-from .bench import READER, Bench, Said, bench
+from .bench import READER, SIGN, Bench, Said, bench
 
 WIDTH = scalar("vmsSignWidthPixels")
 
@@ -105,3 +108,11 @@ def test_the_reader_alone_sees_the_same(one: Bench) -> None:
     found = one.reply()
     assert found is not None and found.status == wire.NO_SUCH_NAME
     one.shows("datagrams", "noSuchName")
+
+
+def test_a_name_that_is_no_utf_8_is_shown(tmp_path: pathlib.Path) -> None:
+    sign = tmp_path / os.fsdecode(b"\xff<b>.sign")
+    sign.write_bytes((TOP / SIGN).read_bytes())
+    with bench(sign=str(sign)) as other:
+        status, text, _ = other.asked("GET", "/", {})
+    assert status == 200 and "\\udcff&lt;b>.sign</title>" in text

@@ -128,7 +128,7 @@ class Handler(http.server.BaseHTTPRequestHandler):
         words = {"@TOKEN@": self.server.guard.token, "@RUN@": self.server.parts.run, "@TITLE@": title}
         for mark, word in words.items():
             text = text.replace(mark, word)
-        return text.encode()
+        return text.encode("utf-8", "backslashreplace")  # a file's name may be no UTF-8
 
     def events(self) -> None:
         """What changes, as it changes. A browser that takes nothing holds its own thread, and is let go in the end;
