@@ -26,9 +26,9 @@ class WholeFile:
         self._beside.unlink()
 
     def write(self, held: str | bytes) -> None:
-        """This text, as UTF-8, or these octets, in the place of those before. Raises OSError where they cannot be; then
-        those stand."""
-        octets = held.encode("utf-8") if isinstance(held, str) else held
+        """This text, as UTF-8, or these octets, in the place of those before; of a name that is no UTF-8 the escapes.
+        Raises OSError where they cannot be; then those stand."""
+        octets = held.encode("utf-8", "backslashreplace") if isinstance(held, str) else held
         if self._pipe is not None:
             self._pipe.write(octets)
             self._pipe.flush()

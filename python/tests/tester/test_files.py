@@ -132,6 +132,13 @@ def test_a_file_is_written_anew_under_its_name() -> None:
             raise AssertionError
 
 
+def test_what_is_no_utf_8_is_written_in_its_escapes() -> None:
+    with tempfile.TemporaryDirectory() as folder:
+        path = pathlib.Path(folder) / "report.html"
+        WholeFile(path).write(os.fsdecode(b"\xff.sign"))
+        assert path.read_bytes() == b"\\udcff.sign"
+
+
 def test_a_pipe_has_one_text_after_the_other() -> None:
     read, write = os.pipe()
     file = WholeFile(pathlib.Path(f"/proc/self/fd/{write}"))
