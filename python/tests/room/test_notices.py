@@ -7,9 +7,10 @@ import json
 import pathlib
 import socket
 import socketserver
+import ssl
 import threading
 import time
-from typing import Any, Iterator
+from typing import Any, Callable, Iterator
 
 import pytest
 
@@ -17,10 +18,13 @@ from wisangub.refusal import Refusal
 from wisangub.room import notices
 from wisangub.room.notices import Mail, Notices, Quiet, Settings, Webhook
 from wisangub.room.store import alarms
+from wisangub.room.store.alarms import Alarm
 from wisangub.room.store.readings import Said
 
+from . import needs
 from .people import person
 from .test_database import two_stores
+from .tls import certificate
 
 SIGN = "one"
 TOLD = "one: no reply"
@@ -32,6 +36,7 @@ class Server(socketserver.ThreadingTCPServer):
     allow_reuse_address = daemon_threads = True
     heard: list[Any]
     answer: Any = None
+    folder = pathlib.Path()  # of its certificate
 
     @property
     def port(self) -> int:
@@ -45,6 +50,10 @@ class Smtp(socketserver.StreamRequestHandler):
 
     def handle(self) -> None:
         self.wfile.write(b"220 here\r\n")
+        self.hear()
+
+    def hear(self) -> None:
+        """A message, after the first word."""
         said: list[str] = []
         while line := self.rfile.readline().decode().strip():
             verb = line[:4].upper()
@@ -56,6 +65,32 @@ class Smtp(socketserver.StreamRequestHandler):
             elif verb in ("MAIL", "RCPT"):
                 said.append(line.partition(":")[2])
             self.wfile.write(self.server.answer if verb == "RCPT" and self.server.answer else b"250 well\r\n")
+
+
+class StartTls(Smtp):
+    """The same, over TLS as soon as that is asked for."""
+
+    def handle(self) -> None:
+        self.wfile.write(b"220 here\r\n")
+        while self.rfile.readline().strip().upper() not in (b"STARTTLS", b""):
+            self.wfile.write(b"250-here\r\n250 STARTTLS\r\n")
+        self.wfile.write(b"220 go on\r\n")
+        self.go_on_over_tls(self.hear)
+
+    def go_on_over_tls(self, hear: Callable[[], None]) -> None:
+        """Hears the rest from who takes the server's certificate."""
+        context = ssl.SSLContext(ssl.PROTOCOL_TLS_SERVER)
+        context.load_cert_chain(self.server.folder / "certificate.pem", self.server.folder / "key.pem")
+        with contextlib.suppress(OSError), context.wrap_socket(self.request, server_side=True) as private:
+            self.rfile, self.wfile = private.makefile("rb"), private.makefile("wb", buffering=0)  # type: ignore
+            hear()
+
+
+class OverTls(StartTls):
+    """The same, over TLS from the beginning."""
+
+    def handle(self) -> None:
+        self.go_on_over_tls(super(StartTls, self).handle)
 
 
 class Hook(http.server.BaseHTTPRequestHandler):
@@ -147,6 +182,28 @@ def test_what_failed_is_tried_again_and_not_for_ever(where: str, capsys: pytest.
             later(store.database)
             teller.tell(store.database)
         assert store.database.run("SELECT tries FROM notices WHERE target = 'mail'") == [(alarms.TRIES,)]
+
+
+@pytest.mark.parametrize(("security", "kind"), [("starttls", StartTls), ("tls", OverTls)])
+def test_mail_goes_where_the_certificate_is_of_the_name(
+    tmp_path: pathlib.Path, monkeypatch: pytest.MonkeyPatch, security: str, kind: type[StartTls]
+) -> None:
+    needs.programs("openssl")
+    alarm = Alarm(1, 1, SIGN, "silent", "no reply", 0.0, None, None, None)
+    with standing(kind) as smtp:
+        smtp.folder = tmp_path
+
+        def tell(name: str, host: str) -> None:
+            """A server with a certificate of this name, which is trusted, is asked for by another one."""
+            monkeypatch.setenv("SSL_CERT_FILE", str(certificate(tmp_path, name)))
+            Mail(host, smtp.port, security, "control@example.org", ("duty@example.org",)).tell([alarm])
+
+        for name, host in (("localhost", "127.0.0.1"), ("elsewhere.example.org", "localhost")):
+            with pytest.raises(ssl.SSLCertVerificationError):
+                tell(name, host)
+        assert smtp.heard == []
+        tell("localhost", "localhost")
+        assert len(smtp.heard) == 1 and smtp.heard[0][-1] == TOLD
 
 
 def test_what_is_over_or_seen_is_not_told(where: str) -> None:

@@ -21,8 +21,8 @@ def openssl(*words: str, told: bytes = b"") -> bytes:
     return subprocess.run(["openssl", *words], input=told, capture_output=True, check=True).stdout
 
 
-def certificate(folder: pathlib.Path) -> pathlib.Path:
-    """A certificate of the example's name that nobody else has signed, and its key beside it."""
+def certificate(folder: pathlib.Path, name: str = NAME) -> pathlib.Path:
+    """A certificate of this name that nobody else has signed, and its key beside it."""
     made = folder / "certificate.pem"
     openssl(
         "req",
@@ -35,9 +35,9 @@ def certificate(folder: pathlib.Path) -> pathlib.Path:
         "-days",
         "1",
         "-subj",
-        f"/CN={NAME}",
+        f"/CN={name}",
         "-addext",
-        f"subjectAltName=DNS:{NAME}",
+        f"subjectAltName=DNS:{name}",
         "-keyout",
         str(folder / "key.pem"),
         "-out",

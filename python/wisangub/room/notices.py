@@ -92,18 +92,20 @@ class Mail:
         made["From"], made["To"] = self.sender, ", ".join(self.to)
         made["Subject"] = _line(found[0])[:120] if len(found) == 1 else f"{len(found)} alarms of signs"
         made.set_content("\n".join(map(_line, found)) + "\n")
-        kind = smtplib.SMTP_SSL if self.security == "tls" else smtplib.SMTP
-        server = kind(timeout=_PATIENCE)
+        context, server = ssl.create_default_context(), smtplib.SMTP(timeout=_PATIENCE)
+        if self.security == "tls":
+            server = smtplib.SMTP_SSL(timeout=_PATIENCE, context=context)  # which looks at no certificate by itself
+        setattr(server, "_host", self.host)  # whose certificate it has to be: `connect` by itself says nobody's
         try:
             with _limited(lambda: _cut(server), self.limit):
-                self._send(server, made)
+                self._send(server, context, made)
         finally:
             server.close()
 
-    def _send(self, server: smtplib.SMTP, made: email.message.EmailMessage) -> None:
+    def _send(self, server: smtplib.SMTP, context: ssl.SSLContext, made: email.message.EmailMessage) -> None:
         server.connect(self.host, self.port)
         if self.security == "starttls":
-            server.starttls(context=ssl.create_default_context())
+            server.starttls(context=context)
         if self.user:
             server.login(self.user, self.password)
         server.send_message(made)
