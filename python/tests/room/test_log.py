@@ -119,6 +119,7 @@ def test_plain_words_of_a_text_are_those_that_the_model_reads() -> None:
         words = "".join(chr(item[1]) if item[0] == "character" else apart.get(item[0], "") for item, _ in items)
         assert fault is None and plain_of(octets) == (words.strip(" /") or "nothing"), octets
     assert plain_of(b"[nl][np]") == "nothing" and plain_of(b"A[hcZZ]B[") == "AB"
+    assert plain_of(b"A[hcD800]B[hcdfff]C[hc0]D[hce000]") == "A B C D\ue000", "pages are UTF-8"
 
 
 def test_the_step_is_read_in_the_requests_that_go_out() -> None:

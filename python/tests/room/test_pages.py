@@ -247,6 +247,17 @@ def test_what_the_wall_says(tmp_path: pathlib.Path) -> None:
     run(tmp_path, str(tmp_path / "database"), act)
 
 
+def test_a_text_of_what_is_no_character_is_shown(tmp_path: pathlib.Path) -> None:
+    async def act(bench: Bench, visitor: Visitors) -> None:
+        bench.read(bench.one, text=b"ICE[hcD800]AHEAD".hex())
+        one = await bench.logged_in(visitor, "reader")
+        for path in ("/", f"/signs/{bench.one}", f"/signs/{bench.one}/shown"):
+            status, text = await one.get(path)
+            assert status == 200 and "ICE AHEAD" in text, path
+
+    run(tmp_path, str(tmp_path / "database"), act)
+
+
 def test_a_table_is_wanted(tmp_path: pathlib.Path) -> None:
     async def act(bench: Bench, visitor: Visitors) -> None:
         bench.table(bench.one)

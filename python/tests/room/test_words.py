@@ -22,7 +22,20 @@ NAMES = ("B300 east", "A9 gantry", "Stra\xdfe 7", "Fogelweide")
 OUTCOMES = ("accepted", "accepted", "refused 5", "failed at step 5: no reply", "withdrawn by zoe", None)
 PIECES = (
     *("FOG", "fog", "\xdcBER", "\xfcber", "Stra\xdfe", "2", "12", "KM", "x\xd7y", "ABCDEFGHIJKLMNOPQRSTUVWXYZ"),
-    *("[nl]", "[np2]", "[fo2]", "[hc4f]", "[hcdc]", "[hc0]", "[hc5b]", "[hc2013]", "[hc00414]", "[hc4x]", "[hc]"),
+    *(
+        "[nl]",
+        "[np2]",
+        "[fo2]",
+        "[hc4f]",
+        "[hcdc]",
+        "[hc0]",
+        "[hc5b]",
+        "[hc2013]",
+        "[hc00414]",
+        "[hc4x]",
+        "[hc]",
+        "[hcD800]",
+    ),
     *("[[", "]]", "[", "]", " ", "-", "\x01", "%", "'", '"'),
 )
 FINDS = (

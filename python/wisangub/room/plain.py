@@ -15,14 +15,16 @@ def counted(number: int, what: str) -> str:
 
 
 def _tag_of(body: bytes) -> str:
-    """What a tag shows: a break, or a character by its number; nothing for all others."""
+    """What a tag shows: a break, or a character by its number, a space where no text has that; nothing for all
+    others."""
     kind, rest = body[:2].lower(), body[2:]
     if kind != b"hc":
         return _BREAKS.get(kind, "")
     try:
-        return chr(int(rest[:4], 16))
+        found = chr(int(rest[:4], 16))
     except ValueError:
         return ""
+    return " " if found == "\0" or "\ud800" <= found <= "\udfff" else found
 
 
 def _pieces(text: bytes) -> Iterator[tuple[str, int]]:
