@@ -20,7 +20,7 @@ static char octets[ROOM]; /* one file at a time is written */
 /* The name of the file beside a journal: whether it has one. */
 static int name_beside(const struct place *place, char name[PATH_MAX])
 {
-    int size = snprintf(name, PATH_MAX, "%s.new", place->real);
+    int size = snprintf(name, PATH_MAX, "%s" NAME_BESIDE, place->real);
     errno = size < PATH_MAX ? 0 : ENAMETOOLONG;
     return size < PATH_MAX;
 }

@@ -50,6 +50,15 @@ int file_stands(int file, const struct place *place, off_t size)
     return is_named(file, place->real, &found) && found == size && (!is_linked || is_named(file, place->path, &found));
 }
 
+/* Refuses a name that another journal's front end takes for a file of its own, and so replaces. */
+static void look_at_name(const char *name, const char *path)
+{
+    size_t size = strlen(name), more = strlen(NAME_BESIDE);
+    if (size >= more && strcmp(name + size - more, NAME_BESIDE) == 0) {
+        refuse(path, " is no name of a journal: what ends in " NAME_BESIDE " is written beside one, and replaced");
+    }
+}
+
 /* Follows the path where it is a link: whether the file that it leads to is there. */
 static int followed(struct place *place)
 {
@@ -104,6 +113,7 @@ static int opened_once(const char *path, int *refused)
 
 int file_opened(struct place *place, int *refused)
 {
+    look_at_name(place->path, place->path);
     for (;;) {
         off_t size;
         int file = opened_once(place->path, refused);
@@ -112,6 +122,7 @@ int file_opened(struct place *place, int *refused)
         }
         lock(file, place->path);
         if (followed(place) && is_named(file, place->real, &size)) {
+            look_at_name(place->real, place->path);
             return file;
         }
         close(file);

@@ -13,6 +13,9 @@ struct place {
     char real[PATH_MAX];
 };
 
+/* The end of the name of a file that is written beside a journal and takes its place; no journal's name has it. */
+#define NAME_BESIDE ".new"
+
 /* Ends the process: what it was given is not in order; or what is on the disk is not known. */
 _Noreturn void refuse(const char *path, const char *why);
 _Noreturn void lose(const char *path, const char *why);

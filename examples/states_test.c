@@ -330,6 +330,19 @@ static void linked(void)
     clear();
 }
 
+/* No journal has the name of what is written beside one. */
+static void named_beside(void)
+{
+    char name[512];
+    snprintf(name, sizeof name, "%s", path);
+    look_beside(beside(".new"));
+    check("a name beside", lives("k") == 2 && is_in(" is no name of a journal", said) && access(path, F_OK) != 0);
+    write_file(path, "", 0);
+    look_beside(name);
+    check("a link to it", symlink(beside(".new"), path) == 0 && lives("k") == 2 && is_in(" is no name of a journal", said));
+    clear();
+}
+
 /* The order of names is that of their numbers. */
 static void ordered(void)
 {
@@ -368,6 +381,7 @@ int main(int count, char **words)
     archived();
     killed(1);
     linked();
+    named_beside();
     ordered();
     if (!failed) {
         puts("ok");

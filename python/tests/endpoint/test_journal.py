@@ -235,6 +235,23 @@ def test_another_file_is_refused_and_left_as_it_is() -> None:
         )
 
 
+def test_a_name_that_is_written_beside_a_journal_is_no_journals() -> None:
+    words = " is no name of a journal: what ends in .new is written beside one, and replaced"
+    with tempfile.TemporaryDirectory() as folder:
+        path, link = f"{folder}/journal.new", f"{folder}/link"
+        os.symlink(path, link)
+        for name in (path, link):
+            assert refused(lambda: kept(name)) == name + words
+        assert os.listdir(folder) == ["link"]
+        made(f"{folder}/journal")
+        os.rename(f"{folder}/journal", path)
+        for name in (path, link):
+            assert refused(lambda: kept(name)) == name + words
+        link = f"{folder}/link.new"
+        os.symlink(f"{folder}/journal", link)
+        assert refused(lambda: kept(link)) == link + words
+
+
 def test_what_differs_is_named() -> None:
     rows = [
         (Head("centre", "bench", 1), "its end is sign"),

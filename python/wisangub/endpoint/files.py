@@ -32,7 +32,10 @@ class Place(NamedTuple):
 
     @staticmethod
     def of(path: str) -> "Place":
-        return Place(path, os.path.realpath(path) if os.path.islink(path) else path)
+        place = Place(path, os.path.realpath(path) if os.path.islink(path) else path)
+        if any(name.endswith(NEW) for name in place):
+            raise Refusal(f"{path} is no name of a journal: what ends in {NEW} is written beside one, and replaced")
+        return place
 
 
 def refusal(fault: OSError, words: str = "", status: int = 2) -> Refusal:
