@@ -38,7 +38,7 @@ from wisangub.refusal import Refusal, status_of
 from .clock import Moment, running
 from .keeper import Keeper
 from .limit import MOST_RECORDED, Limit
-from .page.start import copy_of, watched
+from .page.start import copy_of, page_of, watched
 from .records import Head
 from .setting import MOST_NUMBER, begun, checked, journal_of, log_of, new, options, shortening_of
 from .sign_front_end import Heard, SignFrontEnd
@@ -106,7 +106,7 @@ def main() -> int:
     log, text = log_of(asked), description.read(asked.sign)
     firmware = firmware_of(asked, text, log)
     shortening = shortening_of(asked, "sign", text, log, firmware.lines if firmware else None)
-    with bound(asked.host, asked.port) as udp_socket:
+    with bound(asked.host, asked.port) as udp_socket, page_of(asked) as browsers:
         journal = journal_of(asked, Head("sign", description.digest(text))) if asked.journal else None
         if firmware and journal:
             firmware.sets = journal.sets
@@ -121,7 +121,7 @@ def main() -> int:
         if log:
             log.event("start", at, {"down": b", ".join(lines).decode()} if lines else {})
         who, limit = description.communities_of(text), Limit[Heard](asked.most_recorded)
-        with watched(asked, text, sign, copy, lines) as (watcher, page):
+        with watched(asked, text, sign, copy, lines, browsers) as (watcher, page):
             if not asked.quiet:
                 print_line(f"a sign at {named(at if ':' in at[0] else (asked.host, at[1]))}")
             if page and not asked.quiet:

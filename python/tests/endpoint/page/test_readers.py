@@ -1,13 +1,17 @@
-"""A browser that hangs does not hold the sign."""
+"""A browser that hangs does not hold the sign, and a page without a port does not begin one."""
 
 import pathlib
+import socket
 import statistics
+import subprocess
+import sys
 import time
 
 from wisangub.endpoint.page.server import MOST_AT_ONCE
+from wisangub.process.places import TOP, environment
 from wisangub.snmp.names import scalar
 
-from .bench import Bench, bench
+from .bench import PROGRAM, Bench, bench
 
 GETS = 500
 ROUNDS = 5
@@ -53,3 +57,17 @@ def test_more_requests_than_there_are_places_wait_for_nobody() -> None:
         assert sum(made.recv(1) == b"" for made in hung) == 5, "the last ones are let go at once"
         for made in hung:
             made.close()
+
+
+def test_a_start_whose_page_has_no_port_is_not_recorded(tmp_path: pathlib.Path) -> None:
+    journal = tmp_path / "journal"
+    with socket.create_server(("127.0.0.1", 0)) as other:
+        port = other.getsockname()[1]
+        call = [sys.executable, "-m", "wisangub.endpoint.sign", "--signtool", PROGRAM, "--port", "0"]
+        call += ["--page", str(port), "--journal", str(journal)]
+        ended = subprocess.run(
+            call, cwd=TOP, env=environment(), capture_output=True, text=True, timeout=60, check=False
+        )
+    assert (ended.returncode, ended.stdout) == (2, "")
+    assert ended.stderr == f"127.0.0.1:{port}: Address already in use\n"
+    assert not journal.exists()

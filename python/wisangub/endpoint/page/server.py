@@ -25,6 +25,7 @@ STATIC = pathlib.Path(__file__).with_name("static")
 SVG, PLAIN, JSON = "image/svg+xml", "text/plain; charset=utf-8", "application/json"
 FILES = {"/page.css": "text/css; charset=utf-8", "/page.js": "text/javascript; charset=utf-8", "/page.svg": SVG}
 MOST_AT_ONCE = 40  # requests; a page that listens is one
+MOST_WAITING = 64  # connections that are not taken yet
 MOST_BODY = 100  # octets of what is posted
 ROOM = 1 << 16  # octets that wait for a browser that listens
 LOOK = 0.25  # seconds from one look at what has changed to the next
@@ -32,21 +33,31 @@ SILENCE = 10.0  # seconds after which a browser that listens is told that the pa
 PATIENCE = 30.0  # seconds that a browser may take to ask, or to take what it is sent
 
 
+def listening(port: int) -> socket.socket:
+    """A socket at this port of loopback, where browsers wait until a server takes it; raises Refusal."""
+    made = socket.socket()
+    try:
+        made.setsockopt(socket.SOL_SOCKET, socket.SO_REUSEADDR, 1)
+        made.bind((HOST, port))
+        made.listen(MOST_WAITING)
+    except (OSError, OverflowError) as fault:
+        made.close()
+        raise Refusal(f"{HOST}:{port}: {getattr(fault, 'strerror', None) or fault}") from fault
+    return made
+
+
 class Server(socketserver.ThreadingTCPServer):
-    """Listens on loopback, as a context."""
+    """Takes what comes to a socket that listens, as a context."""
 
     daemon_threads = True
-    allow_reuse_address = True
-    request_queue_size = 64
 
-    def __init__(self, port: int, board: Board, lamps: Lamps, title: str) -> None:
+    def __init__(self, at: socket.socket, board: Board, lamps: Lamps, title: str) -> None:
         self.board, self.parts, self.title, self.is_over = board, Parts(board, lamps), title, False
         self.places = threading.BoundedSemaphore(MOST_AT_ONCE)
-        try:
-            super().__init__((HOST, port), Handler)
-        except (OSError, OverflowError) as fault:
-            raise Refusal(f"{HOST}:{port}: {getattr(fault, 'strerror', None) or fault}") from fault
-        self.port: int = self.server_address[1]
+        super().__init__(at.getsockname(), Handler, bind_and_activate=False)
+        self.socket.close()
+        self.socket = at
+        self.port: int = at.getsockname()[1]
         self.guard = Guard(self.port)
         threading.Thread(target=self.serve_forever, daemon=True).start()
 

@@ -5,6 +5,7 @@ from __future__ import annotations
 
 import argparse
 import contextlib
+import socket
 from collections.abc import Iterator
 from typing import TYPE_CHECKING
 
@@ -25,12 +26,30 @@ def copy_of(asked: argparse.Namespace, text: bytes | None, journal: Journal | No
 
 
 @contextlib.contextmanager
+def page_of(asked: argparse.Namespace) -> Iterator[socket.socket | None]:
+    """Where browsers find the page; None where none is asked for. A port that another one has is refused before a start
+    is recorded: else a start that is tried again and again would fill the journal."""
+    if asked.page is None:
+        yield None
+        return
+    from .server import listening
+
+    with listening(asked.page) as made:
+        yield made
+
+
+@contextlib.contextmanager
 def watched(
-    asked: argparse.Namespace, text: bytes | None, sign: CoProcess, copy: CoProcess | None, lines: list[bytes]
+    asked: argparse.Namespace,
+    text: bytes | None,
+    sign: CoProcess,
+    copy: CoProcess | None,
+    lines: list[bytes],
+    page: socket.socket | None,
 ) -> Iterator[tuple[Watcher, str]]:
     """Who watches the front end, and where a browser finds the page: nobody and nowhere, where none is asked for.
     `lines` told the sign what the time without a process was."""
-    if asked.page is None:
+    if page is None:
         yield Watcher(), ""
         return
     from .board import Board
@@ -41,7 +60,7 @@ def watched(
     reading = read_of(copy, who[0], lines) if copy else None
     is_heard = copy is None or any(line.startswith(b"power-back") for line in lines)
     board = Board(sign, who, reading, is_heard)
-    with Server(asked.page, board, Lamps(asked.signtool, text), asked.sign or "the bench sign") as server:
+    with Server(page, board, Lamps(asked.signtool, text), asked.sign or "the bench sign") as server:
         yield board, f"http://{HOST}:{server.port}/"
 
 
