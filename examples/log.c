@@ -8,22 +8,25 @@
 #include <stdio.h>
 #include <string.h>
 #include <sys/stat.h>
+#include <sys/statvfs.h>
 #include <time.h>
 #include <unistd.h>
 
 #include "sockets.h"
 
 enum { MODE = 0600, LINE = 2 * (DATAGRAM_MOST + 1) + NI_MAXHOST + 128 };
+enum { MILLION = 1000000, LEFT = 4 }; /* so many millions of octets of its disk a log leaves to a journal */
 
 void log_open(struct log *log, const char *path)
 {
     struct stat found;
+    int is_own = path != NULL && strcmp(path, "-") != 0;
     *log = (struct log){.path = path, .file = STDOUT_FILENO};
-    if (path == NULL || strcmp(path, "-") == 0) {
-        return;
+    if (is_own) {
+        log->file = had(open(path, O_WRONLY | O_CREAT | O_APPEND | O_CLOEXEC | O_NOCTTY, MODE), path);
     }
-    log->file = had(open(path, O_WRONLY | O_CREAT | O_APPEND | O_CLOEXEC | O_NOCTTY, MODE), path);
-    if (fstat(log->file, &found) == 0 && S_ISREG(found.st_mode)) {
+    log->is_on_disk = path != NULL && fstat(log->file, &found) == 0 && S_ISREG(found.st_mode);
+    if (is_own && log->is_on_disk) {
         had(fchmod(log->file, MODE), path);
     }
 }
@@ -66,29 +69,39 @@ static size_t put_octets(char *line, const uint8_t *octets, size_t size)
     return (size_t)(at - line);
 }
 
-/* Says that events are left out, or that they are written again. */
-static void tell(const struct log *log, int fault)
+/* Whether the disk has room for a log, of which whoever sends datagrams writes lines. */
+static int has_room(const struct log *log)
 {
-    if (fault != 0) {
-        fprintf(stderr, "the log %s is not written: %s\n", log->path, strerror(fault));
-    } else {
-        fprintf(stderr, "the log %s is written again, without %" PRIu64 " events\n", log->path, log->left_out);
+    struct statvfs found;
+    return !log->is_on_disk || fstatvfs(log->file, &found) != 0
+           || (uint64_t)found.f_bavail * found.f_frsize >= (uint64_t)LEFT * MILLION;
+}
+
+/* An event is left out, which is said of the first. */
+static void leave_out(struct log *log, const char *why)
+{
+    if (log->left_out++ == 0) {
+        fprintf(stderr, "the log %s is not written: %s\n", log->path, why);
     }
 }
 
 /* A line in one write, after a newline where the last one was written in part. */
 static void put(struct log *log, const char *line, size_t size)
 {
+    if (!has_room(log)) {
+        char why[64];
+        snprintf(why, sizeof why, "its disk has less than %d MB left", LEFT);
+        leave_out(log, why);
+        return;
+    }
     ssize_t written = write(log->file, log->is_torn ? line : line + 1, log->is_torn ? size : size - 1);
     if (written < 0) {
-        if (log->left_out++ == 0) {
-            tell(log, errno);
-        }
+        leave_out(log, strerror(errno));
         return;
     }
     log->is_torn = (size_t)written < (log->is_torn ? size : size - 1);
     if (log->left_out > 0 && !log->is_torn) {
-        tell(log, 0);
+        fprintf(stderr, "the log %s is written again, without %" PRIu64 " events\n", log->path, log->left_out);
         log->left_out = 0;
     }
 }

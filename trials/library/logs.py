@@ -9,6 +9,7 @@ import stat
 import time
 
 from model import codes, text, wire
+from trials.front_ends.disks import Mounted
 
 from .front_ends import MOST_REPLY, FrontEnd
 from .strangers import WAIT, request
@@ -89,7 +90,26 @@ def _unwritten(trial: Trial) -> None:
     trial.check("a folder is no log", status == 1 and str(trial.folder) in said, said)
 
 
+def _leaves_room(trial: Trial) -> None:
+    """A log leaves what is left of a small disk to the journal."""
+    mounted = Mounted(trial.folder / "mounted-log")
+    try:
+        if not mounted.is_there:
+            trial.skip("a log on a small disk", "no file system can be mounted")
+            return
+        path = mounted.folder / "log"
+        front_end = FrontEnd(trial, "signd", mounted.folder / "journal", "--log", str(path))
+        for number in range(3):
+            trial.check("a small disk: answered", bool(front_end.ask(request(wire.SET, _SIGN.writer, number).hex())))
+        status, faults = front_end.end()
+        is_said = faults.count(f"the log {path} is not written: its disk has less than 4 MB left") == 1
+        trial.check("a log on a small disk", status == 0 and is_said and path.stat().st_size == 0, faults)
+    finally:
+        mounted.end()
+
+
 def run(trial: Trial) -> None:
     _told(trial)
     _pictures(trial)
     _unwritten(trial)
+    _leaves_room(trial)

@@ -1,5 +1,6 @@
 """A disk that is full, or can only be read, at a start and while a front end runs."""
 
+import argparse
 import errno
 import os
 import pathlib
@@ -11,6 +12,7 @@ from wisangub.endpoint.clock import Moment
 from wisangub.endpoint.files import NotKept
 from wisangub.endpoint.journal import Journal
 from wisangub.endpoint.keeper import Keeper
+from wisangub.endpoint.log import LEAST_LEFT, Log
 from wisangub.endpoint.records import whole
 from wisangub.output import LOG
 
@@ -153,3 +155,29 @@ def test_a_folder_that_takes_no_file_lets_a_torn_end_be() -> None:
             journal.keep([b"tick"])
             journal.close()
             assert kept(str(path)) == [*LINES, b"tick"]
+
+
+def test_a_log_leaves_room_to_a_journal(tmp_path: pathlib.Path) -> None:
+    told: list[str] = []
+    path, left = tmp_path / "log", [LEAST_LEFT, LEAST_LEFT - 1, 0, LEAST_LEFT]
+
+    def disk_of(_: int) -> argparse.Namespace:
+        return argparse.Namespace(f_bavail=left.pop(0), f_frsize=1)
+
+    with mock.patch("os.fstatvfs", disk_of), mock.patch.object(LOG, "info", told.append):
+        log = Log(str(path), is_json=False)
+        for event in ("one", "two", "three", "four"):
+            log.event(event)
+    assert [line.split(" ")[2] for line in path.read_text(encoding="utf-8").splitlines()] == ["one", "four"]
+    assert told == [
+        f"the log {path} is not written: its disk has less than 4 MB left",
+        f"the log {path} is written again, without 2 events",
+    ]
+
+
+def test_a_log_that_is_no_file_of_a_disk_is_written() -> None:
+    read, write = os.pipe()
+    Log(f"/dev/fd/{write}", is_json=False).event("one")
+    assert os.read(read, 100).endswith(b" - one\n")
+    os.close(read)
+    os.close(write)

@@ -1,6 +1,7 @@
 """A line an event: with the time, the peer, and what was said in words."""
 
 import datetime
+import errno
 import json
 import os
 import stat
@@ -13,6 +14,16 @@ from wisangub.snmp.mib import Mib
 from .files import MODE
 from .sockets import Address, named
 
+LEAST_LEFT = 4_000_000  # octets of its disk that a log leaves to a journal: whoever sends datagrams writes lines of it
+
+
+def _is_on_disk(file: int) -> bool:
+    """Whether it is a file that takes room of a disk."""
+    try:
+        return stat.S_ISREG(os.fstat(file).st_mode)
+    except OSError:
+        return False
+
 
 def _file_of(path: str) -> int:
     """The file that is written to at its end; `-` is standard output."""
@@ -20,19 +31,27 @@ def _file_of(path: str) -> int:
         return 1
     try:
         file = os.open(path, os.O_WRONLY | os.O_CREAT | os.O_APPEND | os.O_CLOEXEC | os.O_NOCTTY, MODE)
-        if stat.S_ISREG(os.fstat(file).st_mode):
+        if _is_on_disk(file):
             os.fchmod(file, MODE)
     except OSError as fault:
         raise Refusal(reason(fault)) from fault
     return file
 
 
+def _look_at_disk(file: int) -> None:
+    """Raises OSError where the disk of this file has no room for a log."""
+    found = os.fstatvfs(file)
+    if found.f_bavail * found.f_frsize < LEAST_LEFT:
+        raise OSError(errno.ENOSPC, f"its disk has less than {LEAST_LEFT // 1_000_000} MB left")
+
+
 class Log:
-    """Where events are told, as text or as JSON. A log that cannot be written leaves events out, and says so once."""
+    """Where events are told, as text or as JSON. A log that cannot be written, or whose disk is nearly full, leaves
+    events out, and says so once."""
 
     def __init__(self, path: str, is_json: bool) -> None:
         self.path, self.file, self.is_json, self.mib = path, _file_of(path), is_json, Mib.read()
-        self.left_out = 0
+        self.is_on_disk, self.left_out = _is_on_disk(self.file), 0
         self.is_torn = self.is_given_up = False
 
     def datagram(self, event: str, peer: Address, octets: bytes) -> None:
@@ -51,6 +70,8 @@ class Log:
             return
         octets = b"\n" * self.is_torn + line.encode("utf-8", "backslashreplace") + b"\n"
         try:
+            if self.is_on_disk:
+                _look_at_disk(self.file)
             written = os.write(self.file, octets)
         except OSError as fault:
             if not self.left_out:
