@@ -46,7 +46,7 @@ set_append s xs ys = simp (given_append, codes_append)
 codes_empty : (f : Fallbacks) → f ≡ codes_by f []
 codes_empty f = refl
 
-set_empty : (s : SignSettings) → s ≡ set_by s []
+pub set_empty : (s : SignSettings) → s ≡ set_by s []
 unfolding set_by
 set_empty s = ap (λ (f : Fallbacks). record s { fallbacks = f }) (codes_empty s.fallbacks)
 

@@ -16,6 +16,7 @@ pub mod Sending
 pub mod Addressed
 pub mod Writes
 pub mod Causes
+pub mod Alone
 pub mod Assigned
 pub mod Activations
 pub mod Seconds

@@ -34,6 +34,7 @@ mod own_codes;
 mod parts;
 pub mod reply;
 pub(crate) mod restoring;
+mod set_one;
 mod set_request;
 mod typed;
 mod values;

@@ -22,6 +22,7 @@ ghost use Rattle.dms_sign.specs.SetRequest.{causes_at, causes, with_writes, assi
 ghost use Rattle.dms_sign.specs.SetView.{refusal_of, is_field, AreLeft, IsCommandInRange, Says, StaysWithout};
 ghost use Rattle.dms_sign.specs.State.{SignState};
 
+use crate::sign::set_one::only;
 use crate::sign::{Sign, judge, source_of};
 use dms_codes::{Activation, Ask, RowId, Status};
 use dms_face::Face;
@@ -41,16 +42,33 @@ pub(super) struct SetRefusal {
 /// What a SET that is not refused writes: the settings that it leaves, whether it writes fields, and its command with
 /// its index.
 #[derive(Clone, Copy)]
-struct Judged<'a> {
-    settings: SignSettings,
-    fields: bool,
-    index: u32,
-    command: Option<Change<'a>>,
+pub(super) struct Judged<'a> {
+    pub settings: SignSettings,
+    pub fields: bool,
+    pub index: u32,
+    pub command: Option<Change<'a>>,
 }
 
 impl Sign {
     /// Does a SET, or says why it is refused.
     pub(super) fn set(
+        &mut self,
+        may_write: bool,
+        binds: &Binds<'_>,
+    ) -> Result<Option<Activation>, SetRefusal>
+        requires few { length binds.now ≤ most_bindings }
+        requires limits { AreBindingsInLimits binds.now }
+        ensures after { self.new ≡ (set self.old may_write binds.now).after }
+        ensures says { Says result (set self.old may_write binds.now) }
+    {
+        match only(binds) {
+            Some(binding) => self.set_one(may_write, &binding, binds),
+            None => self.set_all(may_write, binds),
+        }
+    }
+
+    /// Does a SET of any number of bindings, or says why it is refused.
+    fn set_all(
         &mut self,
         may_write: bool,
         binds: &Binds<'_>,
@@ -112,7 +130,7 @@ impl Sign {
     }
 
     /// What the binding after the first `index` bindings writes, or the first thing that is wrong with it.
-    #[tactic(auto, unfolding(crate::specs::SetRequest::write_at))]
+    #[tactic(auto, using(crate::proofs::Alone::alone))]
     fn change_at<'a>(
         &self,
         may_write: bool,
@@ -132,6 +150,33 @@ impl Sign {
             (λ status. slice_get (causes_at self.now may_write (take index before.now) (var_bind binding.now)) 0
             ≡ Some (record { index = length (take index before.now) + 1; status = status })) }
     {
+        let change = match self.change_alone(may_write, binding) {
+            Ok(change) => change,
+            Err(status) => return Err(status),
+        };
+        if was_given(slots, &binding.name, before, index) {
+            return Err(ErrorStatus::GenErr);
+        }
+        if change.is_command() && commanded {
+            return Err(ErrorStatus::GenErr);
+        }
+        Ok(change)
+    }
+
+    /// What a binding writes, or the first thing that is wrong with it where none comes before it.
+    #[tactic(auto, unfolding(crate::specs::SetRequest::write_at))]
+    pub(super) fn change_alone<'a>(
+        &self,
+        may_write: bool,
+        binding: &Bind<'a>,
+    ) -> Result<Change<'a>, ErrorStatus>
+        ensures none { OnOk result (causes_at self.now may_write [] (var_bind binding.now) ≡ []) }
+        ensures change { IfOk result (λ change. write_at self.now (var_bind binding.now) ≡ Some (write_by change)) }
+        ensures number { IfOk result (λ change. IsChange change) }
+        ensures refusal { IfErr result
+            (λ status. slice_get (causes_at self.now may_write [] (var_bind binding.now)) 0
+            ≡ Some (record { index = 1; status = status })) }
+    {
         if !may_write {
             return Err(ErrorStatus::NoSuchName);
         }
@@ -141,12 +186,6 @@ impl Sign {
         let Some(change) = write_of(&self.face, instance, &binding.value) else {
             return Err(ErrorStatus::BadValue);
         };
-        if was_given(slots, &binding.name, before, index) {
-            return Err(ErrorStatus::GenErr);
-        }
-        if change.is_command() && commanded {
-            return Err(ErrorStatus::GenErr);
-        }
         if self.is_refused_field(&change) {
             return Err(ErrorStatus::GenErr);
         }
@@ -213,7 +252,7 @@ fn assign(settings: &mut SignSettings, change: &Change<'_>)
 
 impl Sign {
     /// Assigns the values and does the command, where there is one.
-    fn command(
+    pub(super) fn command(
         &mut self,
         judged: &Judged<'_>,
         binds: &Binds<'_>,

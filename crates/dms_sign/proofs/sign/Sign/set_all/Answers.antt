@@ -4,7 +4,7 @@ use Rattle.dms_sign.specs.Requests.{Answer}
 use Rattle.dms_sign_access.specs.ChangeView.{write_by}
 use Rattle.dms_sign.specs.SetView.{refusal_of, Says}
 use Rattle.dms_sign.proofs.Assigned.{command_in_range, set_commanded, set_refused}
-use Rattle.dms_sign.proofs.sign.Sign.set.Goals as goal
+use Rattle.dms_sign.proofs.sign.Sign.set_all.Goals as goal
 
 pub command-requires-clause-range : goal.command-requires-clause-range
 command-requires-clause-range c = grind (arith, command_in_range)
