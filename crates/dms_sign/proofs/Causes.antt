@@ -1,9 +1,9 @@
 -- The walk over the bindings of a SET: what they write up to an index, where none has a cause of a refusal.
-use Rattle.std.proofs.Common.{◌≡◌, ℕ, ◌+◌, ◌||◌, Bool, true, false, cond, List, [], ◌∷◌, ◌++◌, length, take, find, Option, Some, None, is_some, refl, sym, ap, ◌∙◌, arith}
+use Rattle.std.proofs.Common.{◌≡◌, ℕ, ◌+◌, ◌||◌, Bool, true, false, cond, ◌<◌, List, [], ◌∷◌, ◌++◌, map, get_or, length, take, find, Option, Some, None, is_some, refl, sym, ap, ◌∙◌, arith}
 use Rattle.std.specs.Prelude.{option_map, unwrap_or, slice_get}
 use Rattle.std.specs.List.{list_any, cons_option, position_from}
 use Rattle.std.proofs.Math.Seq.{take-append_seam}
-use Rattle.std.proofs.lemmas.List.{append_assoc, append-nil, length-append}
+use Rattle.std.proofs.lemmas.List.{append_assoc, append-nil, length-append, map-append, map_more}
 use Rattle.std.proofs.lemmas.Bool.{or_parts}
 use Rattle.dms_wire.specs.Message.{VarBind}
 use Rattle.dms_wire.specs.declared.error_status.ErrorStatus.{ErrorStatus}
@@ -13,8 +13,10 @@ use Rattle.dms_table.specs.Rows.{TableModel}
 use Rattle.dms_sign.specs.State.{SignState}
 use Rattle.dms_sign_access.specs.Access.{Write, is_command}
 use Rattle.dms_sign_access.specs.Assignment.{given}
+use Rattle.dms_sign_access.specs.declared.access.Change.{Change}
+use Rattle.dms_sign_access.specs.ChangeView.{write_by}
 use Rattle.dms_sign.specs.SetRequest.{SetCause, write_at, is_command_at, causes_at, causes_after, causes, with_write, with_writes}
-use Rattle.dms_sign.specs.SetView.{is_field, StaysWithout}
+use Rattle.dms_sign.specs.SetView.{is_field, AreKept, StaysWithout}
 use Rattle.dms_sign.specs.Requests.{writes_of, command_index}
 use Rattle.dms_sign_access.proofs.TakenSlots.{any_push}
 use Rattle.dms_sign_access.specs.Settings.{codes_by, set_by}
@@ -192,3 +194,28 @@ no_field table w e = grind arith
 pub stays_more : (s : SignState) (xs ys : List VarBind) (b : VarBind) (w : Write) (old new : Bool) → write_at s b ≡ Some w → xs ++ b ∷ [] ≡ ys
     → new ≡ (old || is_field w) → StaysWithout old s xs → StaysWithout new s ys
 stays_more s xs ys b w old new writes e n stays = grind (arith, or_parts, writes_append, with_writes_append, no_field)
+
+-- ---- the changes that are kept
+
+pub kept_starts : (s : SignState) (kept : List Change) (bs : List VarBind) → AreKept kept 0 s (take 0 bs)
+kept_starts s kept bs = λ few. refl
+
+pub kept_more : (s : SignState) (all : List VarBind) (old new : List Change) (index : ℕ) (b : VarBind) (change : Change)
+    → (index < 8 → take (index + 1) new ≡ take index old ++ change ∷ []) → write_at s b ≡ Some (write_by change)
+    → take index all ++ b ∷ [] ≡ take (index + 1) all → AreKept old index s (take index all) → AreKept new (index + 1) s (take (index + 1) all)
+kept_more s all old new index b change more writes next kept = λ few.
+    ap (map write_by) (more (omega (arith, few)))
+    ∙ map-append write_by (take index old) (change ∷ [])
+    ∙ ap (λ ws. ws ++ write_by change ∷ []) (kept (omega (arith, few)))
+    ∙ ap (λ o. writes_of s (take index all) ++ cons_option o []) (sym writes)
+    ∙ sym (writes_append s (take index all) (b ∷ []))
+    ∙ ap (writes_of s) next
+
+pub written_more : (initial table new : TableModel) (changes : List Change) (index : ℕ) (d change : Change) → index < length changes
+    → change ≡ get_or changes index d → table ≡ with_writes initial (map write_by (take index changes))
+    → new ≡ with_writes table (write_by change ∷ []) → new ≡ with_writes initial (map write_by (take (index + 1) changes))
+written_more initial table new changes index d change within there t n =
+    n ∙ ap (λ t. with_writes t (write_by change ∷ [])) t
+    ∙ sym (with_writes_append initial (map write_by (take index changes)) (write_by change ∷ []))
+    ∙ ap (λ x. with_writes initial (map write_by (take index changes) ++ write_by x ∷ [])) there
+    ∙ ap (with_writes initial) (sym (map_more write_by changes index d within))

@@ -1,9 +1,11 @@
 -- What the code answers to a SET; only proofs go through these (this profile).
-use Rattle.std.specs.Prelude.{◌≡◌, Bool, true, false, List, Option, None, Result, Ok, Err, ⊤}
+use Rattle.std.specs.Prelude.{◌≡◌, ◌≤◌, ℕ, Bool, true, false, List, map, take, Option, None, Result, Ok, Err, ⊤}
 use Rattle.dms_wire.specs.Message.{VarBind}
 use Rattle.dms_wire.specs.declared.error_status.ErrorStatus.TheVariants.{NoError}
 use Rattle.dms_codes.specs.declared.codes.Activation.{Activation}
 use Rattle.dms_sign_access.specs.declared.settings.SignSettings.{SignSettings}
+use Rattle.dms_sign_access.specs.declared.access.Change.{Change}
+use Rattle.dms_sign_access.specs.ChangeView.{write_by}
 use Rattle.dms_sign_access.specs.Settings.{set_by}
 use Rattle.dms_sign_access.specs.Access.{Write, SetNumber, SetCode, SetField, AskRow, Activate, SetRemaining}
 use Rattle.dms_sign.specs.declared.sign.set_request.SetRefusal.{SetRefusal}
@@ -41,6 +43,10 @@ is_field (SetRemaining minutes) = false
 -- where no field is written, the table stays
 abbrev pub StaysWithout : Bool → SignState → List VarBind → Type 0
 StaysWithout fields s bindings = fields ≡ false → with_writes s.table (writes_of s bindings) ≡ s.table
+
+-- what the bindings write was kept, where there are no more than eight
+abbrev pub AreKept : List Change → ℕ → SignState → List VarBind → Type 0
+AreKept kept count s bindings = count ≤ 8 → map write_by (take count kept) ≡ writes_of s bindings
 
 -- the settings are those that the bindings leave
 abbrev pub AreLeft : SignSettings → List VarBind → SignState → Type 0

@@ -39,8 +39,9 @@ impl Sign {
                 fields: false,
                 index: 1,
                 command: Some(change),
+                count: 1,
             };
-            self.command(&judged, binds)
+            self.command(&judged, None, binds)
         } else {
             self.assign_one(&change, binds);
             Ok(None)

@@ -1,8 +1,8 @@
 //! A SET: each binding is judged, in order; then its values are assigned at once, and its command is done. A command is
 //! judged on the state with the other values assigned; where it fails, nothing is assigned.
 
-ghost use Rattle.std.specs.Prelude.{◌≡◌, ◌≤◌, ◌+◌, ◌||◌, if◌then◌else◌, [], ◌∷◌, Some, None, true, false};
-ghost use Rattle.std.specs.Prelude.{length, take, find, option_map, slice_get, is_some};
+ghost use Rattle.std.specs.Prelude.{◌≡◌, ◌≤◌, ◌<◌, ◌+◌, ◌||◌, if◌then◌else◌, [], ◌∷◌, ◌++◌, Some, None, true, false};
+ghost use Rattle.std.specs.Prelude.{length, take, find, map, option_map, slice_get, is_some};
 ghost use Rattle.std.specs.Prelude.{IsSome, IfSome, IfOk, IfErr, OnOk};
 ghost use Rattle.std.specs.List.{list_any, cons_option};
 ghost use Rattle.dms_wire.specs.Limits.{AreBindingsInLimits, most_bindings};
@@ -19,7 +19,8 @@ ghost use Rattle.dms_sign.specs.Requests.{activated, with_remaining, writes_of, 
 ghost use Rattle.dms_sign.specs.Requests.{commanded, commanded_if, set};
 ghost use Rattle.dms_sign.specs.SetRequest.{settable_instance, write_at, is_command_at, is_refused_field};
 ghost use Rattle.dms_sign.specs.SetRequest.{causes_at, causes, with_writes, assigned};
-ghost use Rattle.dms_sign.specs.SetView.{refusal_of, is_field, AreLeft, IsCommandInRange, Says, StaysWithout};
+ghost use Rattle.dms_sign.specs.SetView.{refusal_of, is_field, AreKept, AreLeft, IsCommandInRange};
+ghost use Rattle.dms_sign.specs.SetView.{Says, StaysWithout};
 ghost use Rattle.dms_sign.specs.State.{SignState};
 
 use crate::sign::set_one::only;
@@ -39,15 +40,19 @@ pub(super) struct SetRefusal {
     pub status: ErrorStatus,
 }
 
-/// What a SET that is not refused writes: the settings that it leaves, whether it writes fields, and its command with
-/// its index.
+/// What a SET that is not refused writes: the settings that it leaves, whether it writes fields, its command with its
+/// index, and how many bindings it has.
 #[derive(Clone, Copy)]
 pub(super) struct Judged<'a> {
     pub settings: SignSettings,
     pub fields: bool,
     pub index: u32,
     pub command: Option<Change<'a>>,
+    pub count: u32,
 }
+
+/// What the first bindings of a SET write, kept while they are judged: where there are more, they are read again.
+type Kept<'a> = [Change<'a>; 8];
 
 impl Sign {
     /// Does a SET, or says why it is refused.
@@ -78,8 +83,9 @@ impl Sign {
         ensures after { self.new ≡ (set self.old may_write binds.now).after }
         ensures says { Says result (set self.old may_write binds.now) }
     {
-        match self.judged(self.settings, may_write, binds) {
-            Ok(judged) => self.command(&judged, binds),
+        let mut kept: Kept<'_> = [Change::Remaining(0); 8];
+        match self.judged(self.settings, may_write, binds, &mut kept) {
+            Ok(judged) => self.command(&judged, changes_of(&kept, judged.count), binds),
             Err(refusal) => Err(refusal),
         }
     }
@@ -90,11 +96,13 @@ impl Sign {
         settings: SignSettings,
         may_write: bool,
         binds: &Binds<'a>,
+        kept: &mut Kept<'a>,
     ) -> Result<Judged<'a>, SetRefusal>
         requires { length binds.now ≤ most_bindings }
         ensures none { OnOk result (causes self.now may_write binds.now ≡ []) }
         ensures settings { IfOk result (λ judged. judged.settings ≡ set_by settings (writes_of self.now binds.now)) }
         ensures fields { IfOk result (λ judged. StaysWithout judged.fields self.now binds.now) }
+        ensures kept { IfOk result (λ judged. AreKept kept.new judged.count self.now binds.now) }
         ensures command { IfOk result
             (λ judged. option_map write_by judged.command ≡ find is_command (writes_of self.now binds.now)) }
         ensures index { IfOk result (λ judged. judged.index ≡ command_index self.now binds.now) }
@@ -106,6 +114,7 @@ impl Sign {
             fields: false,
             index: 0,
             command: None,
+            count: 0,
         };
         let mut index = 0;
         let mut slots: Slots = [0; 16];
@@ -114,6 +123,7 @@ impl Sign {
             let commanded = judged.command.is_some();
             match self.change_at(may_write, binds, index, &slots, commanded, &binding) {
                 Ok(change) => {
+                    keep(kept, index, &change);
                     index += 1;
                     mark_name(&mut slots, &binding.name);
                     judged.note(index, change);
@@ -126,6 +136,7 @@ impl Sign {
                 }
             }
         }
+        judged.count = index;
         Ok(judged)
     }
 
@@ -241,6 +252,26 @@ impl<'a> Judged<'a> {
     }
 }
 
+/// Keeps what the binding after the first `index` bindings writes, where there is room.
+fn keep<'a>(kept: &mut Kept<'a>, index: u32, change: &Change<'a>)
+    ensures { index < 8 → take (index + 1) kept.new ≡ take index kept.old ++ change.now ∷ [] }
+{
+    if index < 8 {
+        kept[index as usize] = *change;
+    }
+}
+
+/// What so many bindings write, where all of it was kept.
+fn changes_of<'a, 'b>(kept: &'b Kept<'a>, count: u32) -> Option<&'b [Change<'a>]>
+    ensures { IfSome result (λ changes. (count ≤ 8) × (changes.now ≡ take count kept.now)) }
+{
+    if count <= 8 {
+        Some(&kept[..count as usize])
+    } else {
+        None
+    }
+}
+
 /// Assigns what a binding writes: out of line, so that the settings are copied as a whole.
 #[inline(never)]
 fn assign(settings: &mut SignSettings, change: &Change<'_>)
@@ -255,10 +286,12 @@ impl Sign {
     pub(super) fn command(
         &mut self,
         judged: &Judged<'_>,
+        changes: Option<&[Change<'_>]>,
         binds: &Binds<'_>,
     ) -> Result<Option<Activation>, SetRefusal>
         requires settings { AreLeft judged.now.settings binds.now self.old }
         requires fields { StaysWithout judged.now.fields self.old binds.now }
+        requires changes { IfSome changes (λ changes. map write_by changes.now ≡ writes_of self.old binds.now) }
         requires limits { AreBindingsInLimits binds.now }
         requires range { IfSome (option_map write_by judged.now.command) IsCommandInRange }
         ensures after { self.new ≡ (commanded_if self.old (assigned self.old (writes_of self.old binds.now)) binds.now
@@ -267,15 +300,15 @@ impl Sign {
             judged.now.index (option_map write_by judged.now.command)) }
     {
         match judged.command {
-            Some(Change::Ask(id, ask)) => self.ask_row(id, ask, judged, binds),
-            Some(Change::Activate(octets)) => self.activate(octets, judged, binds),
+            Some(Change::Ask(id, ask)) => self.ask_row(id, ask, judged, changes, binds),
+            Some(Change::Activate(octets)) => self.activate(octets, judged, changes, binds),
             Some(Change::Remaining(minutes)) => {
-                self.assign(judged, binds);
+                self.assign(judged, changes, binds);
                 self.set_remaining(minutes);
                 Ok(None)
             }
             _ => {
-                self.assign(judged, binds);
+                self.assign(judged, changes, binds);
                 Ok(None)
             }
         }
@@ -287,10 +320,12 @@ impl Sign {
         id: RowId,
         ask: Ask,
         judged: &Judged<'_>,
+        changes: Option<&[Change<'_>]>,
         binds: &Binds<'_>,
     ) -> Result<Option<Activation>, SetRefusal>
         requires settings { AreLeft judged.now.settings binds.now self.old }
         requires fields { StaysWithout judged.now.fields self.old binds.now }
+        requires changes { IfSome changes (λ changes. map write_by changes.now ≡ writes_of self.old binds.now) }
         requires limits { AreBindingsInLimits binds.now }
         ensures after { self.new ≡ (commanded self.old (assigned self.old (writes_of self.old binds.now)) binds.now
             judged.now.index (AskRow id ask)).after }
@@ -298,7 +333,7 @@ impl Sign {
             judged.now.index (AskRow id ask)) }
     {
         if self.takes(id, ask) {
-            self.assign(judged, binds);
+            self.assign(judged, changes, binds);
             self.ask(id, ask);
             Ok(None)
         } else {
@@ -330,10 +365,12 @@ impl Sign {
         &mut self,
         octets: [u8; 12],
         judged: &Judged<'_>,
+        changes: Option<&[Change<'_>]>,
         binds: &Binds<'_>,
     ) -> Result<Option<Activation>, SetRefusal>
         requires settings { AreLeft judged.now.settings binds.now self.old }
         requires fields { StaysWithout judged.now.fields self.old binds.now }
+        requires changes { IfSome changes (λ changes. map write_by changes.now ≡ writes_of self.old binds.now) }
         requires limits { AreBindingsInLimits binds.now }
         requires octets { AreOctets 12 octets }
         ensures after { self.new ≡ (commanded self.old (assigned self.old (writes_of self.old binds.now)) binds.now
@@ -352,7 +389,7 @@ impl Sign {
             &self.shown,
         ) {
             Ok(()) => {
-                self.assign(judged, binds);
+                self.assign(judged, changes, binds);
                 self.accept(&code, octets);
                 Ok(Some(code))
             }
@@ -391,17 +428,30 @@ impl Sign {
     }
 
     /// All values are assigned at once.
-    fn assign(&mut self, judged: &Judged<'_>, binds: &Binds<'_>)
+    fn assign(&mut self, judged: &Judged<'_>, changes: Option<&[Change<'_>]>, binds: &Binds<'_>)
         requires settings { AreLeft judged.now.settings binds.now self.old }
         requires fields { StaysWithout judged.now.fields self.old binds.now }
+        requires changes { IfSome changes (λ changes. map write_by changes.now ≡ writes_of self.old binds.now) }
         requires limits { AreBindingsInLimits binds.now }
         ensures { self.new ≡ assigned self.old (writes_of self.old binds.now) }
     {
-        if judged.fields {
-            self.assign_fields(judged.settings, binds);
-        } else {
+        if !judged.fields {
             self.assign_settings(judged.settings, binds);
+        } else if let Some(changes) = changes {
+            self.assign_kept(judged.settings, changes, binds);
+        } else {
+            self.assign_fields(judged.settings, binds);
         }
+    }
+
+    fn assign_kept(&mut self, settings: SignSettings, changes: &[Change<'_>], binds: &Binds<'_>)
+        requires settings { AreLeft settings binds.now self.old }
+        requires changes { map write_by changes.now ≡ writes_of self.old binds.now }
+        requires limits { AreBindingsInLimits binds.now }
+        ensures { self.new ≡ assigned self.old (writes_of self.old binds.now) }
+    {
+        write_changes(&mut self.table, changes);
+        self.settings = settings;
     }
 
     fn assign_fields(&mut self, settings: SignSettings, binds: &Binds<'_>)
@@ -421,6 +471,15 @@ impl Sign {
         ensures { self.new ≡ assigned self.old (writes_of self.old binds.now) }
     {
         self.settings = settings;
+    }
+}
+
+/// Writes the fields that these changes name.
+fn write_changes(table: &mut Table, changes: &[Change<'_>])
+    ensures { table.new ≡ with_writes table.old (map write_by changes.now) }
+{
+    for change in changes {
+        write_change(table, Some(*change));
     }
 }
 

@@ -4,8 +4,8 @@ use Rattle.dms_wire.specs.View.{var_bind}
 use Rattle.dms_sign_access.specs.Access.{is_command}
 use Rattle.dms_sign_access.specs.ChangeView.{write_by}
 use Rattle.dms_codes.proofs.Options.{is_some_mapped}
-use Rattle.dms_sign.proofs.Causes.{judged_starts, judged_more, judged_refused, judged_all, all_taken, stays_more}
-use Rattle.dms_sign.specs.SetView.{StaysWithout}
+use Rattle.dms_sign.proofs.Causes.{judged_starts, judged_more, judged_refused, judged_all, all_taken, stays_more, kept_more}
+use Rattle.dms_sign.specs.SetView.{AreKept, StaysWithout}
 use Rattle.dms_sign_access.specs.Slots.{AreTaken}
 use Rattle.dms_sign.proofs.Causes.{one_more}
 use Rattle.dms_sign.proofs.sign.Sign.judged.Goals as goal
@@ -33,6 +33,8 @@ loop-binding-preserved c =
       subst (AreTaken c.mark_name.new.slots) next (c.mark_name.ensures.taken (take index c.args.binds.now) b refl c.loop-binding.invariant.1),
       stays_more c.args.self.now (take index c.args.binds.now) (take (index + 1) c.args.binds.now) b w c.loop-binding.judged.fields
           c.note.new.self.fields c.in-Ok.ensures.change next c.note.ensures.fields c.loop-binding.invariant.2,
+      kept_more c.args.self.now c.args.binds.now c.loop-binding.kept c.keep.new.kept index b c.in-Ok.change c.keep.ensures c.in-Ok.ensures.change next
+          c.loop-binding.invariant.3,
     )
 
 pub returns-in-Err-clause-first : goal.returns-in-Err-clause-first
@@ -67,3 +69,10 @@ returns-clause-fields c =
     (all_taken c.args.self.now c.args.may_write c.args.binds.now c.args.settings c.loop-binding.index c.loop-binding.judged.settings
     c.loop-binding.judged.index (option_map write_by c.loop-binding.judged.command) c.loop-binding.rest c.loop-binding.invariant.0 c.in_default.ensures.steps.0)
     c.loop-binding.invariant.2
+
+pub returns-clause-kept : goal.returns-clause-kept
+returns-clause-kept c =
+    subst (AreKept c.loop-binding.kept c.loop-binding.index c.args.self.now)
+    (all_taken c.args.self.now c.args.may_write c.args.binds.now c.args.settings c.loop-binding.index c.loop-binding.judged.settings
+    c.loop-binding.judged.index (option_map write_by c.loop-binding.judged.command) c.loop-binding.rest c.loop-binding.invariant.0 c.in_default.ensures.steps.0)
+    c.loop-binding.invariant.3

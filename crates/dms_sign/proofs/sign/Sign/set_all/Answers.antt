@@ -1,4 +1,5 @@
-use Rattle.std.proofs.Common.{◌≡◌, None, refl, sym, subst, ap, ◌∙◌, arith}
+use Rattle.std.proofs.Common.{◌≡◌, None, map, refl, sym, subst, ap, ◌∙◌, arith}
+use Rattle.std.proofs.lemmas.Option.{IfSome_then}
 use Rattle.std.specs.Prelude.{option_map}
 use Rattle.dms_sign.specs.Requests.{Answer}
 use Rattle.dms_sign_access.specs.ChangeView.{write_by}
@@ -30,3 +31,7 @@ pub returns-in-Err-clause-says : goal.returns-in-Err-clause-says
 returns-in-Err-clause-says c =
     subst (λ (a : Answer). (a.status ≡ c.in-Err.refusal.status) × (a.index ≡ c.in-Err.refusal.index) × (a.accepted ≡ None))
     (sym (set_refused c.args.self.now c.args.may_write c.args.binds.now (refusal_of c.in-Err.refusal) c.in-Err.ensures.first)) (refl, refl, refl)
+
+pub command-requires-clause-changes : goal.command-requires-clause-changes
+command-requires-clause-changes c =
+    IfSome_then c.changes_of.result c.changes_of.ensures (λ changes are. ap (map write_by) are.1 ∙ c.in-Ok.ensures.kept are.0)
