@@ -1,9 +1,11 @@
-//! Tests of text, readers and writers, conversations, buffers, values as words, MULTI and fonts through their public
-//! calls.
+//! Tests of text, readers and writers, conversations, buffers, values as words, words in their only spelling, MULTI
+//! and fonts through their public calls.
 #![tactic(auto)]
 
 #[cfg(test)]
 mod conversations;
+#[cfg(test)]
+mod exact;
 #[cfg(test)]
 mod filling;
 #[cfg(test)]

@@ -7,7 +7,7 @@ use dms_text::Words;
 
 /// Four numbers with a dot between two.
 #[tactic(auto, unfolding(crate::specs::ValueReading::address_at))]
-pub(crate) fn address(word: &[u8]) -> Option<[u8; 4]>
+pub fn address(word: &[u8]) -> Option<[u8; 4]>
     ensures { result ≡ address_of word.now }
 {
     let (first, parts) = Words::split(word, b'.').octet(3, 0, u8::MAX)?;

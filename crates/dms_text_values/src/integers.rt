@@ -17,7 +17,8 @@ pub fn integer(words: Words<'_>) -> Option<(i64, Words<'_>)>
     Some((integer_of(word)?, rest))
 }
 
-fn integer_of(word: &[u8]) -> Option<i64>
+/// A number of one to ten decimal digits, perhaps with a `-` before them, from -2^31 to 2^32 - 1.
+pub fn integer_of(word: &[u8]) -> Option<i64>
     ensures value { result ≡ integer_of word.now }
     ensures range { IfSome result (λ z. in_range z ≡ true) }
 {

@@ -17,7 +17,8 @@ mod printing;
 mod type_word;
 mod values;
 
-pub use integers::integer;
+pub use addresses::address;
+pub use integers::{integer, integer_of};
 pub use names::{NameRead, name};
 pub use printing::put_value;
 pub use values::{ValueWords, value};
