@@ -1,15 +1,10 @@
 -- What reads a text's front: a reader reads what is spelled so, and nothing else.
-use Rattle.std.proofs.Common.{◌≡◌, ℕ, suc, ◌+◌, ◌==◌, ◌||◌, ltb, ◌⊎◌, Bool, true, false, cond, List, [], ◌∷◌, ◌++◌, length, get_or, take, drop, Option, Some, None, Result, Ok, Err, refl, sym, ap, subst, ◌∙◌, append_assoc, add-one, drop-cons, arith, inl, inr}
-use Rattle.std.specs.Prelude.{not}
-use Rattle.std.specs.List.{position_or_len, list_any}
-use Rattle.std.proofs.lemmas.Bool.{and_from, lt-ltb, eqb-true, eq-eqb}
-use Rattle.std.proofs.lemmas.List.{take_at, drop_at, take-append-drop, length-append}
-use Rattle.std.proofs.lemmas.List.Quantifiers.{position-Some}
-use Rattle.dms_text.specs.Words.{index_of}
-use Rattle.dms_text.specs.Reading.{same_octets}
-use Rattle.dms_text.proofs.WordLaws.{same_found}
+use Rattle.std.proofs.Common.{◌≡◌, ℕ, ◌⊎◌, List, [], ◌∷◌, ◌++◌, Option, Some, None, Result, Ok, Err, refl, sym, ap, subst, ◌∙◌, append_assoc, inl, inr}
+pub use Rattle.dms_text_exact.specs.Fronts.{IsFree}
+use Rattle.dms_text_exact.specs.Fronts.{behind, cut_at}
+use Rattle.dms_text_exact.proofs.FrontLaws.{behind_found, behind_only, cut_found, cut_only}
 use Rattle.dms_sign_state.specs.declared.field.Lack.{Lack}
-use Rattle.dms_sign_state.specs.WordReading.{◌>>=◌, Reader, or_lack, pair, made, starts_with, named_at, after, cut_at, ended}
+use Rattle.dms_sign_state.specs.WordReading.{◌>>=◌, Reader, or_lack, pair, made, named_at, after, ended}
 
 -- ---- steps
 
@@ -113,40 +108,17 @@ module _ {A B : Type 0} (sa : A → List ℕ) (ga : A → Type 0) (ra : Lack →
 
 -- ---- names
 
-same_only : (xs : List ℕ) → same_octets xs xs ≡ true
-same_only [] = refl
-same_only (x ∷ xs) = and_from _ _ (eq-eqb x x refl) (same_only xs)
-
-pub starts_found : (name text : List ℕ) → starts_with name text ≡ true → text ≡ name ++ drop (length name) text
-starts_found name text e =
-    sym (take-append-drop (length name) text) ∙ ap (λ front. front ++ drop (length name) text) (same_found (take (length name) text) name e)
-
-pub starts_only : (name rest : List ℕ) → starts_with name (name ++ rest) ≡ true
-starts_only name rest = ap (λ front. same_octets front name) (take_at name rest (length name) refl) ∙ same_only name
-
-cond_ok : {A : Type 0} (b : Bool) (lack : Lack) (x y : A) → cond b (Ok x) (Err lack) ≡ Ok y → (b ≡ true) × (x ≡ y)
-cond_ok true lack x y e = (refl, ok_is x y e)
-cond_ok false lack x y e = absurd cc
-
-cond_err : {A : Type 0} (b : Bool) (lack wrong : Lack) (x : A) → cond b (Ok x) (Err lack) ≡ Err wrong → wrong ≡ lack
-cond_err true lack wrong x e = absurd cc
-cond_err {A = A} false lack wrong x e = sym (err_is {A = A} lack wrong e)
-
 pub named_found : (name : List ℕ) (lack : Lack) (text rest : List ℕ) → named_at name lack text ≡ Ok rest → text ≡ name ++ rest
 unfolding named_at
-named_found name lack text rest e =
-    let is = cond_ok (starts_with name text) lack (drop (length name) text) rest e in
-    starts_found name text is.0 ∙ ap (λ rest. name ++ rest) is.1
+named_found name lack text rest e = behind_found name text rest (or_ok lack (behind name text) rest e)
 
 pub named_only : (name : List ℕ) (lack : Lack) (rest : List ℕ) → named_at name lack (name ++ rest) ≡ Ok rest
 unfolding named_at
-named_only name lack rest =
-    ap (λ b. cond b (Ok (drop (length name) (name ++ rest))) (failed lack)) (starts_only name rest)
-    ∙ ap (λ rest. done rest) (drop_at name rest (length name) refl)
+named_only name lack rest = ap (λ found. or_lack lack found) (behind_only name rest)
 
 pub named_lacks : (name : List ℕ) (lack wrong : Lack) (text : List ℕ) → named_at name lack text ≡ Err wrong → wrong ≡ lack
 unfolding named_at
-named_lacks name lack wrong text e = cond_err (starts_with name text) lack wrong (drop (length name) text) e
+named_lacks name lack wrong text e = or_err lack wrong (behind name text) e
 
 module _ {A : Type 0} (name : List ℕ) (sa : A → List ℕ) (ga : A → Type 0) (ra : Lack → Reader A) (one : IsRead sa ga ra) where
   after_found : (lack : Lack) (text : List ℕ) (x : A × List ℕ) → after name lack (ra lack) text ≡ Ok x → ga x.0 × (text ≡ (name ++ sa x.0) ++ x.1)
@@ -173,57 +145,6 @@ module _ {A : Type 0} (name : List ℕ) (sa : A → List ℕ) (ga : A → Type 0
 
 -- ---- words
 
--- no such octet is among them
-abbrev pub IsFree : ℕ → List ℕ → Type 0
-IsFree end word = list_any (λ octet. octet == end) word ≡ false
-
-first_at : (end : ℕ) (word rest : List ℕ) → IsFree end word → position_or_len (λ octet. octet == end) (word ++ end ∷ rest) ≡ length word
-first_at end [] rest free = ap (λ b. cond (not b) (1 + position_or_len (λ octet. octet == end) rest) 0) (eq-eqb end end refl)
-first_at end (x ∷ word) rest free = further (x == end) (list_any (λ octet. octet == end) word) (position_or_len (λ octet. octet == end) (word ++ end ∷ rest)) (length word) free (first_at end word rest)
-  where
-    further : (b free : Bool) (n k : ℕ) → (b || free) ≡ false → (free ≡ false → n ≡ k) → cond (not b) (1 + n) 0 ≡ suc k
-    further true free n k e is = absurd cc
-    further false free n k e is = omega (arith, is e)
-
-cut_of : (end : ℕ) (text : List ℕ) (index : ℕ) → index_of end text ≡ Some index → text ≡ (take index text ++ end ∷ []) ++ drop (index + 1) text
-cut_of end text index e =
-    let at = position-Some (λ octet. octet == end) text index 0 e in
-    let here : get_or text index 0 ≡ end = eqb-true (get_or text index 0) end at.1 in
-    sym (take-append-drop index text)
-    ∙ ap (λ rest. take index text ++ rest) (drop-cons text index 0 at.0 ∙ ap (λ octet. octet ∷ drop (suc index) text) here ∙ ap (λ k. end ∷ drop k text) (sym (add-one index)))
-    ∙ sym (append_assoc (take index text) (end ∷ []) (drop (index + 1) text))
-
-pub cut_found : (end : ℕ) (lack : Lack) (text : List ℕ) (cut : List ℕ × List ℕ) → cut_at end lack text ≡ Ok cut → text ≡ (cut.0 ++ end ∷ []) ++ cut.1
-unfolding cut_at
-cut_found end lack text cut e =
-    let first = bind_ok (or_lack lack (index_of end text)) (λ index. Ok (take index text, drop (index + 1) text)) cut e in
-    subst (λ (cut : List ℕ × List ℕ). text ≡ (cut.0 ++ end ∷ []) ++ cut.1) (ok_is (take first.0 text, drop (first.0 + 1) text) cut first.2)
-    (cut_of end text first.0 (or_ok lack (index_of end text) first.0 first.1))
-
-pub cut_only : (end : ℕ) (lack : Lack) (word rest : List ℕ) → IsFree end word → cut_at end lack ((word ++ end ∷ []) ++ rest) ≡ Ok (word, rest)
-unfolding cut_at
-cut_only end lack word rest free =
-    let text = word ++ end ∷ rest in
-    let size = length-append word (end ∷ rest) in
-    let found : index_of end text ≡ Some (length word) =
-    ap (λ n. cond (ltb n (length text)) (Some n) None) (first_at end word rest free)
-    ∙ ap (λ b. cond b (Some (length word)) None) (lt-ltb (length word) (length text) (omega (arith, size))) in
-    let past : drop (length word + 1) text ≡ rest =
-    ap (λ text. drop (length word + 1) text) (sym (append_assoc word (end ∷ []) rest))
-    ∙ drop_at (word ++ end ∷ []) rest (length word + 1) (omega (arith, length-append word (end ∷ []))) in
-    ap (λ text. cut_at end lack text) (append_assoc word (end ∷ []) rest)
-    ∙ goes_on (or_lack lack (index_of end text)) (λ index. Ok (take index text, drop (index + 1) text)) (length word) (ap (λ o. or_lack lack o) found)
-    ∙ ap (λ front. done (front, drop (length word + 1) text)) (take_at word (end ∷ rest) (length word) refl)
-    ∙ ap (λ rest. done (word, rest)) past
-
-pub cut_lacks : (end : ℕ) (lack wrong : Lack) (text : List ℕ) → cut_at end lack text ≡ Err wrong → wrong ≡ lack
-unfolding cut_at
-cut_lacks end lack wrong text e =
-    elim (bind_err (or_lack lack (index_of end text)) (λ index. Ok (take index text, drop (index + 1) text)) wrong e) [
-      | inl first ↦ or_err lack wrong (index_of end text) first
-      | inr x ↦ absurd (let never : Ok (take x.0 text, drop (x.0 + 1) text) ≡ failed {A = List ℕ × List ℕ} wrong = x.2 in cc)
-    ]
-
 -- a word that an octet ends which is not in it
 module _ {A : Type 0} (spelled : A → List ℕ) (Good : A → Type 0) (value : List ℕ → Option A) (end : ℕ)
     (found : (word : List ℕ) (a : A) → value word ≡ Some a → Good a × (word ≡ spelled a))
@@ -231,21 +152,26 @@ module _ {A : Type 0} (spelled : A → List ℕ) (Good : A → Type 0) (value : 
     (free : (a : A) → Good a → IsFree end (spelled a)) where
   ended_found : (lack : Lack) (text : List ℕ) (x : A × List ℕ) → ended value end lack text ≡ Ok x → Good x.0 × (text ≡ (spelled x.0 ++ end ∷ []) ++ x.1)
   ended_found lack text x e =
-      let cut = bind_ok (cut_at end lack text) (λ cut. or_lack lack (value cut.0) >>= λ x. Ok (x, cut.1)) x e in
+      let cut = bind_ok (or_lack lack (cut_at end text)) (λ cut. or_lack lack (value cut.0) >>= λ x. Ok (x, cut.1)) x e in
       let read = bind_ok (or_lack lack (value cut.0.0)) (λ x. Ok (x, cut.0.1)) x cut.2 in
       let is = found cut.0.0 read.0 (or_ok lack (value cut.0.0) read.0 read.1) in
-      subst (λ (x : A × List ℕ). Good x.0 × (text ≡ (spelled x.0 ++ end ∷ []) ++ x.1)) (ok_is (read.0, cut.0.1) x read.2)
-      (is.0, cut_found end lack text cut.0 cut.1 ∙ ap (λ word. (word ++ end ∷ []) ++ cut.0.1) is.1)
+      subst (λ (x : A × List ℕ). Good x.0 × (text ≡ (spelled x.0 ++ end ∷ []) ++ x.1)) (ok_is (read.0, cut.0.1) x read.2) (
+        is.0,
+        cut_found end text cut.0 (or_ok lack (cut_at end text) cut.0 cut.1) ∙ ap (λ word. word ++ end ∷ cut.0.1) is.1
+            ∙ sym (append_assoc (spelled read.0) (end ∷ []) cut.0.1),
+      )
 
   ended_only : (lack : Lack) (a : A) (rest : List ℕ) → Good a → ended value end lack ((spelled a ++ end ∷ []) ++ rest) ≡ Ok (a, rest)
   ended_only lack a rest good =
-      goes_on (cut_at end lack ((spelled a ++ end ∷ []) ++ rest)) (λ cut. or_lack lack (value cut.0) >>= λ x. Ok (x, cut.1)) (spelled a, rest) (cut_only end lack (spelled a) rest (free a good))
+      ap (λ text. ended value end lack text) (append_assoc (spelled a) (end ∷ []) rest)
+      ∙ goes_on (or_lack lack (cut_at end (spelled a ++ end ∷ rest))) (λ cut. or_lack lack (value cut.0) >>= λ x. Ok (x, cut.1)) (spelled a, rest)
+      (ap (λ found. or_lack lack found) (cut_only end (spelled a) rest (free a good)))
       ∙ goes_on (or_lack lack (value (spelled a))) (λ x. Ok (x, rest)) a (ap (λ o. or_lack lack o) (only a good))
 
   ended_lacks : (lack wrong : Lack) (text : List ℕ) → ended value end lack text ≡ Err wrong → wrong ≡ lack
   ended_lacks lack wrong text e =
-      elim (bind_err (cut_at end lack text) (λ cut. or_lack lack (value cut.0) >>= λ x. Ok (x, cut.1)) wrong e) [
-        | inl first ↦ cut_lacks end lack wrong text first
+      elim (bind_err (or_lack lack (cut_at end text)) (λ cut. or_lack lack (value cut.0) >>= λ x. Ok (x, cut.1)) wrong e) [
+        | inl first ↦ or_err lack wrong (cut_at end text) first
         | inr cut ↦
             elim (bind_err (or_lack lack (value cut.0.0)) (λ x. Ok (x, cut.0.1)) wrong cut.2) [
               | inl second ↦ or_err lack wrong (value cut.0.0) second

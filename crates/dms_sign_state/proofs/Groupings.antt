@@ -1,5 +1,5 @@
 -- The same text, its parts in other brackets.
-use Rattle.std.proofs.Common.{◌≡◌, ℕ, List, [], ◌++◌, append_assoc, append-nil}
+use Rattle.std.proofs.Common.{◌≡◌, ℕ, List, ◌++◌, append_assoc}
 
 pub of_number : (name space digits end : List ℕ) → name ++ (space ++ (digits ++ end)) ≡ name ++ space ++ digits ++ end
 of_number name space digits end = simp append_assoc
@@ -21,9 +21,6 @@ of_message s n t o b p r = simp append_assoc
 
 pub of_row : (name s number status rest : List ℕ) → name ++ (s ++ ((number ++ s) ++ ((status ++ s) ++ rest))) ≡ (name ++ s ++ number ++ s ++ status) ++ (s ++ rest)
 of_row name s number status rest = simp append_assoc
-
-pub of_address : (p n a b c d : List ℕ) → (a ++ p) ++ ((b ++ p) ++ ((c ++ p) ++ (d ++ n))) ≡ (a ++ ((p ++ b) ++ ((p ++ c) ++ ((p ++ d) ++ [])))) ++ n
-of_address p n a b c d = simp (append_assoc, append-nil)
 
 pub of_five : (a b c d e : List ℕ) → a ++ (b ++ (c ++ (d ++ e))) ≡ a ++ b ++ c ++ d ++ e
 of_five a b c d e = simp append_assoc

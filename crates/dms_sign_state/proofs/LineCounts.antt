@@ -2,7 +2,7 @@
 use Rattle.std.proofs.Common.{◌≡◌, ℕ, ◌+◌, ◌≤◌, ◌==◌, Bool, false, cond, List, [], ◌∷◌, ◌++◌, length, flat_map, codes, decimal, refl, ap, arith}
 use Rattle.std.specs.Prelude.{count_by}
 use Rattle.std.specs.List.{list_any, AllByRecursion}
-use Rattle.std.proofs.lemmas.Bool.{or_from, or_parts}
+use Rattle.std.proofs.lemmas.Bool.{or_parts}
 use Rattle.std.proofs.lemmas.List.Sums.{sum_by-cons, sum_by-append}
 use Rattle.dms_text_values.specs.ValueText.{octets_text}
 use Rattle.dms_face.specs.declared.defaults.Defaults.{Defaults}
@@ -12,9 +12,10 @@ use Rattle.dms_sign_state.specs.declared.number_settings.NumberSetting.{NumberSe
 use Rattle.dms_sign_state.specs.NumberSettings.{all_numbers, number_word, number_of, greatest_number, settings_lines}
 use Rattle.dms_sign_state.specs.Fields.{AreDefaults, AreFallbacks, AreSettings, IsCode}
 use Rattle.dms_sign_state.specs.FieldsText.{number_line, octets_line, colour_words, layout_words, time_words, defaults_words, fallbacks_text, setting_line, numbers_text, settings_text}
-use Rattle.dms_sign_state.proofs.Forms.{IsFree}
-use Rattle.dms_sign_state.proofs.HexWords.{octets_free}
-use Rattle.dms_sign_state.proofs.WordForms.{decimal_free}
+use Rattle.dms_text_exact.specs.Fronts.{IsFree}
+use Rattle.dms_text_exact.proofs.FrontLaws.{free_append}
+use Rattle.dms_text_exact.proofs.DigitLaws.{octets_free}
+use Rattle.dms_text_exact.proofs.NumberLaws.{decimal_free}
 
 abbrev is_end : ℕ → Bool
 is_end octet = octet == 10
@@ -38,12 +39,6 @@ none_in (octet ∷ word) free =
     let first : one_if (is_end octet) ≡ 0 = ap one_if parts.0 in
     omega (arith, sum_by-cons (λ octet. one_if (is_end octet)) octet word, first, none_in word parts.1)
 
-free_both : (one other : List ℕ) → Free one → Free other → Free (one ++ other)
-free_both [] other first second = second
-free_both (octet ∷ one) other first second =
-    let parts = or_parts (octet == 10) (list_any is_end one) first in
-    or_from (octet == 10) (list_any is_end (one ++ other)) parts.0 (free_both one other parts.1 second)
-
 one_line : (word : List ℕ) → Free word → lines (word ++ codes "\n") ≡ 1
 one_line word free =
     let last : lines (codes "\n") ≡ 1 = refl in
@@ -52,7 +47,7 @@ one_line word free =
 -- a space and a number behind others
 spaced : (words : List ℕ) (n : ℕ) → Free words → n ≤ 65535 → Free (words ++ codes " " ++ decimal n)
 spaced words n free small =
-    free_both (words ++ codes " ") (decimal n) (free_both words (codes " ") free refl) (decimal_free 10 n (omega arith) (omega (arith, small)))
+    free_append 10 (words ++ codes " ") (decimal n) (free_append 10 words (codes " ") free refl) (decimal_free 10 n (omega arith) (omega (arith, small)))
 
 number_is_one : (name : List ℕ) (n : ℕ) → Free name → n ≤ 65535 → lines (number_line name n) ≡ 1
 number_is_one name n free small = one_line (name ++ codes " " ++ decimal n) (spaced name n free small)
@@ -60,7 +55,7 @@ number_is_one name n free small = one_line (name ++ codes " " ++ decimal n) (spa
 code_is_one : (name : List ℕ) (size : ℕ) (octets : List ℕ) → Free name → IsCode size octets → lines (octets_line name octets) ≡ 1
 code_is_one name size octets free is =
     one_line ((name ++ codes " ") ++ octets_text octets)
-    (free_both (name ++ codes " ") (octets_text octets) (free_both name (codes " ") free refl) (octets_free 10 octets (omega arith) is.1))
+    (free_append 10 (name ++ codes " ") (octets_text octets) (free_append 10 name (codes " ") free refl) (octets_free 10 octets (omega arith) is.1))
 
 first_word : (n : ℕ) → n ≤ 255 → Free (codes " " ++ decimal n)
 first_word n small = decimal_free 10 n (omega arith) (omega (arith, small))

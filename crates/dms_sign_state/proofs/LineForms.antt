@@ -1,7 +1,6 @@
 -- The lines of fields.
-use Rattle.std.proofs.Common.{◌≡◌, ℕ, zero, suc, ◌<◌, ◌≤◌, ◌^◌, false, List, [], ◌∷◌, ◌++◌, length, get_or, decimal, codes, refl, sym, ap, ◌∙◌, append_assoc, arith, inl, inr}
+use Rattle.std.proofs.Common.{◌≡◌, ℕ, ◌<◌, ◌≤◌, ◌^◌, false, List, ◌++◌, decimal, codes, refl, sym, ap, ◌∙◌, append_assoc, arith, inl, inr}
 use Rattle.std.proofs.lemmas.Bool.{cases_eq}
-use Rattle.hex.specs.Hex.{IsBytes}
 use Rattle.dms_wire_ber.specs.NameText.{dotted}
 use Rattle.dms_text_values.specs.ValueText.{octets_text}
 use Rattle.dms_codes.specs.Limits.{longest_text, longest_owner}
@@ -17,10 +16,10 @@ use Rattle.dms_sign_state.specs.Fields.{MessageModel, UsedRow, AreDefaults, IsCo
 use Rattle.dms_sign_state.specs.FieldsText.{defaults_words, message_words, message_line, address_line, copied_line, row_line}
 use Rattle.dms_sign_state.specs.FieldFaults.{put_name, stored_name, most_rows}
 use Rattle.dms_sign_state.specs.WordReading.{Reader}
-use Rattle.dms_sign_state.specs.FieldReading.{number_line_at, code_line_at, defaults_of, defaults_at, defaults_line_at, message_of, message_at, message_line_at, used_status, status_at, row_of, row_at, address_of, address_at}
+use Rattle.dms_sign_state.specs.FieldReading.{number_line_at, code_line_at, defaults_of, defaults_at, defaults_line_at, message_of, message_at, message_line_at, used_status, status_at, row_of, row_at, address_at}
 use Rattle.dms_sign_state.proofs.Forms.{IsRead, pair_read, made_read, after_read}
-use Rattle.dms_sign_state.proofs.Groupings.{of_defaults, of_message, of_row, of_address}
-use Rattle.dms_sign_state.proofs.WordForms.{IsWithin, number_read, below_read, small_read, octets_read, code_read}
+use Rattle.dms_sign_state.proofs.Groupings.{of_defaults, of_message, of_row}
+use Rattle.dms_sign_state.proofs.WordForms.{IsWithin, number_read, below_read, small_read, octets_read, code_read, dotted_read}
 
 -- the same in another spelling
 module _ {A : Type 0} {spelled other : A → List ℕ} {Good : A → Type 0} {reader : Lack → Reader A} (one : IsRead spelled Good reader) (same : (a : A) → spelled a ≡ other a) where
@@ -94,8 +93,8 @@ unfolding message_at
 message_read =
     let space = small_read 32 (omega arith) in
     let numbers = pair_read _ _ _ _ _ _ space (pair_read _ _ _ _ _ _ space (small_read 10 (omega arith))) in
-    let owner = pair_read _ _ _ _ _ _ (octets_read longest_owner 32 (omega arith) (omega arith)) numbers in
-    made_read _ _ _ ended_message IsMessage message_of parts_of_message (pair_read _ _ _ _ _ _ (octets_read longest_text 32 (omega arith) (omega arith)) owner)
+    let owner = pair_read _ _ _ _ _ _ (octets_read longest_owner 32 (omega arith)) numbers in
+    made_read _ _ _ ended_message IsMessage message_of parts_of_message (pair_read _ _ _ _ _ _ (octets_read longest_text 32 (omega arith)) owner)
     (λ x good. (good, refl)) (λ m good. (good, refl, refl))
 
 words_of_message : (m : MessageModel) → codes " " ++ ended_message m ≡ message_words m
@@ -162,40 +161,7 @@ row_read stored least =
 
 -- ---- addresses
 
-pub bytes_cons : (b : ℕ) (rest : List ℕ) → b < 256 → IsBytes rest → IsBytes (b ∷ rest)
-bytes_cons b rest h hs zero = h
-bytes_cons b rest h hs (suc i) = hs i
-
-four_there : (x : ℕ × (ℕ × (ℕ × ℕ))) → (x.0 ≤ 255) × ((x.1.0 ≤ 255) × ((x.1.1.0 ≤ 255) × (x.1.1.1 ≤ 255))) → IsAddress (address_of x)
-four_there x good = (
-  refl,
-  bytes_cons x.0 (x.1.0 ∷ x.1.1.0 ∷ x.1.1.1 ∷ []) (omega (arith, good.0)) (bytes_cons x.1.0 (x.1.1.0 ∷ x.1.1.1 ∷ []) (omega (arith, good.1.0))
-      (bytes_cons x.1.1.0 (x.1.1.1 ∷ []) (omega (arith, good.1.1.0)) (bytes_cons x.1.1.1 [] (omega (arith, good.1.1.1)) (λ i. omega arith)))),
-)
-
-four_spelled : (a b c d : ℕ) → (decimal a ++ codes ".") ++ ((decimal b ++ codes ".") ++ ((decimal c ++ codes ".") ++ (decimal d ++ codes "\n"))) ≡ dotted (a ∷ b ∷ c ∷ d ∷ []) ++ codes "\n"
-four_spelled a b c d = of_address (codes ".") (codes "\n") (decimal a) (decimal b) (decimal c) (decimal d)
-
-abbrev four_of : List ℕ → ℕ × (ℕ × (ℕ × ℕ))
-four_of a = (get_or a 0 0, (get_or a 1 0, (get_or a 2 0, get_or a 3 0)))
-
-four_again : (a : List ℕ) → length a ≡ 4 → address_of (four_of a) ≡ a
-four_again [] four = absurd (omega (arith, four))
-four_again (a ∷ []) four = absurd (omega (arith, four))
-four_again (a ∷ b ∷ []) four = absurd (omega (arith, four))
-four_again (a ∷ b ∷ c ∷ []) four = absurd (omega (arith, four))
-four_again (a ∷ b ∷ c ∷ d ∷ []) four = refl
-four_again (a ∷ b ∷ c ∷ d ∷ e ∷ more) four = absurd (omega (arith, four))
-
-four_good : (a : List ℕ) → IsAddress a → (get_or a 0 0 ≤ 255) × ((get_or a 1 0 ≤ 255) × ((get_or a 2 0 ≤ 255) × (get_or a 3 0 ≤ 255)))
-four_good a good = (omega (arith, good.1 0), (omega (arith, good.1 1), (omega (arith, good.1 2), omega (arith, good.1 3))))
-
 pub address_read : (name : List ℕ) → IsRead (address_line name) IsAddress (address_at name)
 unfolding address_at
 address_read name =
-    let dot = small_read 46 (omega arith) in
-    let parts = pair_read _ _ _ _ _ _ dot (pair_read _ _ _ _ _ _ dot (pair_read _ _ _ _ _ _ dot (small_read 10 (omega arith)))) in
-    let whole = made_read _ _ _ (λ a. dotted a ++ codes "\n") IsAddress address_of four_of parts
-    (λ x good. (four_there x good, four_spelled x.0 x.1.0 x.1.1.0 x.1.1.1))
-    (λ a good. (four_good a good, ap (λ a. dotted a ++ codes "\n") (sym (four_again a good.0)) ∙ sym (four_spelled (get_or a 0 0) (get_or a 1 0) (get_or a 2 0) (get_or a 3 0)), four_again a good.0)) in
-    respelled (after_read name _ _ _ (after_read (codes "-address ") _ _ _ whole)) (λ a. sym (append_assoc name (codes "-address ") (dotted a ++ codes "\n")))
+    respelled (after_read name _ _ _ (after_read (codes "-address ") _ _ _ (dotted_read 10 (omega arith)))) (λ a. sym (append_assoc name (codes "-address ") (dotted a ++ codes "\n")))

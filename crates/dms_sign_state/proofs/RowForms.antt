@@ -12,7 +12,8 @@ use Rattle.dms_sign_state.specs.declared.field.Unread.TheVariants as unread
 use Rattle.dms_sign_state.specs.Fields.{UsedRow, IsUsedRow, AreUsedRows}
 use Rattle.dms_sign_state.specs.FieldsText.{row_line, row_lines}
 use Rattle.dms_sign_state.specs.FieldFaults.{stored_name, most_rows}
-use Rattle.dms_sign_state.specs.WordReading.{◌>>=◌, Reader, Fails, starts_with}
+use Rattle.dms_text_exact.specs.Fronts.{starts_with}
+use Rattle.dms_sign_state.specs.WordReading.{◌>>=◌, Reader, Fails}
 use Rattle.dms_sign_state.specs.FieldReading.{row_field, has_row, rows_at}
 use Rattle.dms_sign_state.proofs.Forms.{bind_ok, bind_err, goes_on, ok_is}
 use Rattle.dms_sign_state.proofs.LineForms.{row_read}

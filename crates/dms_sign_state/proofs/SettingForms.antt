@@ -15,12 +15,15 @@ use Rattle.dms_sign_state.specs.NumberSettings.{all_numbers, number_word, greate
 use Rattle.dms_sign_state.specs.Fields.{MessageModel, PutModel, AreDefaults, AreFallbacks, AreSettings, AreReports, IsCode, IsMessage, IsPut}
 use Rattle.dms_sign_state.specs.FieldsText.{message_line, address_line, number_line, part_line, octets_line, defaults_words, fallbacks_text, numbers_text, settings_text, source_line, copied_line, remaining_text, put_text, reports_text, powered_number}
 use Rattle.dms_sign_state.specs.FieldFaults.{Stands, NumberStands, CodeStands, put_name}
-use Rattle.dms_sign_state.specs.WordReading.{Reader, pair, made, starts_with}
+use Rattle.dms_text_exact.specs.Fronts.{starts_with}
+use Rattle.dms_text_exact.proofs.FrontLaws.{starts_only}
+use Rattle.dms_text_exact.proofs.DigitLaws.{bytes_more}
+use Rattle.dms_sign_state.specs.WordReading.{Reader, pair, made}
 use Rattle.dms_sign_state.specs.FieldReading.{number_field, code_field, defaults_field, message_field, address_field, number_line_at, code_line_at, fallbacks_of, fallbacks_at, setting_at, settings_at, number_at, remaining_at, put_of, put_at, reports_of, verdicts_at, reports_at, powered_at}
-use Rattle.dms_sign_state.proofs.Forms.{IsRead, bind_ok, bind_err, goes_on, ok_is, starts_only}
+use Rattle.dms_sign_state.proofs.Forms.{IsRead, bind_ok, bind_err, goes_on, ok_is}
 use Rattle.dms_text_values.specs.ValueText.{octets_text}
 use Rattle.dms_sign_state.proofs.Groupings.{of_number, of_part, of_part_begun, of_five, of_six, of_reports}
-use Rattle.dms_sign_state.proofs.LineForms.{respelled, number_line_read, code_line_read, set_defaults_read, copied_read, message_line_read, address_read, bytes_cons}
+use Rattle.dms_sign_state.proofs.LineForms.{respelled, number_line_read, code_line_read, set_defaults_read, copied_read, message_line_read, address_read}
 use Rattle.dms_sign_state.proofs.FieldForms.{Stops, Reads, Any, field_reads, pair_reads, made_reads}
 use Rattle.dms_sign_state.proofs.NumberForms.{Parts, values_text, values_of, values_reads, settings_of, settings_are, read_alike}
 
@@ -40,7 +43,7 @@ module _ {A B : Type 0} {sa : A → List ℕ} {ga : A → Type 0} {ra : Reader A
 
 pub zeros : (n : ℕ) → (octets : List ℕ) × IsCode n octets
 zeros zero = ([], (refl, λ i. omega arith))
-zeros (suc n) = let z = zeros n in (0 ∷ z.0, (ap suc z.1.0, bytes_cons 0 z.0 (omega arith) z.1.1))
+zeros (suc n) = let z = zeros n in (0 ∷ z.0, (ap suc z.1.0, bytes_more 0 z.0 (omega arith) z.1.1))
 
 pub blank_defaults : (d : Defaults) × AreDefaults d
 blank_defaults = (

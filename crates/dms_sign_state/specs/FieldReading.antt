@@ -21,8 +21,9 @@ use Rattle.dms_sign_state.specs.declared.number_settings.NumberSetting.{NumberSe
 use Rattle.dms_sign_state.specs.NumberSettings.{all_numbers, number_word, with_number, greatest_number}
 use Rattle.dms_sign_state.specs.Fields.{MessageModel, UsedRow, PutModel, FieldsModel}
 use Rattle.dms_sign_state.specs.FieldFaults.{put_name, stored_name, most_rows}
-use Rattle.dms_sign_state.specs.WordReading.{◌>>=◌, Reader, pair, made, starts_with, named_at, after, number, small}
-use Rattle.dms_sign_state.specs.WordReading.{octets, code}
+use Rattle.dms_text_exact.specs.Fronts.{starts_with}
+use Rattle.dms_sign_state.specs.WordReading.{◌>>=◌, Reader, pair, made, named_at, after, number, small, octets, code}
+use Rattle.dms_sign_state.specs.WordReading.{address}
 
 -- a field, whose reader says what lacks
 abbrev pub field : {A : Type 0} → StateField → (Lack → Reader A) → Reader A
@@ -171,14 +172,9 @@ settings_at text =
 
 -- ---- what is shown
 
-abbrev pub address_of : ℕ × (ℕ × (ℕ × ℕ)) → List ℕ
-address_of x = x.0 ∷ x.1.0 ∷ x.1.1.0 ∷ x.1.1.1 ∷ []
-
 unfoldable pub address_at : List ℕ → Lack → Reader (List ℕ)
 address_at name lack =
-    after name lack (after (codes "-address ") lack (made address_of
-    (pair (small (byte ".") lack)
-    (pair (small (byte ".") lack) (pair (small (byte ".") lack) (small (byte "\n") lack))))))
+    after name lack (after (codes "-address ") lack (address (byte "\n") lack))
 
 -- the seconds until the end, where there is one
 unfoldable pub remaining_at : Put → Reader (Option ℕ)

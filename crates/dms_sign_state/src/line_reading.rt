@@ -11,9 +11,10 @@ ghost use Rattle.dms_sign_state.specs.FieldReading.{status_at, row_at, has_row};
 
 use crate::field::{Lack, Put, StateField, Stored, Unread};
 use crate::fields::{MessageFields, RowFields};
-use crate::words::{five, named, number, octets, small, starts_with, twelve};
+use crate::words::{address, code, named, number, octets, small};
 use dms_codes::{MAX_CHANGEABLE, MAX_OWNER, MAX_TEXT, MAX_VOLATILE, Status};
 use dms_face::Defaults;
+use dms_text_exact::starts_with;
 use std::alloc::Global;
 
 /// What the names of its lines begin with.
@@ -109,16 +110,16 @@ pub(crate) fn two_octets_line<'a>(
     Ok((number as u16, rest))
 }
 
-/// A code of five octets after a name of two parts.
+/// A code after a name of two parts.
 #[tactic(auto, unfolding(crate::specs::FieldReading::code_field))]
-pub(crate) fn five_line<'a>(
+pub(crate) fn code_line<'a, const N: usize>(
     wanted: StateField,
     name: &str,
     part: &str,
     text: &'a [u8],
-) -> Result<([u8; 5], &'a [u8]), Unread>
+) -> Result<([u8; N], &'a [u8]), Unread>
     ensures { Gives (λ x. (x.0, x.1.now)) result
-        (code_field wanted name.now part.now 5 text.now) }
+        (code_field wanted name.now part.now N text.now) }
 {
     let lack = Lack {
         wanted,
@@ -126,27 +127,7 @@ pub(crate) fn five_line<'a>(
     };
     let rest = named(name.as_bytes(), lack, text)?;
     let rest = named(part.as_bytes(), lack, rest)?;
-    five(b'\n', lack, rest)
-}
-
-/// A code of twelve octets after a name of two parts.
-#[tactic(auto, unfolding(crate::specs::FieldReading::code_field))]
-pub(crate) fn twelve_line<'a>(
-    wanted: StateField,
-    name: &str,
-    part: &str,
-    text: &'a [u8],
-) -> Result<([u8; 12], &'a [u8]), Unread>
-    ensures { Gives (λ x. (x.0, x.1.now)) result
-        (code_field wanted name.now part.now 12 text.now) }
-{
-    let lack = Lack {
-        wanted,
-        left: text.len(),
-    };
-    let rest = named(name.as_bytes(), lack, text)?;
-    let rest = named(part.as_bytes(), lack, rest)?;
-    twelve(b'\n', lack, rest)
+    code(b'\n', lack, rest)
 }
 
 /// The colours and flash times of defaults.
@@ -360,9 +341,5 @@ pub(crate) fn address_line(put: Put, text: &[u8]) -> Result<([u8; 4], &[u8]), Un
     };
     let rest = named(put_name(put).as_bytes(), lack, text)?;
     let rest = named(b"-address ", lack, rest)?;
-    let (a, rest) = small(b'.', lack, rest)?;
-    let (b, rest) = small(b'.', lack, rest)?;
-    let (c, rest) = small(b'.', lack, rest)?;
-    let (d, rest) = small(b'\n', lack, rest)?;
-    Ok(([a, b, c, d], rest))
+    address(b'\n', lack, rest)
 }

@@ -3,7 +3,6 @@
 ghost use Rattle.std.specs.Prelude.{◌≤◌, ◌+◌, ◌*◌, ◌++◌, codes, length};
 ghost use Rattle.dms_table.specs.RowsView.{reading_of, IsShort};
 ghost use Rattle.dms_text_filling.specs.Filling.{Puts};
-ghost use Rattle.dms_text_values.specs.ValueText.{octets_text};
 ghost use Rattle.dms_sign_state.specs.FieldsText.{octets_line, defaults_words, colour_words};
 ghost use Rattle.dms_sign_state.specs.FieldsText.{layout_words, time_words, octets_word, attribute_words};
 ghost use Rattle.dms_sign_state.specs.FieldsText.{message_words};
@@ -11,7 +10,8 @@ ghost use Rattle.dms_sign_state.specs.StateText.{message_of};
 
 use dms_face::Defaults;
 use dms_table::RowView;
-use dms_text_filling::{put_decimal, put_digits, put_text, put_texts};
+use dms_text_exact::put_octets;
+use dms_text_filling::{put_decimal, put_text, put_texts};
 use itoa::Integer;
 
 /// Puts a field that is a number, under a name of two parts.
@@ -121,15 +121,4 @@ fn put_octets_word(buffer: &mut [u8], place: usize, octets: &[u8]) -> usize
 {
     let place = put_text(buffer, place, " ");
     put_octets(buffer, place, octets)
-}
-
-/// Puts octets as pairs of small hexadecimal digits, and `-` for none.
-pub(crate) fn put_octets(buffer: &mut [u8], place: usize, octets: &[u8]) -> usize
-    ensures octets { Puts (octets_text octets.now) place buffer.old result buffer.new }
-    ensures short { result ≤ place + 2 * length octets.now + 1 }
-{
-    match octets {
-        [] => put_text(buffer, place, "-"),
-        [_, ..] => put_digits(buffer, place, octets),
-    }
 }

@@ -15,12 +15,13 @@ ghost use Rattle.dms_sign_state.specs.FieldReading.{set_at, seen_at, rows_of, fi
 use crate::field::{Lack, Put, StateError, StateFault, StateField, Stored, Unread};
 use crate::fields::{PutFields, RowFields, StateFields};
 use crate::line_reading::{
-    address_line, defaults_line, five_line, has_row, message_line, most_rows, number_line,
-    octet_line, put_name, row, twelve_line, two_octets_line,
+    address_line, code_line, defaults_line, has_row, message_line, most_rows, number_line,
+    octet_line, put_name, row, two_octets_line,
 };
 use crate::number_settings::{NUMBER_SETTINGS, NumberSetting};
-use crate::words::{named, starts_with};
+use crate::words::named;
 use dms_sign_access::{Fallbacks, Reports, SignSettings};
+use dms_text_exact::starts_with;
 use std::alloc::Global;
 
 #[tactic(auto, unfolding(crate::specs::FieldReading::row_field))]
@@ -65,13 +66,13 @@ fn fallbacks(text: &[u8]) -> Result<(Fallbacks, &[u8]), Unread>
     ensures { Gives (λ x. (x.0, x.1.now)) result (fallbacks_at text.now) }
 {
     let wanted = StateField::ShortPowerRecovery;
-    let (short_power_recovery, rest) = five_line(wanted, "short-power-recovery", " ", text)?;
+    let (short_power_recovery, rest) = code_line(wanted, "short-power-recovery", " ", text)?;
     let wanted = StateField::LongPowerRecovery;
-    let (long_power_recovery, rest) = five_line(wanted, "long-power-recovery", " ", rest)?;
-    let (power_loss, rest) = five_line(StateField::PowerLoss, "power-loss", " ", rest)?;
-    let (end_duration, rest) = five_line(StateField::EndDuration, "end-duration", " ", rest)?;
+    let (long_power_recovery, rest) = code_line(wanted, "long-power-recovery", " ", rest)?;
+    let (power_loss, rest) = code_line(StateField::PowerLoss, "power-loss", " ", rest)?;
+    let (end_duration, rest) = code_line(StateField::EndDuration, "end-duration", " ", rest)?;
     let wanted = StateField::CommunicationsLoss;
-    let (communications_loss, rest) = five_line(wanted, "communications-loss", " ", rest)?;
+    let (communications_loss, rest) = code_line(wanted, "communications-loss", " ", rest)?;
     let fallbacks = Fallbacks {
         short_power_recovery,
         long_power_recovery,
@@ -147,7 +148,7 @@ fn put(alloc: Global, put: Put, text: &[u8]) -> Result<(PutFields, &[u8]), Unrea
 {
     let name = put_name(put);
     let (message, rest) = message_line(alloc, put, text)?;
-    let (source, rest) = five_line(StateField::Source(put), name, "-source ", rest)?;
+    let (source, rest) = code_line(StateField::Source(put), name, "-source ", rest)?;
     let (mode, rest) = octet_line(StateField::Mode(put), name, "-mode ", rest)?;
     let (address, rest) = address_line(put, rest)?;
     let (remaining, rest) = remaining(put, rest)?;
@@ -196,8 +197,8 @@ fn reports(text: &[u8]) -> Result<(Reports, &[u8]), Unread>
     ensures { Gives (λ x. (x.0, x.1.now)) result (reports_at text.now) }
 {
     let (verdicts, rest) = verdicts(text)?;
-    let (accepted_code, rest) = twelve_line(StateField::AcceptedCode, "accepted-code", " ", rest)?;
-    let (failed_code, rest) = twelve_line(StateField::FailedCode, "failed-code", " ", rest)?;
+    let (accepted_code, rest) = code_line(StateField::AcceptedCode, "accepted-code", " ", rest)?;
+    let (failed_code, rest) = code_line(StateField::FailedCode, "failed-code", " ", rest)?;
     let reports = Reports {
         validate_error: verdicts.validated,
         activate_error: verdicts.activated,

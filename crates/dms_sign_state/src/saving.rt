@@ -9,7 +9,6 @@ ghost use Rattle.dms_table.specs.Activation.{shown_row};
 ghost use Rattle.dms_table.specs.Rows.{rows_of};
 ghost use Rattle.dms_table.specs.RowsView.{reading_of, IsShort};
 ghost use Rattle.dms_text_filling.specs.Filling.{Puts, laid};
-ghost use Rattle.dms_wire_ber.specs.NameText.{dotted};
 ghost use Rattle.dms_sign_state.specs.NumberSettings.{all_numbers, number_word, numbers_room};
 ghost use Rattle.dms_sign_state.specs.FieldsText.{fallbacks_text, defaults_words, setting_line, numbers_text};
 ghost use Rattle.dms_sign_state.specs.FieldsText.{settings_text, row_lines, row_line};
@@ -18,7 +17,7 @@ ghost use Rattle.dms_sign_state.specs.FieldsText.{copied_line, reports_text, las
 ghost use Rattle.dms_sign_state.specs.StateText.{message_of, used_row, used_rows, row_text, rows_text, table_text};
 ghost use Rattle.dms_sign_state.specs.StateText.{shown_text, text_of_state, saved_rows, most_saved};
 
-use crate::lines::{put_code, put_defaults, put_message, put_octets, put_part};
+use crate::lines::{put_code, put_defaults, put_message, put_part};
 use crate::number_settings::{NUMBER_SETTINGS, NumberSetting, numbers_room};
 use dms_codes::{Order, RowId, Status, memory};
 use dms_face::Defaults;
@@ -26,6 +25,7 @@ use dms_sign::Sign;
 use dms_sign::laws::signs_are_kept;
 use dms_sign_access::{Fallbacks, Reports, SignSettings};
 use dms_table::{RowView, Shown, Table};
+use dms_text_exact::{put_address, put_octets};
 use dms_text_filling::{put_decimal, put_number, put_text, put_texts};
 use std::alloc::{AllocError, Global};
 
@@ -236,7 +236,7 @@ fn put_shown(buffer: &mut [u8], place: usize, name: &str, order: Order, shown: &
     let place = put_message_line(buffer, place, name, shown);
     let place = put_source(buffer, place, name, order, shown);
     let place = put_part(buffer, place, name, "-mode", shown.mode);
-    let place = put_address(buffer, place, name, shown.address);
+    let place = put_address_line(buffer, place, name, shown.address);
     let place = put_remaining(buffer, place, name, shown.remaining);
     put_copied(buffer, place, name, &shown.defaults)
 }
@@ -260,36 +260,13 @@ fn put_source(buffer: &mut [u8], place: usize, name: &str, order: Order, shown: 
     put_text(buffer, place, "\n")
 }
 
-fn put_address(buffer: &mut [u8], place: usize, name: &str, address: [u8; 4]) -> usize
+fn put_address_line(buffer: &mut [u8], place: usize, name: &str, address: [u8; 4]) -> usize
     ensures octets { Puts (address_line name.now address) place buffer.old result buffer.new }
     ensures short { result ≤ place + length name.now + 25 }
 {
     let place = put_texts(buffer, place, name, "-address ");
-    put_dotted(buffer, place, address)
-}
-
-fn put_dotted(buffer: &mut [u8], place: usize, address: [u8; 4]) -> usize
-    ensures octets { Puts (dotted address ++ codes "\n") place buffer.old result buffer.new }
-    ensures short { result ≤ place + 16 }
-{
-    match address {
-        [a, b, c, d] => {
-            let place = put_decimal(buffer, place, a);
-            let place = put_dot(buffer, place, b);
-            let place = put_dot(buffer, place, c);
-            let place = put_dot(buffer, place, d);
-            put_text(buffer, place, "\n")
-        }
-    }
-}
-
-/// Puts a dot and a number.
-fn put_dot(buffer: &mut [u8], place: usize, number: u8) -> usize
-    ensures octets { Puts (codes "." ++ decimal number) place buffer.old result buffer.new }
-    ensures short { result ≤ place + 4 }
-{
-    let place = put_text(buffer, place, ".");
-    put_decimal(buffer, place, number)
+    let place = put_address(buffer, place, address);
+    put_text(buffer, place, "\n")
 }
 
 /// Puts the seconds until an end, where there is one.
