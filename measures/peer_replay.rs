@@ -134,8 +134,8 @@ fn lines(script: &[u8]) -> impl Iterator<Item = &[u8]> {
         .filter(|line| !line.is_empty() && !line.starts_with(b"#"))
 }
 
-fn script(text: &[u8]) -> Option<Script> {
-    let mut lines = lines(text);
+/// The sign of the first lines, and the number of its centre's first request.
+fn sign_of<'a>(lines: &mut impl Iterator<Item = &'a [u8]>) -> Option<(Sign, u32)> {
     for fixed in ["size 256 64", "communities public admin"] {
         (lines.next()? == fixed.as_bytes()).then_some(())?;
     }
@@ -160,6 +160,12 @@ fn script(text: &[u8]) -> Option<Script> {
         }
     }
     let sign = Sign::new(Face::with(fonts), &text, permanent, changeable.into(), volatile.into());
+    Some((sign, first))
+}
+
+fn script(text: &[u8]) -> Option<Script> {
+    let mut lines = lines(text);
+    let (sign, first) = sign_of(&mut lines)?;
     Some(Script { sign, first, events: lines.map(event).collect::<Option<_>>()? })
 }
 
@@ -324,16 +330,21 @@ pub fn report_times(text: &[u8], times: u32) -> u64 {
     (0..times).fold(0_u64, |sum, time| sum.wrapping_add(one(time)))
 }
 
-/// The report of a script that is read from a stream.
+/// The report of a script that is read from a stream: each event is run as its line is read.
 pub fn replayed(text: &[u8]) -> Option<Vec<u8>> {
     let mut input = Vec::new();
     let mut reader = std::io::Read::take(std::hint::black_box(text), LONGEST_INPUT as u64 + 1);
     std::io::Read::read_to_end(&mut reader, &mut input).ok()?;
-    let Script { sign, first, events } = script(&input)?;
+    let mut lines = lines(&input);
+    let (sign, first) = sign_of(&mut lines)?;
     let mut world = World::new(sign, first)?;
-    run(&mut world, &events);
+    let (mut out, mut events) = (Out::new(), 0);
+    for line in lines {
+        events += 1;
+        world.happen(events, &event(line)?, &mut out);
+    }
     let mut written = Vec::new();
-    std::io::Write::write_all(&mut written, &report(&world, events.len())).ok()?;
+    std::io::Write::write_all(&mut written, &report(&world, events)).ok()?;
     Some(written)
 }
 
