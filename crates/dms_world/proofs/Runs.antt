@@ -1,8 +1,9 @@
 -- A run of events in a world, one after another.
-use Rattle.std.proofs.Common.{◌≡◌, ℕ, zero, suc, ◌+◌, ◌<◌, ◌≤◌, true, false, List, [], ◌∷◌, length, get_or, take, Some, option_map, Result, OnOk, OnErr, slice_get, refl, ap, ◌∙◌, arith}
+use Rattle.std.proofs.Common.{◌≡◌, ℕ, zero, suc, ◌+◌, ◌<◌, ◌≤◌, true, false, List, [], ◌∷◌, ◌++◌, length, get_or, take, Some, option_map, Result, OnOk, OnErr, slice_get, refl, sym, ap, ◌∙◌, arith}
 use Rattle.std.specs.Prelude.{is_err}
 use Rattle.std.proofs.lemmas.Option.{none-some, slice_get_within, slice_get-map, slice_get-get_or}
-use Rattle.std.proofs.lemmas.List.{length-map, length-take-le}
+use Rattle.std.proofs.lemmas.List.{length-append, length-map, length-take-le}
+use Rattle.dms_centre_laws.proofs.Lists.{at_end}
 use Rattle.dms_world.specs.declared.event.Event.{Event}
 use Rattle.dms_world.specs.CodeView.{event_model, events_model}
 use Rattle.dms_world.specs.Event.{EventModel, command}
@@ -61,6 +62,21 @@ world_of_prefix world events n (suc count) le = grind (arith, slice_get, of_pref
 pub after_prefix : (world : WorldModel) (events : List EventModel) (count : ℕ) → count ≤ length events
     → world_at world events count ≡ world_after world (take count events)
 after_prefix world events count le = grind (arith, length-take-le, world_of_prefix)
+
+first_ones : {X : Type 0} (xs ys : List X) → take (length xs) (xs ++ ys) ≡ xs
+first_ones [] ys = refl
+first_ones (x ∷ xs) ys = ap (λ rest. x ∷ rest) (first_ones xs ys)
+
+-- the world after a list of events and one more is that of the list, in which that one has happened
+pub after_one_more : (world : WorldModel) (events : List EventModel) (event : EventModel)
+    → world_after world (events ++ event ∷ []) ≡ happens (length events + 1) (world_after world events) event
+after_one_more world events event =
+    let all : List EventModel = events ++ event ∷ [] in
+    let size : length all ≡ length events + 1 = omega (arith, length-append events (event ∷ [])) in
+    let before : world_after world events ≡ world_at world all (length events) =
+    sym (after_prefix world all (length events) (omega (arith, size)) ∙ ap (world_after world) (first_ones events (event ∷ []))) in
+    ap (world_at world all) size
+    ∙ sym (one_more_event world (world_after world events) (happens (length events + 1) (world_after world events) event) all (length events) event before (at_end events event) refl)
 
 -- ---- the values of commands
 

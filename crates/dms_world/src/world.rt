@@ -31,8 +31,8 @@ pub struct World {
     pub to_sign: Datagrams,
     /// The datagrams that the sign ever sent, the oldest first.
     pub to_centre: Datagrams,
-    /// Each activation that the sign accepted, beside the number of its event: events are counted from 1 in each call
-    /// of `run`.
+    /// Each activation that the sign accepted, beside the number of its event: `run` counts events from 1 in each call,
+    /// and `happen` is told the number.
     pub accepted: Vec<(usize, Activation)>,
     /// What an end sends is written here, before it is stored.
     buffer: Out,
@@ -61,7 +61,7 @@ impl World {
 
     /// The event of this number happens. Where it runs out of memory, nothing changes: what its lists need is reserved
     /// before either end is called.
-    pub(crate) fn happen(&mut self, number: usize, event: &Event<'_>) -> Result<(), AllocError>
+    pub fn happen(&mut self, number: usize, event: &Event<'_>) -> Result<(), AllocError>
         ensures world { OnOk result (seen self.new ≡ happens number (seen self.old) (event_model event.now)) }
         ensures unchanged { OnErr result (seen self.new ≡ seen self.old) }
         ensures grows { OnErr result (may_grow (seen self.old) (event_model event.now) ≡ true) }
