@@ -1,12 +1,11 @@
 -- The events of a list of lines, one line after another.
-use Rattle.std.proofs.Common.{◌≡◌, ℕ, cond, List, [], ◌∷◌, ◌++◌, Some, None, refl, sym, ap, subst, ◌∙◌, append_assoc}
+use Rattle.std.proofs.Common.{◌≡◌, ℕ, true, cond, List, [], ◌∷◌, ◌++◌, Option, Some, None, refl, sym, ap, subst, ◌∙◌, append_assoc}
 use Rattle.std.proofs.lemmas.List.{append-nil}
 use Rattle.std.specs.Prelude.{◌⊎◌}
 use Rattle.std.proofs.Common.{inl, inr}
 use Rattle.dms_sign_text.specs.declared.reading_fault.ReplayFault.{ReplayFault}
 use Rattle.dms_sign_text.specs.declared.reading_fault.ReplayFault.TheVariants.{Memory}
 use Rattle.dms_sign_text.specs.ReadingFaults.{IsLine}
-use Rattle.std.proofs.lemmas.List.{map-append}
 use Rattle.dms_text.specs.declared.lines.Line.{Line}
 use Rattle.dms_text.specs.Lines.{NumberedLine}
 use Rattle.dms_text.specs.Views.{numbered_line}
@@ -16,8 +15,6 @@ use Rattle.dms_world.specs.Event.{EventModel}
 use Rattle.dms_text_forms.specs.Fields.{SpellsEach}
 use Rattle.dms_replay.specs.EventLine.{SpellsEvent}
 use Rattle.dms_replay.specs.EventReading.{event_of}
-use Rattle.dms_replay.specs.EventView.{script_event_model, script_events_model}
-use Rattle.dms_replay.specs.declared.script_event.ScriptEvent.{ScriptEvent}
 use Rattle.dms_replay.specs.RefusedScript.{from_no_event, NamesLine}
 use Rattle.dms_sign_text.specs.RefusedLine.{first_number}
 use Rattle.std.specs.Option.{is_some}
@@ -39,17 +36,14 @@ each_more order [] (first ∷ prefix) event line each spelled = absurd (let neve
 each_more order (first ∷ events) [] event line each spelled = absurd each
 each_more order (first ∷ events) (word ∷ prefix) event line each spelled = (each.0, each_more order events prefix event line each.1 spelled)
 
-pub one_more_read : (order : Order) (all : List (List ℕ)) (left next : List NumberedLine) (line : Line) (events now : List ScriptEvent) (event : ScriptEvent)
-    → AreRead order all (octets_of_lines left) (script_events_model events) → left ≡ numbered_line line ∷ next
-    → Some (script_event_model event) ≡ event_of order line.octets.now → now ≡ events ++ event ∷ []
-    → AreRead order all (octets_of_lines next) (script_events_model now)
-one_more_read order all left next line events now event read split found added =
-    subst (λ events. AreRead order all (octets_of_lines next) (script_events_model events)) (sym added) (record {
-      prefix = read.prefix ++ line.octets.now ∷ [];
-      lines_are = read.lines_are ∙ ap (λ rest. read.prefix ++ octets_of_lines rest) split ∙ sym (append_assoc read.prefix (line.octets.now ∷ []) (octets_of_lines next));
-      spelled = subst (λ models. SpellsEach (SpellsEvent order) models (read.prefix ++ line.octets.now ∷ [])) (sym (map-append script_event_model events (event ∷ [])))
-          (each_more order (script_events_model events) read.prefix (script_event_model event) line.octets.now read.spelled (event_found order line.octets.now _ (sym found)));
-    })
+pub one_more_read : (order : Order) (all : List (List ℕ)) (left next : List NumberedLine) (line : Line) (events : List EventModel) (event : EventModel)
+    → AreRead order all (octets_of_lines left) events → left ≡ numbered_line line ∷ next → Some event ≡ event_of order line.octets.now
+    → AreRead order all (octets_of_lines next) (events ++ event ∷ [])
+one_more_read order all left next line events event read split found = record {
+  prefix = read.prefix ++ line.octets.now ∷ [];
+  lines_are = read.lines_are ∙ ap (λ rest. read.prefix ++ octets_of_lines rest) split ∙ sym (append_assoc read.prefix (line.octets.now ∷ []) (octets_of_lines next));
+  spelled = each_more order events read.prefix event line.octets.now read.spelled (event_found order line.octets.now event (sym found));
+}
 
 each_at : (order : Order) (events : List EventModel) (prefix : List (List ℕ)) (line : List ℕ) (rest : List (List ℕ))
     → SpellsEach (SpellsEvent order) events (prefix ++ line ∷ rest) → (event : EventModel) × SpellsEvent order event line
@@ -96,13 +90,12 @@ pub record AreReadTo (order : Order) (start left : List NumberedLine) (events : 
 pub none_to : (order : Order) (start : List NumberedLine) → AreReadTo order start start []
 none_to order start = record { read = none_read order (octets_of_lines start); same = refl }
 
-pub one_more_to : (order : Order) (start left next : List NumberedLine) (line : Line) (events now : List ScriptEvent) (event : ScriptEvent)
-    → AreReadTo order start left (script_events_model events) → left ≡ numbered_line line ∷ next
-    → Some (script_event_model event) ≡ event_of order line.octets.now → now ≡ events ++ event ∷ []
-    → AreReadTo order start next (script_events_model now)
-one_more_to order start left next line events now event to split found added = record {
-  read = one_more_read order (octets_of_lines start) left next line events now event to.read split found added;
-  same = to.same ∙ ap (from_no_event order) split ∙ goes_on order (numbered_line line) next (script_event_model event) (sym found);
+pub one_more_to : (order : Order) (start left next : List NumberedLine) (line : Line) (events : List EventModel) (event : EventModel)
+    → AreReadTo order start left events → left ≡ numbered_line line ∷ next → Some event ≡ event_of order line.octets.now
+    → AreReadTo order start next (events ++ event ∷ [])
+one_more_to order start left next line events event to split found = record {
+  read = one_more_read order (octets_of_lines start) left next line events event to.read split found;
+  same = to.same ∙ ap (from_no_event order) split ∙ goes_on order (numbered_line line) next event (sym found);
 }
 
 pub refused_to : (order : Order) (start left next : List NumberedLine) (line : Line) (events : List EventModel) (fault : ReplayFault)
@@ -114,6 +107,26 @@ refused_to order start left next line events fault to split bad = refused order 
 pub all_to : (order : Order) (start left : List NumberedLine) (events : List EventModel) → AreReadTo order start left events → left ≡ []
     → SpellsEach (SpellsEvent order) events (octets_of_lines start)
 all_to order start left events to end = all_read order (octets_of_lines start) left events to.read end
+
+-- they are those of some events
+pub record ReadTo (order : Order) (start left : List NumberedLine) : Type 0 where
+  pub events : List EventModel
+  pub to : AreReadTo order start left events
+
+pub none_of_them : (order : Order) (start : List NumberedLine) → ReadTo order start start
+none_of_them order start = record { events = []; to = none_to order start }
+
+pub one_more_of_them : (order : Order) (start left next : List NumberedLine) (line : Line) → ReadTo order start left → left ≡ numbered_line line ∷ next
+    → is_some (event_of order line.octets.now) ≡ true → ReadTo order start next
+one_more_of_them order start left next line read split is = if_found (event_of order line.octets.now) refl is
+  where
+    if_found : (found : Option EventModel) → found ≡ event_of order line.octets.now → is_some found ≡ true → ReadTo order start next
+    if_found None found is = absurd (cc)
+    if_found (Some event) found is = record { events = read.events ++ event ∷ []; to = one_more_to order start left next line read.events event read.to split found }
+
+pub all_of_them : (order : Order) (start left : List NumberedLine) → ReadTo order start left → left ≡ []
+    → (events : List EventModel) × SpellsEach (SpellsEvent order) events (octets_of_lines start)
+all_of_them order start left read end = (read.events, all_to order start left read.events read.to end)
 
 pub memory_names : (IsIt : ℕ → Type 0) (fault : ReplayFault) → fault ≡ Memory → NamesLine IsIt fault
 memory_names IsIt fault memory = subst (NamesLine IsIt) (sym memory) tt
@@ -128,4 +141,4 @@ number_to order start left next line events fault after to split (inr bad) names
     (sym (ap (λ lines. first_number lines after)
     (to.same ∙ ap (from_no_event order) split ∙ stops order (numbered_line line) next (sym bad.1)))) names
 
-pub ruleset events_read = (none_to, one_more_to, refused_to, all_to, memory_names)
+pub ruleset events_read = (none_of_them, one_more_of_them, all_of_them, memory_names)

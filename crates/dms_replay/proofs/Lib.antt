@@ -1,8 +1,8 @@
 mod BenchFresh
 pub mod EventLaws
 mod EventsRead
+pub mod EventsRun
 mod EventFits
-mod Lent
 mod ScriptRead
 mod ScriptCauses
 mod ScriptRanges

@@ -1,9 +1,12 @@
 -- A text spells at most one script, and what is read of it is that script.
-use Rattle.std.proofs.Common.{◌≡◌, ℕ, ◌+◌, ◌≤◌, List, [], ◌∷◌, ◌++◌, length, Option, Some, None, Result, Ok, Err, IsOk, refl, sym, ap, subst, ◌∙◌, arith, inl, inr}
+use Rattle.std.proofs.Common.{◌≡◌, ℕ, ◌+◌, ◌≤◌, ◌==◌, Bool, true, false, cond, not, List, [], ◌∷◌, ◌++◌, length, Option, Some, None, Result, Ok, Err, IsOk, refl, sym, ap, subst, ◌∙◌, arith, inl, inr}
 use Rattle.std.specs.Prelude.{codes, ◌⊎◌, IfSome}
-use Rattle.std.proofs.lemmas.List.{length-map}
-use Rattle.std.specs.Str.Lines.{lines}
-use Rattle.dms_text.specs.Lines.{TextLeft, lines_left, number_after, kept_lines}
+use Rattle.std.specs.List.{slice_split}
+use Rattle.std.proofs.lemmas.List.{length-append, length-map}
+use Rattle.std.proofs.lemmas.List.Splits.{length-slice_split}
+use Rattle.std.proofs.lemmas.List.Sums.{length-filter, count_by-le-length}
+use Rattle.std.specs.Str.Lines.{lines, lines_of_parts}
+use Rattle.dms_text.specs.Lines.{NumberedLine, TextLeft, lines_left, number_after, kept_lines, is_skipped}
 use Rattle.dms_sign_text.specs.RefusedLine.{NumberedLines, numbered_left, all_numbered, first_number, last_lines, refused_number, Leaves}
 use Rattle.dms_sign_text.proofs.LastLines.{last_are}
 use Rattle.dms_replay.specs.RefusedScript.{from_no_event, no_event_number, NamesLine, IsRefusedIn}
@@ -28,8 +31,7 @@ use Rattle.dms_replay.specs.EventLine.{SpellsEvent}
 use Rattle.dms_sign_text.specs.ReadingFaults.{IsLine}
 use Rattle.dms_replay.specs.Script.{NamesSign, the_bench, described, NamesPrefix, SpellsScript, beginning_of}
 use Rattle.dms_sign_text.specs.declared.reading_fault.ReplayFault.{ReplayFault}
-use Rattle.dms_replay.specs.declared.script_event.ScriptEvent.{ScriptEvent}
-use Rattle.dms_replay.specs.EventView.{script_event_model, script_events_model}
+use Rattle.dms_replay.specs.ScriptRun.{AreRun, IsRun}
 use Rattle.dms_sign_text.specs.declared.reading_fault.ReplayFault.TheVariants.{Read, Write, TooLong, Memory, Line as LineFault}
 use Rattle.dms_text_forms.proofs.FieldLaws.{same_rest}
 use Rattle.dms_sign_text.proofs.SetupLaws.{kept}
@@ -140,6 +142,57 @@ is_script octets rest setup order events short named is_order each =
       named.2,
     )
 
+pub script_checked : (octets : List ℕ) (rest : List (List ℕ)) (setup : Setup) (order : Order) → length octets ≤ longest_input
+    → (it : Description) × NamesPrefix (kept_lines octets) rest it × IsMade it setup → order ≡ setup.sign.table.order
+    → (events : List EventModel) × SpellsEach (SpellsEvent order) events rest → (it : Description) × (events : List EventModel) × SpellsScript octets it events
+script_checked octets rest setup order short named is_order each =
+    let script = is_script octets rest setup order each.0 short named is_order each.1 in
+    (script.0, each.0, script.1)
+
+-- the world of a sign that is made as it is described, and of its centre
+made_world : (it : Description) (setup : Setup) (before : WorldModel) → IsMade it setup
+    → before ≡ beginning setup.sign (centre.start (record { community = setup.sign.config.writer; order = setup.sign.table.order }) setup.first)
+    → before ≡ beginning_of it
+made_world it setup before made begins =
+    begins
+    ∙ ap (λ (sign : SignState). beginning sign (centre.start (record { community = sign.config.writer; order = sign.table.order }) setup.first)) made.sign
+    ∙ ap (λ first. beginning (start it.config it.table) (centre.start (record { community = it.config.writer; order = it.table.order }) first)) made.first
+
+pub script_run : (octets : List ℕ) (rest : List (List ℕ)) (setup : Setup) (order : Order) (before now : WorldModel) (count : ℕ) → length octets ≤ longest_input
+    → (it : Description) × NamesPrefix (kept_lines octets) rest it × IsMade it setup → order ≡ setup.sign.table.order
+    → before ≡ beginning setup.sign (centre.start (record { community = setup.sign.config.writer; order = setup.sign.table.order }) setup.first)
+    → AreRun order rest before now count → IsRun octets now count
+script_run octets rest setup order before now count short named is_order begins run =
+    let script = is_script octets rest setup order run.events short named is_order run.spelled in
+    record {
+      sign = script.0;
+      events = run.events;
+      spelled = script.1;
+      world_is = run.world_is ∙ ap (λ world. world_after world run.events) (made_world script.0 setup before script.2 begins);
+      count_is = run.count_is;
+    }
+
+-- a text has at most one line more than octets
+none_or_one : (test : Bool) (part : List ℕ) → length (cond test [] (part ∷ [])) ≤ 1
+none_or_one true part = omega arith
+none_or_one false part = omega arith
+
+lines_of_many : (parts : List (List ℕ)) → length (lines_of_parts parts) ≤ length parts
+lines_of_many [] = omega arith
+lines_of_many (part ∷ []) = none_or_one (length part == 0) part
+lines_of_many (part ∷ next ∷ parts) = omega (arith, lines_of_many (next ∷ parts))
+
+pub few_lines : (octets : List ℕ) (left : TextLeft) (setup : Setup) → length octets ≤ longest_input
+    → (it : Description) × NamesPrefix (kept_lines octets) (octets_left left) it × IsMade it setup → length (lines_left left) ≤ longest_input + 1
+few_lines octets left setup short named =
+    let newlines = λ (o : ℕ). o == 10 in
+    let kept = λ (line : List ℕ). not (is_skipped line) in
+    let parts = length-slice_split newlines octets in
+    let few : length (lines octets) ≤ length octets + 1 = omega (arith, parts, count_by-le-length newlines octets, lines_of_many (slice_split newlines octets)) in
+    let fewer : length (kept_lines octets) ≤ length (lines octets) = omega (arith, length-filter kept (lines octets), count_by-le-length kept (lines octets)) in
+    let some = ap length named.1.lines_are in
+    omega (arith, short, few, fewer, some, length-append named.1.prefix (octets_left left), length-map (lines_left left) (λ (line : NumberedLine). line.octets))
+
 pub no_sign : (octets : List ℕ) (fault : ReplayFault) → (fault ≡ Memory) ⊎ (IsLine fault × ((it : Description) (rest : List (List ℕ)) → NamesPrefix (kept_lines octets) rest it → ⊥))
     → (fault ≡ Memory) ⊎ (IsLine fault × ((it : Description) (events : List EventModel) → SpellsScript octets it events → ⊥))
 no_sign octets fault (inl memory) = inl memory
@@ -241,28 +294,17 @@ no_script slice octets (Some whole) fault number lent short same (inr bad) is = 
 pub same_fault : (fault other : ReplayFault) → ◌≡◌ {A = Result Unit ReplayFault} (Err fault) (Err other) → fault ≡ other
 same_fault fault other e = cc
 
-pub is_report : (octets : List ℕ) (setup : Setup) (events slice : List ScriptEvent) (before now : WorldModel) (report : List ℕ) (count : ℕ)
-    → (it : Description) × SpellsScript octets it (script_events_model events) × IsMade it setup
-    → before ≡ beginning setup.sign (centre.start (record { community = setup.sign.config.writer; order = setup.sign.table.order }) setup.first)
-    → slice ≡ events → now ≡ world_after before (script_events_model slice) → count ≡ length events → report ≡ report_of now count → IsReport octets report
-is_report octets setup events slice before now report count found begins lent runs counts reports =
-    let said : List EventModel = script_events_model events in
-    let number : count ≡ length said = counts ∙ sym (length-map events script_event_model) in
-    record {
-      sign = found.0;
-      events = said;
-      spelled = found.1;
-      report_is =
-          reports ∙ ap (report_of now) number ∙ ap (λ world. report_of world (length said)) (runs ∙ ap (λ l. world_after before (script_events_model l)) lent)
-          ∙ ap (λ world. report_of (world_after world said) (length said))
-          (begins
-          ∙ ap (λ (sign : SignState). beginning sign (centre.start (record { community = sign.config.writer; order = sign.table.order }) setup.first)) found.2.sign
-          ∙ ap (λ first. beginning (start found.0.config found.0.table) (centre.start (record { community = found.0.config.writer; order = found.0.table.order }) first)) found.2.first);
-    }
+pub is_report : (octets : List ℕ) (world : WorldModel) (report : List ℕ) (count : ℕ) → IsRun octets world count → report ≡ report_of world count → IsReport octets report
+is_report octets world report count run reports = record {
+  sign = run.sign;
+  events = run.events;
+  spelled = run.spelled;
+  report_is = reports ∙ ap (report_of world) run.count_is ∙ ap (λ w. report_of w (length run.events)) run.world_is;
+}
 
-pub runs_lawfully : (octets : List ℕ) (setup : Setup) (events : List EventModel) → (it : Description) × SpellsScript octets it events × IsMade it setup
-    → ((it : Description) → SpellsScript octets it events → IsLawful it events) → RunsLawfully octets
-runs_lawfully octets setup events found law = record { sign = found.0; events = events; spelled = found.1; lawful = law found.0 found.1 }
+pub runs_lawfully : (octets : List ℕ) (world : WorldModel) (count : ℕ) → IsRun octets world count
+    → ((it : Description) (events : List EventModel) → SpellsScript octets it events → IsLawful it events) → RunsLawfully octets
+runs_lawfully octets world count run law = record { sign = run.sign; events = run.events; spelled = run.spelled; lawful = law run.sign run.events run.spelled }
 
 -- a text has one report
 one_report : (octets report other : List ℕ) → IsReport octets report → IsReport octets other → report ≡ other
@@ -288,7 +330,9 @@ no_room slice octets written report (Some whole) room next result fault lent sam
     let size : length other ≡ length written + 0 = omega (arith, ap length one) in
     failed_is_no_success result fault failed (within 0 (subst (HasRoom room) size has)).0
 
-pub ruleset scripts_read = (is_script, no_sign, no_events, sign_refused, events_refused)
+pub ruleset scripts_read = (script_checked, no_sign, no_events, sign_refused, events_refused)
+
+pub ruleset scripts_run = (script_run, few_lines, no_sign, no_events, sign_refused, events_refused)
 
 pub ruleset signs_named = (bench_is_named, sign_is_named, none_is_named, sign_leaves, sign_number)
 

@@ -1,5 +1,4 @@
 -- What the code's events are (this profile).
-use Rattle.std.specs.Prelude.{List, map}
 use Rattle.dms_world.specs.Event.{EventModel, command, sign_tick, centre_tick, to_sign, to_centre, power_lost}
 use Rattle.dms_world.specs.Event.{power_back, centre_restart, forge_sign, forge_centre}
 use Rattle.dms_centre_text.specs.CommandView.{owned_command_model}
@@ -18,6 +17,3 @@ script_event_model (script.PowerBack seconds) = power_back seconds
 script_event_model script.CentreRestart = centre_restart
 script_event_model (script.ForgeSign datagram) = forge_sign datagram.items
 script_event_model (script.ForgeCentre datagram) = forge_centre datagram.items
-
-abbrev pub script_events_model : List ScriptEvent → List EventModel
-script_events_model events = map script_event_model events

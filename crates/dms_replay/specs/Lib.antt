@@ -8,4 +8,5 @@ pub mod Replayed
 -- what the calls say of themselves
 pub mod EventReading
 pub mod EventView
+pub mod ScriptRun
 pub mod Reasons

@@ -1,14 +1,19 @@
-//! The events of a script.
+//! The events of a script, a line at a time.
 
-ghost use Rattle.std.specs.Prelude.{◌≡◌, ◌⊎◌, ◌++◌, ◌∷◌, [], List, Some, None, IfOk, IfErr, OnOk};
+ghost use Rattle.std.specs.Prelude.{◌≡◌, ◌⊎◌, ◌+◌, ◌≤◌, List, Some, None, length, IfOk, IfErr, OnOk, true};
+ghost use Rattle.std.specs.Option.{is_some};
 ghost use Rattle.dms_text.specs.Lines.{lines_left, number_after};
 ghost use Rattle.dms_text.proofs.LineFilter.{octets_of_lines};
 ghost use Rattle.dms_world.specs.Event.{EventModel};
+ghost use Rattle.dms_world.specs.World.{happens_if};
+ghost use Rattle.dms_world.specs.CodeView.{seen};
 ghost use Rattle.dms_text_forms.specs.Fields.{SpellsEach};
+ghost use Rattle.dms_text_streams.specs.DescriptionText.{longest_input};
 ghost use Rattle.dms_replay.specs.EventLine.{SpellsEvent};
-ghost use Rattle.dms_replay.specs.EventView.{script_event_model, script_events_model};
+ghost use Rattle.dms_replay.specs.EventView.{script_event_model};
 ghost use Rattle.dms_replay.specs.EventReading.{event_of};
 ghost use Rattle.dms_replay.specs.RefusedScript.{from_no_event, NamesLine};
+ghost use Rattle.dms_replay.specs.ScriptRun.{AreRun};
 ghost use Rattle.dms_sign_text.specs.RefusedLine.{first_number};
 ghost use Rattle.dms_sign_text.specs.ReadingFaults.{IsLine};
 ghost use Rattle.dms_sign_text.specs.declared.reading_fault.ReplayFault.TheVariants as faults;
@@ -18,6 +23,7 @@ use crate::script_event::ScriptEvent;
 use dms_codes::Order;
 use dms_sign_text::ReplayFault;
 use dms_text::{Line, Lines};
+use dms_world::World;
 use std::alloc::Global;
 
 /// The event of a line. Codes are in this order.
@@ -33,25 +39,22 @@ fn read(alloc: Global, order: Order, line: Line<'_>) -> Result<ScriptEvent, Repl
     }
 }
 
-fn add(events: &mut Vec<ScriptEvent>, event: ScriptEvent) -> Result<(), ReplayFault>
-    ensures added { OnOk result (events.new.items ≡ events.old.items ++ event ∷ []) }
-    ensures memory { IfErr result (λ fault. fault ≡ faults.Memory) }
+/// A line is an event's.
+fn check(alloc: Global, order: Order, line: Line<'_>) -> Result<(), ReplayFault>
+    ensures event { OnOk result (is_some (event_of order line.entry.octets.now) ≡ true) }
+    ensures line { IfErr result (λ fault. (fault ≡ faults.Memory)
+        ⊎ (IsLine fault × (None ≡ event_of order line.entry.octets.now))) }
+    ensures number { IfErr result (NamesLine (λ number. number ≡ line.entry.number)) }
 {
-    match events.push(event) {
-        Ok(()) => Ok(()),
-        Err(_) => Err(ReplayFault::Memory),
-    }
+    read(alloc, order, line)?;
+    Ok(())
 }
 
-/// The events of all lines that are left. Codes are in this order.
+/// Each line that is left is an event's. Codes are in this order.
 #[tactic(auto, using(crate::proofs::EventsRead::events_read))]
-pub(crate) fn events(
-    alloc: Global,
-    order: Order,
-    lines: Lines<'_>,
-) -> Result<Vec<ScriptEvent>, ReplayFault>
-    ensures read { IfOk result (λ events. SpellsEach (SpellsEvent order)
-        (script_events_model events.items) (octets_of_lines (lines_left lines.entry))) }
+pub(crate) fn check_events(alloc: Global, order: Order, lines: Lines<'_>) -> Result<(), ReplayFault>
+    ensures read { OnOk result ((events : List EventModel)
+        × SpellsEach (SpellsEvent order) events (octets_of_lines (lines_left lines.entry))) }
     ensures line { IfErr result (λ fault. (fault ≡ faults.Memory)
         ⊎ (IsLine fault × ((events : List EventModel)
         → SpellsEach (SpellsEvent order) events (octets_of_lines (lines_left lines.entry)) → ⊥))) }
@@ -59,10 +62,54 @@ pub(crate) fn events(
         ≡ first_number (from_no_event order (lines_left lines.entry)) (number_after lines.entry))) }
 {
     let mut left = lines;
-    let mut events = Vec::new(alloc);
     while let Some(line) = left.next_line() {
-        let event = read(alloc, order, line)?;
-        add(&mut events, event)?;
+        check(alloc, order, line)?;
     }
-    Ok(events)
+    Ok(())
+}
+
+/// The event of a line happens in a world, where it has this number.
+fn step(
+    alloc: Global,
+    order: Order,
+    world: &mut World,
+    number: usize,
+    line: Line<'_>,
+) -> Result<(), ReplayFault>
+    ensures event { OnOk result (is_some (event_of order line.entry.octets.now) ≡ true) }
+    ensures world { OnOk result (seen world.new
+        ≡ happens_if number (seen world.old) (event_of order line.entry.octets.now)) }
+    ensures line { IfErr result (λ fault. (fault ≡ faults.Memory)
+        ⊎ (IsLine fault × (None ≡ event_of order line.entry.octets.now))) }
+    ensures number { IfErr result (NamesLine (λ number. number ≡ line.entry.number)) }
+{
+    let event = read(alloc, order, line)?;
+    Ok(world.happen(number, &event.lent())?)
+}
+
+/// The events of all lines that are left happen in a world, each as its line is read, counted from 1; and how many
+/// there were. Codes are in this order.
+#[tactic(auto, using(crate::proofs::EventsRun::events_run))]
+pub(crate) fn run_events(
+    alloc: Global,
+    order: Order,
+    world: &mut World,
+    lines: Lines<'_>,
+) -> Result<usize, ReplayFault>
+    requires { length (lines_left lines) ≤ longest_input + 1 }
+    ensures run { IfOk result (λ count. AreRun order (octets_of_lines (lines_left lines.entry))
+        (seen world.old) (seen world.new) count) }
+    ensures line { IfErr result (λ fault. (fault ≡ faults.Memory)
+        ⊎ (IsLine fault × ((events : List EventModel)
+        → SpellsEach (SpellsEvent order) events (octets_of_lines (lines_left lines.entry)) → ⊥))) }
+    ensures number { IfErr result (NamesLine (λ number. number
+        ≡ first_number (from_no_event order (lines_left lines.entry)) (number_after lines.entry))) }
+{
+    let mut left = lines;
+    let mut count = 0;
+    while let Some(line) = left.next_line() {
+        step(alloc, order, world, count + 1, line)?;
+        count += 1;
+    }
+    Ok(count)
 }

@@ -11,7 +11,7 @@ ghost use Rattle.dms_replay.specs.declared.reasons.ScriptCause.TheVariants as ca
 
 use crate::event_cause::EventCause;
 use crate::event_line::read_event;
-use crate::script::{named_sign, read_script};
+use crate::script::{check_script, named_sign};
 use dms_codes::Order;
 use dms_sign_text::{ReplayFault, first_cause};
 use dms_sign_text_causes::LineCause;
@@ -51,7 +51,7 @@ pub fn why(alloc: Global, octets: &[u8], number: usize) -> Result<Option<ScriptC
     ensures number { IfOk result (λ found. IfSome found (λ cause. IsRefusedIn octets.now number)) }
     ensures told { IfOk result (λ found. IfNone found (IsRefusedIn octets.now number → ⊥)) }
 {
-    let Err(fault) = read_script(alloc, octets) else {
+    let Err(fault) = check_script(alloc, octets) else {
         return Ok(None);
     };
     match fault {

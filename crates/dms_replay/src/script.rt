@@ -1,40 +1,36 @@
 //! Scripts: a sign, then what happens, an event a line.
 
-ghost use Rattle.std.specs.Prelude.{◌≡◌, ◌⊎◌, ◌≤◌, ◌∷◌, List, ℕ, codes, length, Err, IfOk, IfErr, IfSome, IfNone};
+ghost use Rattle.std.specs.Prelude.{◌≡◌, ◌⊎◌, ◌≤◌, ◌∷◌, List, ℕ, codes, length, Err, IfOk, IfErr, IfSome, IfNone, OnOk};
+ghost use Rattle.std.specs.Prelude.{IsOk};
 ghost use Rattle.std.specs.Str.Lines.{lines};
 ghost use Rattle.dms_text.specs.Lines.{kept_lines};
+ghost use Rattle.dms_centre.specs.State.{start};
 ghost use Rattle.dms_world.specs.Event.{EventModel};
+ghost use Rattle.dms_world.specs.World.{beginning};
+ghost use Rattle.dms_world.specs.CodeView.{seen};
 ghost use Rattle.dms_sign_text.specs.Description.{Description};
 ghost use Rattle.dms_text_streams.specs.DescriptionText.{longest_input};
 ghost use Rattle.dms_sign_text.specs.RefusedLine.{all_numbered, numbered_left, refused_number, Leaves};
 ghost use Rattle.dms_sign_text.specs.Setups.{octets_left, IsMade};
-ghost use Rattle.dms_replay.specs.EventView.{script_events_model};
 ghost use Rattle.dms_sign_text.specs.ReadingFaults.{IsLine};
 ghost use Rattle.dms_replay.specs.RefusedScript.{IsRefusedIn, NamesLine};
 ghost use Rattle.dms_replay.specs.Script.{NamesPrefix, SpellsScript};
+ghost use Rattle.dms_replay.specs.ScriptRun.{IsRun};
 ghost use Rattle.dms_sign_text.specs.declared.reading_fault.ReplayFault.TheVariants as faults;
 
-use crate::events::events;
-use crate::script_event::ScriptEvent;
+use crate::events::{check_events, run_events};
+use dms_centre::{Centre, Settings};
+use dms_sign::laws::signs_are_kept;
 use dms_sign_text::{DescriptionFault, ReplayFault, Setup, sign_of_lines};
 use dms_text::Lines;
+use dms_world::World;
 use std::alloc::Global;
 
-/// What a script says.
-#[derive(Drop)]
-pub(crate) struct Script {
-    /// The sign, and the number of the first request of its centre.
-    pub setup: Setup,
-    /// What happens.
-    pub events: Vec<ScriptEvent>,
-}
-
-/// The script that a text spells.
+/// The text spells a script.
 #[tactic(auto, using(crate::proofs::ScriptRead::scripts_read))]
-pub(crate) fn read_script(alloc: Global, octets: &[u8]) -> Result<Script, ReplayFault>
+pub(crate) fn check_script(alloc: Global, octets: &[u8]) -> Result<(), ReplayFault>
     requires { length octets.now ≤ longest_input }
-    ensures read { IfOk result (λ script. (it : Description)
-        × SpellsScript octets.now it (script_events_model script.events.items) × IsMade it script.setup) }
+    ensures read { OnOk result ((it : Description) × (events : List EventModel) × SpellsScript octets.now it events) }
     ensures line { IfErr result (λ fault. (fault ≡ faults.Memory)
         ⊎ (IsLine fault × ((it : Description) (events : List EventModel) → SpellsScript octets.now it events → ⊥))) }
     ensures number { IfErr result (NamesLine (IsRefusedIn octets.now)) }
@@ -43,9 +39,51 @@ pub(crate) fn read_script(alloc: Global, octets: &[u8]) -> Result<Script, Replay
         Ok(found) => found,
         Err(fault) => return Err(fault),
     };
-    match events(alloc, setup.sign.order(), lines) {
-        Ok(events) => Ok(Script { setup, events }),
+    match check_events(alloc, setup.sign.order(), lines) {
+        Ok(()) => Ok(()),
         Err(fault) => Err(fault),
+    }
+}
+
+/// The world in which the events of the script that a text spells have happened, each as its line was read, and how
+/// many there were.
+#[tactic(auto, using(crate::proofs::ScriptRead::scripts_run))]
+pub(crate) fn run_script(alloc: Global, octets: &[u8]) -> Result<(World, usize), ReplayFault>
+    requires { length octets.now ≤ longest_input }
+    ensures run { IfOk result (λ ended. IsRun octets.now (seen ended.0) ended.1) }
+    ensures line { IfErr result (λ fault. (fault ≡ faults.Memory)
+        ⊎ (IsLine fault × ((it : Description) (events : List EventModel) → SpellsScript octets.now it events → ⊥))) }
+    ensures number { IfErr result (NamesLine (IsRefusedIn octets.now)) }
+{
+    let (setup, lines) = match named_sign(alloc, octets) {
+        Ok(found) => found,
+        Err(fault) => return Err(fault),
+    };
+    let order = setup.sign.order();
+    let mut world = fresh_world(alloc, setup)?;
+    match run_events(alloc, order, &mut world, lines) {
+        Ok(count) => Ok((world, count)),
+        Err(fault) => Err(fault),
+    }
+}
+
+/// The world of a sign and of its centre, which has the sign's writing community and its order. It is always `Ok`: a
+/// sign's communities are a centre's, and no memory is taken.
+fn fresh_world(alloc: Global, setup: Setup) -> Result<World, ReplayFault>
+    ensures world { IfOk result (λ world. seen world ≡ beginning setup.sign
+        (start (record { community = setup.sign.config.writer; order = setup.sign.table.order }) setup.first)) }
+    ensures memory { IfErr result (λ fault. fault ≡ faults.Memory) }
+    ensures always { IsOk result }
+{
+    let Setup { sign, first } = setup;
+    signs_are_kept(&sign);
+    let settings = Settings {
+        community: sign.writer(),
+        order: sign.order(),
+    };
+    match Centre::new(alloc, settings, first) {
+        Ok(centre) => Ok(World::new(alloc, sign, centre)),
+        Err(_) => Err(ReplayFault::Memory),
     }
 }
 

@@ -1,10 +1,9 @@
-use Rattle.dms_replay.specs.EventView.{script_events_model}
 use Rattle.dms_replay.proofs.ScriptCauses.{no_line_of_a_script, another_line}
 use Rattle.dms_replay.proofs.reasons.why.Goals as goal
 
 pub returns-in_default-clause-told : goal.returns-in_default-clause-told
 returns-in_default-clause-told c =
-    no_line_of_a_script c.args.octets.now c.args.number c.in_default.ensures.read.0 (script_events_model c.in_default.field-0.events.items) c.in_default.ensures.read.1
+    no_line_of_a_script c.args.octets.now c.args.number c.in_default.ensures.read.0 c.in_default.ensures.read.1 c.in_default.ensures.read.2
 
 pub returns-in_default-fault-clause-told : goal.returns-in_default-fault-clause-told
 returns-in_default-fault-clause-told c =
