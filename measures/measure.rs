@@ -16,6 +16,7 @@ mod measure_sign;
 mod peer;
 mod peer_agent;
 mod peer_centre;
+mod peer_digits;
 mod peer_replay;
 mod peer_sign;
 mod peer_text;

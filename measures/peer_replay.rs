@@ -6,6 +6,7 @@
 
 use crate::peer::Out;
 use crate::peer_centre::{Activation, Centre, Command, Order, Outcome, Publication};
+use crate::peer_digits::{put_few, put_octets};
 use crate::peer_sign::{Sign, Shows};
 use crate::peer_text::{Face, Fonts, digit};
 
@@ -243,13 +244,6 @@ fn run(world: &mut World, events: &[Event]) {
 
 // ---- the report
 
-fn put_octets(report: &mut Vec<u8>, octets: &[u8]) {
-    const DIGITS: &[u8; 16] = b"0123456789abcdef";
-    for octet in octets {
-        report.extend_from_slice(&[DIGITS[usize::from(octet >> 4)], DIGITS[usize::from(octet & 15)]]);
-    }
-}
-
 /// Writes a word or several, and a number behind them.
 fn put_number(report: &mut Vec<u8>, words: &[u8], number: u64) {
     report.extend_from_slice(words);
@@ -296,13 +290,13 @@ fn report(world: &World, events: usize) -> Vec<u8> {
     for (number, code) in &world.accepted {
         put_number(&mut report, b"accepted ", *number as u64);
         report.push(b' ');
-        put_octets(&mut report, code);
+        put_few(&mut report, code);
         report.push(b'\n');
     }
     for entry in world.centre.ledger() {
         put_number(&mut report, b"ledger ", entry.number.into());
         report.push(b' ');
-        put_octets(&mut report, &entry.code.to_bytes(Order::High));
+        put_few(&mut report, &entry.code.to_bytes(Order::High));
         put_outcome(&mut report, entry.outcome);
     }
     report

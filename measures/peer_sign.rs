@@ -18,12 +18,13 @@ const BLANK: u8 = 7;
 /// The defaults, in the order of their objects.
 const DEFAULTS: [u8; 9] = [0, 9, 5, 5, 1, 3, 2, 30, 0];
 
-/// The groups and numbers of the objects, in their order, and of dmsMessageTable, which stands among them.
+/// The groups and numbers of the objects, in their order, the first of them, and that of dmsMessageTable, which stands among them.
 const OBJECTS: [(u16, u16); 36] = [
     (2, 3), (2, 4), (4, 1), (4, 2), (4, 3), (4, 4), (4, 5), (4, 6), (4, 7), (4, 8), (4, 9), (4, 11), (5, 1), (5, 2), (5, 3), (5, 4), (5, 5),
     (5, 6), (5, 7), (5, 9), (6, 3), (6, 4), (6, 5), (6, 6), (6, 7), (6, 8), (6, 9), (6, 10), (6, 12), (6, 13), (6, 14), (6, 15), (6, 17),
     (6, 18), (6, 19), (6, 24),
 ];
+const FIRST: Instance = Instance::Object(2, 3);
 const TABLE: (u16, u16) = (5, 8);
 const BEHIND_TABLE: (u16, u16) = (5, 9);
 
@@ -229,7 +230,7 @@ impl Counts {
 
     fn next_of_others(&self, content: &[u8]) -> Option<Instance> {
         let is_before = numbers(content).lt(numbers(&DMS)) || DMS.starts_with(content);
-        if is_before { self.object_from((0, 0)) } else { None }
+        is_before.then_some(FIRST)
     }
 
     fn next_below(&self, mut rest: impl Iterator<Item = u32>) -> Option<Instance> {

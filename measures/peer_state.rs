@@ -6,6 +6,8 @@
 
 #![forbid(unsafe_code)]
 
+mod peer_digits;
+
 use std::hint::black_box;
 use std::io::{self, Write};
 use std::process::ExitCode;
@@ -119,13 +121,11 @@ mod checksum {
 mod saving {
     use super::*;
 
-    const DIGITS: &[u8; 16] = b"0123456789abcdef";
-
     fn put_octets(out: &mut Vec<u8>, octets: &[u8]) {
         if octets.is_empty() {
             out.push(b'-');
         }
-        out.extend(octets.iter().flat_map(|octet| [octet >> 4, octet & 15].map(|digit| DIGITS[usize::from(digit)])));
+        peer_digits::put_octets(out, octets);
     }
 
     fn put_message(out: &mut Vec<u8>, message: &Message) -> io::Result<()> {

@@ -18,6 +18,8 @@ struct Font {
     version: u32,
     /// The columns of each character below 256, and its place among the pictures, and those of the characters above.
     widths: [u16; 256],
+    /// The columns of each octet that spells a character by itself.
+    plain: [u16; 256],
     low: [u8; 256],
     high: HashMap<u16, (u16, u8)>,
     /// The rows of all pictures, one behind the other.
@@ -57,6 +59,7 @@ impl Font {
             line_spacing: line_spacing?,
             version: u32::from(hexadecimal(words[4])?),
             widths: [NO_WIDTH; 256],
+            plain: [NO_WIDTH; 256],
             low: [0; 256],
             high: HashMap::new(),
             rows: Vec::new(),
@@ -83,7 +86,13 @@ impl Font {
             self.rows.push(((held >> count) as u32) << (32 - width));
         }
         match self.widths.get_mut(usize::from(character)) {
-            Some(slot) => (*slot, self.low[usize::from(character)]) = (width as u16, self.glyphs),
+            Some(slot) => {
+                *slot = width as u16;
+                self.low[usize::from(character)] = self.glyphs;
+                if !matches!(character, 91 | 93) {
+                    self.plain[usize::from(character)] = width as u16;
+                }
+            }
             None => drop(self.high.insert(character, (width as u16, self.glyphs))),
         }
         self.glyphs += 1;
@@ -217,13 +226,26 @@ fn hexadecimal(text: &[u8]) -> Option<u16> {
     text.iter().try_fold(0_u16, |number, octet| Some(number << 4 | u16::from(digit(*octet)?)))
 }
 
+/// What each octet is worth as a hexadecimal digit, and 255 where it is none.
+const DIGITS: [u8; 256] = digits();
+
+const fn digits() -> [u8; 256] {
+    let mut table = [255; 256];
+    let mut value = 0;
+    while value < 16 {
+        let octet = b"0123456789abcdef"[value as usize];
+        table[octet as usize] = value;
+        table[octet.to_ascii_uppercase() as usize] = value;
+        value += 1;
+    }
+    table
+}
+
 #[inline]
 pub fn digit(octet: u8) -> Option<u8> {
-    match octet {
-        b'0'..=b'9' => Some(octet - b'0'),
-        b'a'..=b'f' => Some(octet - b'a' + 10),
-        b'A'..=b'F' => Some(octet - b'A' + 10),
-        _ => None,
+    match DIGITS[usize::from(octet)] {
+        255 => None,
+        value => Some(value),
     }
 }
 
@@ -416,6 +438,26 @@ impl<'a> Checker<'a> {
         Ok(())
     }
 
+    /// How many of a text's octets spell characters by themselves that have room behind those before them and change nothing else.
+    #[inline]
+    fn run(&mut self, text: &[u8]) -> usize {
+        let font = self.font;
+        let run = &mut self.characters[usize::from(self.side - 2)];
+        if run.spacing != Some(font.character_spacing) || font.height > self.height || font.line_spacing > self.spacing {
+            return 0;
+        }
+        let mut size = run.size;
+        let fits = |octet: &&u8| {
+            let longer = size + font.character_spacing + u32::from(font.plain[usize::from(**octet)]);
+            let fits = longer <= self.columns;
+            size = if fits { longer } else { size };
+            fits
+        };
+        let count = text.iter().take_while(fits).count();
+        run.size = size;
+        count
+    }
+
     fn grow(&mut self) -> Result<(), Code> {
         self.any = true;
         self.height = self.height.max(self.font.height);
@@ -486,9 +528,10 @@ impl<'a> Checker<'a> {
     }
 }
 
-/// Walks a text while it fits, and hands over each item: the number of its pages, or its fault and where it stands.
+/// Walks a text while it fits, and hands over each item, or but the first of a run: the number of its pages, or its fault and where
+/// it stands.
 #[inline]
-fn walk(face: &Face, text: &[u8], mut each: impl FnMut(Item)) -> Result<usize, (Code, usize)> {
+fn walk<const RUNS: bool>(face: &Face, text: &[u8], mut each: impl FnMut(Item)) -> Result<usize, (Code, usize)> {
     if text.len() > 512 {
         return Err((Code::TooBig, 512));
     }
@@ -501,7 +544,7 @@ fn walk(face: &Face, text: &[u8], mut each: impl FnMut(Item)) -> Result<usize, (
         if !matches!(first, b'[' | b']') {
             checker.character(u16::from(*first)).map_err(|code| (code, place))?;
             each(Item::Char(u16::from(*first)));
-            rest = more;
+            rest = if RUNS { &more[checker.run(more)..] } else { more };
             continue;
         }
         let (item, more) = item(rest).map_err(|code| (code, place))?;
@@ -517,7 +560,7 @@ fn walk(face: &Face, text: &[u8], mut each: impl FnMut(Item)) -> Result<usize, (
 
 /// The number of a text's pages, or its fault and where it stands.
 pub fn check(face: &Face, text: &[u8]) -> Result<usize, (Code, usize)> {
-    walk(face, text, |_| {})
+    walk::<true>(face, text, |_| {})
 }
 
 // ---- pages
@@ -809,7 +852,7 @@ impl<'a> Layout<'a> {
 /// The pages of a text, or its fault and where it stands.
 pub fn pages(face: &Face, text: &[u8]) -> Result<Vec<Page>, (Code, usize)> {
     let mut layout = Layout::new(face, text.len().min(512)).ok_or((Code::NoFont, 0))?;
-    walk(face, text, |item| layout.take(item))?;
+    walk::<false>(face, text, |item| layout.take(item))?;
     layout.close_page();
     let Layout { pages, lines, characters, .. } = &layout;
     Ok(pages.iter().map(|page| Page::drawn(face, page, &lines[page.lines.clone()], characters)).collect())
