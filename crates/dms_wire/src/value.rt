@@ -41,7 +41,7 @@ pub enum Value<'a> {
 }
 
 /// Whether the tag is one of a value.
-#[inline]
+#[inline(always)]
 fn is_value_tag(tag: u8) -> bool
     ensures { result ≡ is_value_tag tag }
 {
