@@ -12,10 +12,10 @@ use Rattle.dms_centre.specs.Invariant.{Rise}
 use Rattle.dms_centre.proofs.Restored.{EntryTaken, entry_taken}
 use Rattle.dms_centre_state.specs.CentreText.{ledger_line, ledger_lines}
 use Rattle.dms_centre_state.specs.Reached.{IsEntry, is_settled}
-use Rattle.dms_centre_state.proofs.Tells.{IsFree}
+use Rattle.dms_text_exact.specs.Fronts.{IsFree}
 use Rattle.dms_centre_restored.specs.declared.refusal.Lack.{Lack}
 use Rattle.dms_centre_restored.specs.Lacks.{here, wanting, ◌>>=◌}
-use Rattle.dms_centre_restored.specs.WordReading.{starts_with}
+use Rattle.dms_text_exact.specs.Fronts.{starts_with}
 use Rattle.dms_centre_restored.specs.LineReading.{entry_line_at}
 use Rattle.dms_centre_restored.specs.StateReading.{entry_wanted, with_read_entry, with_settled, next_entry_at, or_these, entries_at}
 use Rattle.dms_centre_restored.proofs.Readings.{done, never, wants_on, bind_ok, bind_err, ok_is, wanting_ok, wanting_err, unless_ok, unless_err}

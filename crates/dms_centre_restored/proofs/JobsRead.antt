@@ -30,9 +30,15 @@ use Rattle.dms_centre_text.specs.CommandReading.{publish_at, command_word, comma
 use Rattle.dms_centre_text.proofs.CommandLaws.{command_only}
 use Rattle.dms_centre_state.specs.CentreText.{number_line, publish_line, work_line}
 use Rattle.dms_centre_state.proofs.Words.{bytes_below}
-use Rattle.dms_centre_restored.specs.WordReading.{behind, number_in, after_number, after_octets, after_address, code_in}
+use Rattle.dms_text_exact.specs.ExactWords.{number_in}
+use Rattle.dms_text_exact.specs.Fronts.{behind}
+use Rattle.dms_text_exact.proofs.FrontLaws.{behind_only}
+use Rattle.dms_text_exact.proofs.DigitLaws.{spells_octets}
+use Rattle.dms_text_exact.proofs.NumberLaws.{spells_number, number_word_only}
+use Rattle.dms_text_exact.proofs.AddressLaws.{dotted_is, four_parts}
+use Rattle.dms_centre_restored.specs.WordReading.{after_number, after_octets, after_address, code_in}
 use Rattle.dms_centre_restored.specs.LineReading.{field_at, step_of, comes_to, step_in, step_line_at, after_row, after_message, after_terms, is_last, are_terms, is_publication, publication_at, activation_at, is_of_showing, work_at}
-use Rattle.dms_centre_restored.proofs.WordsRead.{some, behind_only, IsWord, spaced, words_spaced, spaced_free, spells_number, number_only_in, decimal_word, after_number_only, after_octets_only, octets_word, spells_octets, code_only, code_word, four_of, dotted_is, four_parts, address_word, after_address_only}
+use Rattle.dms_centre_restored.proofs.WordsRead.{some, IsWord, spaced, words_spaced, spaced_free, decimal_word, after_number_only, after_octets_only, octets_word, code_only, code_word, four_in, address_word, after_address_only}
 use Rattle.dms_centre_restored.proofs.LinesRead.{field_only}
 
 -- ---- publications
@@ -175,7 +181,7 @@ spells_part n small = record { spelled = spells_number 3 n (omega arith) (omega 
 
 spells_address : (address : List ℕ) → IsAddress address → SpellsAddress address (dotted address)
 spells_address address is =
-    let f = four_of address is in
+    let f = four_in address is in
     let four = f.a ∷ f.b ∷ f.c ∷ f.d ∷ [] in
     let parts = four_parts f.a f.b f.c f.d f.a_small f.b_small f.c_small f.d_small in
     let each : SpellsEach SpellsAddressPart four (decimal f.a ∷ decimal f.b ∷ decimal f.c ∷ decimal f.d ∷ []) =
@@ -318,7 +324,7 @@ unfolding step_in
 step_only stage step comes =
     let range = step_range step in
     goes_on (number_in 1 8 (decimal (step_number step))) (λ n. cond (comes_to stage (step_of n)) (some (step_of n)) None) (step_number step)
-    (number_only_in 1 8 (step_number step) range.0 range.1 (omega arith))
+    (number_word_only 1 8 (step_number step) range.0 range.1 (omega arith))
     ∙ ap (λ step. cond (comes_to stage step) (some step) None) (step_back step)
     ∙ ap (λ b. cond b (some step) None) comes
 

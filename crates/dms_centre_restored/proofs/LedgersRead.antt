@@ -19,7 +19,7 @@ use Rattle.dms_centre_restored.specs.declared.refusal.Unread.{Unread}
 use Rattle.dms_centre_restored.specs.declared.refusal.Unread.TheVariants as unread
 use Rattle.dms_centre_restored.specs.declared.refusal.Lack.{Lack}
 use Rattle.dms_centre_restored.specs.Lacks.{here, wanting, unless, Fails, ◌>>=◌}
-use Rattle.dms_centre_restored.specs.WordReading.{starts_with}
+use Rattle.dms_text_exact.specs.Fronts.{starts_with}
 use Rattle.dms_centre_restored.specs.LineReading.{entry_line_at}
 use Rattle.dms_centre_restored.specs.StateReading.{entry_wanted, with_read_entry, with_settled, next_entry_at, or_these, entries_at}
 use Rattle.dms_centre_restored.proofs.Readings.{done, reads_on, wants_on}

@@ -28,7 +28,7 @@ use Rattle.dms_centre_state.specs.Reached.{IsPhaseOf, IsEntry, is_settled, IsLed
 use Rattle.dms_centre_restored.specs.declared.refusal.StateField.TheVariants as fields
 use Rattle.dms_centre_restored.specs.declared.refusal.Lack.{Lack}
 use Rattle.dms_centre_restored.specs.Lacks.{here, wanting, ◌>>=◌}
-use Rattle.dms_centre_restored.specs.WordReading.{starts_with}
+use Rattle.dms_text_exact.specs.Fronts.{starts_with}
 use Rattle.dms_centre_restored.specs.LineReading.{entry_line_at, end_at}
 use Rattle.dms_centre_restored.specs.JobReading.{JobRead}
 use Rattle.dms_centre_restored.specs.StateReading.{job_waits, entry_wanted, with_read_job, next_entry_at, or_these, entries_at, same_codes, has_last_code, is_entered, activation_taken_at, behind_entries, ledger_at}

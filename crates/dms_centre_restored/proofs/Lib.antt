@@ -1,7 +1,7 @@
 -- what is taken up leaves a state that a central system comes to
 pub mod TakenUp
--- a code is read of its digits
-pub mod Codes
+-- octets that are compared are the same
+pub mod SameTexts
 -- the code of the last entry of a ledger
 pub mod LastCode
 -- readings that go on, or come to an end

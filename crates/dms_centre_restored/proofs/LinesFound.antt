@@ -35,10 +35,14 @@ use Rattle.dms_centre.specs.State.{Entry}
 use Rattle.dms_centre.specs.Restoring.{suits}
 use Rattle.dms_centre_text.specs.CommandReading.{publish_at}
 use Rattle.dms_centre_state.specs.CentreText.{last_line, work_line}
-use Rattle.dms_centre_restored.specs.WordReading.{behind, line_at, number_in, signed_in, after_number, after_octets, after_address, code_in}
+use Rattle.dms_text_exact.specs.ExactWords.{number_in, integer_in}
+use Rattle.dms_text_exact.specs.Fronts.{behind}
+use Rattle.dms_text_exact.proofs.FrontLaws.{behind_found, cut_found, part_only, joined}
+use Rattle.dms_text_exact.proofs.NumberLaws.{number_word_found, integer_word_found}
+use Rattle.dms_centre_restored.specs.WordReading.{line_at, after_number, after_octets, after_address, code_in}
 use Rattle.dms_centre_restored.specs.LineReading.{field_at, number_line_at, why_alone, numbered_or, why_numbered, why_of_row, why_caused, why_in, step_digit, failed_at, failed_in, ended_in, step_of, comes_to, step_in, after_row, after_message, after_terms, is_last, are_terms, is_publication, publication_in, publication_at, activation_at, is_of_showing, is_activation, work_at, known, known_at, refused_at, outcome_at, entry_in}
-use Rattle.dms_centre_restored.proofs.WordsRead.{part_only, signed_word}
-use Rattle.dms_centre_restored.proofs.WordsFound.{behind_found, line_found, joined, number_found_in, signed_found, after_number_found, after_octets_found, after_address_found, code_found}
+use Rattle.dms_centre_restored.proofs.WordsRead.{signed_word}
+use Rattle.dms_centre_restored.proofs.WordsFound.{after_number_found, after_octets_found, after_address_found, code_found}
 use Rattle.dms_centre_restored.proofs.LinesRead.{failure, failure_line, IsSpelledOutcome, IsSpelledEntry, entry_words, entry_words_are}
 use Rattle.dms_centre_restored.proofs.JobsRead.{IsFit, words, words_are, command_read, command_back, publish_text}
 
@@ -46,7 +50,7 @@ pub field_found : (name text : List ℕ) (x : List ℕ × List ℕ) → field_at
 unfolding field_at
 field_found name text x e =
     let read = begun (behind name text) (λ rest. line_at rest) x e in
-    behind_found name text read.0 read.1 ∙ ap (λ rest. name ++ rest) (line_found read.0 x read.2)
+    behind_found name text read.0 read.1 ∙ ap (λ rest. name ++ rest) (cut_found 10 read.0 x read.2)
 
 pub number_line_found : (name text : List ℕ) (low high : ℕ) (x : ℕ × List ℕ) → number_line_at name low high text ≡ Some x
     → ((low ≤ x.0) × (x.0 ≤ high)) × (text ≡ name ++ (decimal x.0 ++ 10 ∷ x.1))
@@ -54,7 +58,7 @@ unfolding number_line_at
 number_line_found name text low high x e =
     let field = begun (field_at name text) (λ field. number_in low high field.0 >>= (λ number. Some (number, field.1))) x e in
     let number = begun (number_in low high field.0.0) (λ number. Some (number, field.0.1)) x field.2 in
-    let is = number_found_in low high number.0 field.0.0 number.1 in
+    let is = number_word_found low high number.0 field.0.0 number.1 in
     subst (λ (x : ℕ × List ℕ). ((low ≤ x.0) × (x.0 ≤ high)) × (text ≡ name ++ (decimal x.0 ++ 10 ∷ x.1))) (same_Some (number.0, field.0.1) x number.2)
     ((is.0, is.1), field_found name text field.0 field.1 ∙ ap (λ digits. name ++ (digits ++ 10 ∷ field.0.1)) is.2)
 
@@ -83,8 +87,8 @@ numbered : (name reason : List ℕ) (make : ℤ → Why) (others : Option Why) (
     → behind name reason ≡ found → numbered_or found make others ≡ Some why → (others ≡ Some why → IsWhyText reason why) → IsWhyText reason why
 numbered name reason make others why None text is e other = other e
 numbered name reason make others why (Some word) text is e other =
-    let read = begun (signed_in word) (λ number. Some (make number)) why e in
-    let spelled = signed_found word read.0 read.1 in
+    let read = begun (integer_in word) (λ number. Some (make number)) why e in
+    let spelled = integer_word_found word read.0 read.1 in
     behind_found name reason word is ∙ ap (λ word. name ++ word) spelled.1 ∙ sym (text read.0) ∙ ap why_text (same_Some (make read.0) why read.2)
 
 numbered_found : (reason : List ℕ) (why : Why) → why_numbered reason ≡ Some why → IsWhyText reason why
@@ -157,10 +161,10 @@ IsOutcomeOf words outcome = IsSpelledOutcome outcome × (words ≡ words_of (out
 refused_found : (words : List (List ℕ)) (outcome : Outcome) → refused_at words ≡ Some outcome → IsOutcomeOf (codes "refused" ∷ words) outcome
 unfolding refused_at
 refused_found words outcome e =
-    let word = begun (word_at words) (λ found. signed_in found.0 >>= (λ status. if_last (outcomes.Refused status) found.1)) outcome e in
-    let status = begun (signed_in word.0.0) (λ status. if_last (outcomes.Refused status) word.0.1) outcome word.2 in
+    let word = begun (word_at words) (λ found. integer_in found.0 >>= (λ status. if_last (outcomes.Refused status) found.1)) outcome e in
+    let status = begun (integer_in word.0.0) (λ status. if_last (outcomes.Refused status) word.0.1) outcome word.2 in
     let first = word_found words word.0 word.1 in
-    let spelled = signed_found word.0.0 status.0 status.1 in
+    let spelled = integer_word_found word.0.0 status.0 status.1 in
     let last = last_found (outcomes.Refused status.0) word.0.1 outcome status.2 in
     subst (λ (outcome : Outcome). IsOutcomeOf (codes "refused" ∷ words) outcome) last.1 (
       spelled.0,
@@ -221,7 +225,7 @@ entry_found order least most value entry small e =
     let read : Entry = record { number = number.0; code = code.0; outcome = outcome.0 } in
     let one = word_found (words_of value) first.0 first.1 in
     let two = word_found first.0.1 second.0 second.1 in
-    let digits = number_found_in least most number.0 first.0.0 number.1 in
+    let digits = number_word_found least most number.0 first.0.0 number.1 in
     let hex = code_found order second.0.0 code.0 code.1 in
     let end = outcome_found second.0.1 outcome.0 outcome.1 in
     let is : IsSpelledEntry read = record { code = hex.0; outcome = end.0 } in
@@ -252,7 +256,7 @@ pub step_found : (stage : SavedStage) (value : List ℕ) (step : Step) → step_
 unfolding step_in
 step_found stage value step e =
     let number = begun (number_in 1 8 value) (λ number. cond (comes_to stage (step_of number)) (Some (step_of number)) None) step e in
-    let is = number_found_in 1 8 number.0 value number.1 in
+    let is = number_word_found 1 8 number.0 value number.1 in
     let tests = cond_some (comes_to stage (step_of number.0)) (step_of number.0) step number.2 in
     subst (λ (step : Step). (comes_to stage step ≡ true) × (value ≡ decimal (step_number step))) tests.1
     (tests.0, is.2 ∙ ap decimal (sym (number_of_step number.0 is.0 is.1)))

@@ -1,9 +1,10 @@
 -- A line that is spelled so is read as that, and what comes after is left.
-use Rattle.std.proofs.Common.{◌≡◌, ℕ, ℤ, ◌+◌, ◌-◌, ◌<◌, ◌≤◌, ◌^◌, ◌==◌, cond, List, [], ◌∷◌, ◌++◌, Some, None, decimal, codes, nat_le, refl, ap, ◌∙◌, append_assoc, arith}
+use Rattle.std.proofs.Common.{IsTrue, ◌≡◌, ℕ, ℤ, ◌+◌, ◌-◌, ◌<◌, ◌≤◌, ◌^◌, ◌==◌, cond, List, [], ◌∷◌, ◌++◌, Some, None, decimal, codes, nat_le, refl, ap, ◌∙◌, append_assoc, arith}
 use Rattle.std.specs.Fmt.{signed_decimal}
 use Rattle.std.specs.List.{list_any}
 use Rattle.std.proofs.lemmas.Bool.{and_from, or_from, le-leb, ne_eqb}
 use Rattle.std.proofs.lemmas.Fmt.{decimal_digit}
+use Rattle.dms_wire_ber.specs.Integer.{in_range}
 use Rattle.dms_text.specs.Words.{words_of}
 use Rattle.dms_text.specs.Reading.{word_at, ◌>>=◌}
 use Rattle.dms_text.proofs.WordLaws.{goes_on, word_only}
@@ -21,15 +22,19 @@ use Rattle.dms_centre.specs.Texts.{outcome_text, why_text}
 use Rattle.dms_centre.specs.State.{Entry}
 use Rattle.dms_centre_state.specs.CentreText.{last_line, ledger_line}
 use Rattle.dms_centre_state.specs.Reached.{IsOutcome, IsEntry, IsWhy, IsEnded}
-use Rattle.dms_centre_state.proofs.Tells.{IsFree}
-use Rattle.dms_centre_restored.specs.WordReading.{behind, line_at, number_in, signed_in, code_in}
+use Rattle.dms_text_exact.specs.Fronts.{IsFree}
+use Rattle.dms_text_exact.specs.ExactWords.{number_in, integer_in}
+use Rattle.dms_text_exact.specs.Fronts.{behind}
+use Rattle.dms_text_exact.proofs.FrontLaws.{behind_only, cut_only, free_append, part_first, part_only}
+use Rattle.dms_text_exact.proofs.NumberLaws.{number_word_only, integer_word_only, decimal_free, decimal_some, signed_some}
+use Rattle.dms_centre_restored.specs.WordReading.{line_at, code_in}
 use Rattle.dms_centre_restored.specs.LineReading.{field_at, number_line_at, why_alone, why_numbered, why_of_row, why_caused, why_in, step_digit, failed_at, ended_in, known, known_at, refused_at, outcome_at, entry_in, entry_line_at}
-use Rattle.dms_centre_restored.proofs.WordsRead.{IsShort, some, behind_only, line_only, free_append, part_first, part_only, number_only_in, decimal_free, decimal_word, decimal_some, short_in, signed_only, signed_word, signed_some, code_only, code_word, code_some}
+use Rattle.dms_centre_restored.proofs.WordsRead.{some, decimal_word, signed_word, code_only, code_word, code_some}
 
 pub field_only : (name value rest : List ℕ) → IsFree 10 value → field_at name (name ++ (value ++ 10 ∷ rest)) ≡ Some (value, rest)
 unfolding field_at
 field_only name value rest free =
-    goes_on (behind name (name ++ (value ++ 10 ∷ rest))) (λ rest. line_at rest) (value ++ 10 ∷ rest) (behind_only name (value ++ 10 ∷ rest)) ∙ line_only value rest free
+    goes_on (behind name (name ++ (value ++ 10 ∷ rest))) (λ rest. line_at rest) (value ++ 10 ∷ rest) (behind_only name (value ++ 10 ∷ rest)) ∙ cut_only 10 value rest free
 
 pub number_line_only : (name : List ℕ) (low high n : ℕ) (rest : List ℕ) → low ≤ n → n ≤ high → high < 10 ^ 10
     → number_line_at name low high (name ++ ((decimal n ++ codes "\n") ++ rest)) ≡ Some (n, rest)
@@ -38,31 +43,31 @@ number_line_only name low high n rest least most small =
     ap (λ text. number_line_at name low high (name ++ text)) (append_assoc (decimal n) (codes "\n") rest)
     ∙ goes_on (field_at name (name ++ (decimal n ++ 10 ∷ rest))) (λ field. number_in low high field.0 >>= (λ number. some (number, field.1))) (decimal n, rest)
     (field_only name (decimal n) rest (decimal_free 10 n (omega arith) (omega (arith, most, small))))
-    ∙ goes_on (number_in low high (decimal n)) (λ number. some (number, rest)) n (number_only_in low high n least most small)
+    ∙ goes_on (number_in low high (decimal n)) (λ number. some (number, rest)) n (number_word_only low high n least most small)
 
 -- ---- how the last job ended
 
 pub why_only : (why : Why) → IsWhy why → why_in (why_text why) ≡ Some why
 unfolding why_alone why_numbered why_of_row why_caused behind
-why_only (reasons.Status z) is = goes_on (signed_in (signed_decimal z)) (λ n. some (reasons.Status n)) z (signed_only z (short_in z is))
-why_only (reasons.WrongStatus z) is = goes_on (signed_in (signed_decimal z)) (λ n. some (reasons.WrongStatus n)) z (signed_only z (short_in z is))
+why_only (reasons.Status z) is = goes_on (integer_in (signed_decimal z)) (λ n. some (reasons.Status n)) z (integer_word_only z is)
+why_only (reasons.WrongStatus z) is = goes_on (integer_in (signed_decimal z)) (λ n. some (reasons.WrongStatus n)) z (integer_word_only z is)
 why_only reasons.StillValidating is = refl
 why_only reasons.OtherChecksum is = refl
 why_only reasons.NoReply is = refl
 why_only reasons.NumbersUsedUp is = refl
 why_only reasons.OddReply is = refl
-why_only (reasons.Cause z) is = goes_on (signed_in (signed_decimal z)) (λ n. some (reasons.Cause n)) z (signed_only z (short_in z is))
+why_only (reasons.Cause z) is = goes_on (integer_in (signed_decimal z)) (λ n. some (reasons.Cause n)) z (integer_word_only z is)
 why_only reasons.Restarted is = refl
 
 why_free : (why : Why) → IsWhy why → IsFree 10 (why_text why)
-why_free (reasons.Status z) is = (signed_word z (short_in z is)).line
-why_free (reasons.WrongStatus z) is = (signed_word z (short_in z is)).line
+why_free (reasons.Status z) is = (signed_word z is).line
+why_free (reasons.WrongStatus z) is = (signed_word z is).line
 why_free reasons.StillValidating is = refl
 why_free reasons.OtherChecksum is = refl
 why_free reasons.NoReply is = refl
 why_free reasons.NumbersUsedUp is = refl
 why_free reasons.OddReply is = refl
-why_free (reasons.Cause z) is = (signed_word z (short_in z is)).line
+why_free (reasons.Cause z) is = (signed_word z is).line
 why_free reasons.Restarted is = refl
 
 step_digit_only : (step : ℕ) → 1 ≤ step → step ≤ 8 → step_digit (48 + step) ≡ Some step
@@ -108,7 +113,7 @@ end_line (endings.Failed step why) rest is = record {
 
 -- the number of an error-status that ten digits can spell
 abbrev pub IsSpelledOutcome : Outcome → Type 0
-IsSpelledOutcome (outcomes.Refused z) = IsShort z
+IsSpelledOutcome (outcomes.Refused z) = IsTrue (in_range z)
 IsSpelledOutcome outcome = Unit {0}
 
 pub record IsSpelledEntry (entry : Entry) : Type 0 where
@@ -118,20 +123,20 @@ pub record IsSpelledEntry (entry : Entry) : Type 0 where
 spelled_outcome : (outcome : Outcome) → IsOutcome outcome → IsSpelledOutcome outcome
 spelled_outcome outcomes.Waiting is = tt
 spelled_outcome outcomes.Accepted is = tt
-spelled_outcome (outcomes.Refused z) is = short_in z is
+spelled_outcome (outcomes.Refused z) is = is
 spelled_outcome outcomes.NoReply is = tt
 spelled_outcome outcomes.Unknown is = tt
 
 pub spelled_entry : (entry : Entry) → IsEntry entry → IsSpelledEntry entry
 spelled_entry entry is = record { code = is.code; outcome = spelled_outcome entry.outcome is.outcome }
 
-refused_only : (z : ℤ) → IsShort z → refused_at (words_of (signed_decimal z)) ≡ Some (outcomes.Refused z)
+refused_only : (z : ℤ) → IsTrue (in_range z) → refused_at (words_of (signed_decimal z)) ≡ Some (outcomes.Refused z)
 unfolding refused_at
 refused_only z small =
     let word = signed_decimal z in
     ap (λ words. refused_at words) (part_only 32 word (signed_word z small).space)
-    ∙ goes_on (word_at (word ∷ [])) (λ found. signed_in found.0 >>= (λ status. if_last (outcomes.Refused status) found.1)) (word, []) (word_only word [] (signed_some z small))
-    ∙ goes_on (signed_in word) (λ status. if_last (outcomes.Refused status) []) z (signed_only z small)
+    ∙ goes_on (word_at (word ∷ [])) (λ found. integer_in found.0 >>= (λ status. if_last (outcomes.Refused status) found.1)) (word, []) (word_only word [] (signed_some z small))
+    ∙ goes_on (integer_in word) (λ status. if_last (outcomes.Refused status) []) z (integer_word_only z small)
 
 outcome_only : (outcome : Outcome) → IsSpelledOutcome outcome → outcome_at (words_of (outcome_text outcome)) ≡ Some outcome
 unfolding outcome_at known_at known word_at
@@ -181,7 +186,7 @@ entry_only order least most entry low high small is =
     ∙ goes_on (number_in least most number)
     (λ number. word_at (code ∷ last) >>= (λ second. code_in order second.0 >>= (λ code. outcome_at second.1 >>= (λ outcome.
     some (record { number = number; code = code; outcome = outcome })))))
-    entry.number (number_only_in least most entry.number low high small)
+    entry.number (number_word_only least most entry.number low high small)
     ∙ goes_on (word_at (code ∷ last))
     (λ second. code_in order second.0 >>= (λ code. outcome_at second.1 >>= (λ outcome. some (record { number = entry.number; code = code; outcome = outcome }))))
     (code, last) (word_only code last (code_some order entry.code is.code))

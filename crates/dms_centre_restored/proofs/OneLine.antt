@@ -9,7 +9,7 @@ use Rattle.dms_centre_jobs.specs.Job.{SettingsModel}
 use Rattle.dms_centre.specs.declared.ended.Ended.{Ended}
 use Rattle.dms_centre.specs.declared.ended.Ended.TheVariants as endings
 use Rattle.dms_centre_state.specs.CentreText.{last_line}
-use Rattle.dms_centre_state.proofs.Tells.{IsFree}
+use Rattle.dms_text_exact.specs.Fronts.{IsFree}
 use Rattle.dms_centre_restored.specs.declared.refusal.StateField.{StateField}
 use Rattle.dms_centre_restored.specs.declared.refusal.StateField.TheVariants as fields
 use Rattle.dms_centre_restored.specs.declared.refusal.StateFault.{StateFault}

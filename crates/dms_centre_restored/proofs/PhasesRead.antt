@@ -13,11 +13,12 @@ use Rattle.dms_centre_state.specs.Reached.{IsJob, IsPhaseOf}
 use Rattle.dms_centre_restored.specs.declared.refusal.StateField.TheVariants as fields
 use Rattle.dms_centre_restored.specs.declared.lines.PhaseLine.TheVariants as phases
 use Rattle.dms_centre_restored.specs.Lacks.{wanting, ◌>>=◌}
-use Rattle.dms_centre_restored.specs.WordReading.{behind}
+use Rattle.dms_text_exact.specs.Fronts.{behind}
+use Rattle.dms_text_exact.proofs.FrontLaws.{behind_only}
 use Rattle.dms_centre_restored.specs.LineReading.{number_line_at, phase_at, phase_wanted, can_wait, comes_to, step_line_at, step_wanted, work_at, work_wanted}
 use Rattle.dms_centre_restored.specs.JobReading.{first_lines_at, waiting_at, JobRead, job_at, job_in, job_lines_at}
 use Rattle.dms_centre_restored.proofs.Readings.{done, reads_on, wants_on}
-use Rattle.dms_centre_restored.proofs.WordsRead.{some, behind_only}
+use Rattle.dms_centre_restored.proofs.WordsRead.{some}
 use Rattle.dms_centre_restored.proofs.LinesRead.{number_line_only}
 use Rattle.dms_centre_restored.proofs.JobsRead.{command_back, step_line_only, work_only}
 

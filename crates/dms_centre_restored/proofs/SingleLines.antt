@@ -20,13 +20,15 @@ use Rattle.dms_centre.specs.State.{Entry}
 use Rattle.dms_centre.specs.Restoring.{suits, end_fault}
 use Rattle.dms_centre_state.specs.CentreText.{number_line, last_line, work_line, ledger_line}
 use Rattle.dms_centre_state.specs.Reached.{IsEnded}
-use Rattle.dms_centre_state.proofs.Tells.{IsFree}
+use Rattle.dms_text_exact.specs.Fronts.{IsFree}
 use Rattle.dms_centre_restored.specs.declared.lines.PhaseLine.{PhaseLine}
 use Rattle.dms_centre_restored.specs.declared.lines.PhaseLine.TheVariants as phases
-use Rattle.dms_centre_restored.specs.WordReading.{behind, line_at}
+use Rattle.dms_text_exact.specs.Fronts.{behind}
+use Rattle.dms_text_exact.proofs.FrontLaws.{behind_found, behind_only, cut_only, free_append}
+use Rattle.dms_text_exact.proofs.NumberLaws.{decimal_free}
+use Rattle.dms_centre_restored.specs.WordReading.{line_at}
 use Rattle.dms_centre_restored.specs.LineReading.{field_at, number_line_at, ended_in, phase_or, can_wait, awaits_at, phase_at, comes_to, step_in, step_line_at, work_at, entry_in, entry_line_at}
-use Rattle.dms_centre_restored.proofs.WordsRead.{some, behind_only, line_only, spaced_free, free_append, decimal_free, code_word}
-use Rattle.dms_centre_restored.proofs.WordsFound.{behind_found}
+use Rattle.dms_centre_restored.proofs.WordsRead.{some, spaced_free, code_word}
 use Rattle.dms_centre_restored.proofs.LinesRead.{number_line_only, end_line, failure, failure_free, failure_line, IsSpelledEntry, entry_words, entry_free, entry_grouped, spelled_line_only}
 use Rattle.dms_centre_restored.proofs.LinesFound.{field_found, number_line_found, ended_found, last_line_is, entry_found, step_found, work_found}
 use Rattle.dms_centre_restored.proofs.JobsRead.{is_fit, words, more_words, are_words, publish_text, command_back, work_back, work_only, step_range, step_line_only}
@@ -49,7 +51,7 @@ pub record IsLine {A : Type 0} (spelled : A → List ℕ) (Good : A → Type 0) 
 
 pub same_line : (one other rest more : List ℕ) → IsFree 10 one → IsFree 10 other → one ++ 10 ∷ rest ≡ other ++ 10 ∷ more → (one ≡ other) × (rest ≡ more)
 same_line one other rest more free clear e =
-    let same : (one, rest) ≡ (other, more) = same_Some (one, rest) (other, more) (sym (line_only one rest free) ∙ ap line_at e ∙ line_only other more clear) in
+    let same : (one, rest) ≡ (other, more) = same_Some (one, rest) (other, more) (sym (cut_only 10 one rest free) ∙ ap line_at e ∙ cut_only 10 other more clear) in
     (ap (λ (x : List ℕ × List ℕ). x.0) same, ap (λ (x : List ℕ × List ℕ). x.1) same)
 
 pub record Follows {A : Type 0} (reader : List ℕ → Option (A × List ℕ)) (rest after more : List ℕ) (x : A × List ℕ) : Type 0 where

@@ -42,7 +42,7 @@ use Rattle.dms_centre_restored.specs.LineReading.{field_at, ended_in, entry_line
 use Rattle.dms_centre_restored.specs.JobReading.{JobRead, job_lines_at, first_lines_at}
 use Rattle.dms_centre_restored.specs.StateReading.{job_of_read, waits, entry_wanted, with_read_job, last_line_at, with_settled, next_entry_at, entries_at, same_codes, has_last_code, is_entered, activation_taken_at, with_job_behind, behind_entries, ledger_at, lines_at, same_front, compared, taken_at, first_number_in}
 use Rattle.dms_centre_restored.proofs.Readings.{done, failed, reads_on, wants_on}
-use Rattle.dms_centre_restored.proofs.WordsRead.{same_only}
+use Rattle.dms_text_exact.proofs.FrontLaws.{same_only}
 use Rattle.dms_centre_restored.proofs.LinesRead.{end_line, entry_line_only}
 use Rattle.dms_centre_restored.proofs.JobsRead.{command_back, work_back, good_back}
 use Rattle.dms_centre_restored.proofs.PhasesRead.{first_lines_only, read_of, job_of_phase, can_be, phase_only}

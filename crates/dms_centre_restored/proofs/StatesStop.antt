@@ -27,12 +27,12 @@ use Rattle.dms_centre_restored.specs.declared.refusal.Unread.TheVariants as unre
 use Rattle.dms_centre_restored.specs.Faults.{IsStateText, IsWrongAt, IsWrong}
 use Rattle.dms_centre_restored.specs.FirstFault.{fault_of, told_of}
 use Rattle.dms_centre_restored.specs.Lacks.{here, wanting, unless, Fails, ◌>>=◌}
-use Rattle.dms_centre_restored.specs.WordReading.{behind}
+use Rattle.dms_text_exact.specs.Fronts.{behind}
 use Rattle.dms_centre_restored.specs.LineReading.{field_at, number_line_at, ended_in}
 use Rattle.dms_centre_restored.specs.JobReading.{first_lines_at, JobRead, job_lines_at}
 use Rattle.dms_centre_restored.specs.StateReading.{last_line_at, ledger_at, lines_at, first_number_in, same_front, compared, taken_at}
 use Rattle.dms_centre_restored.proofs.Readings.{done, failed, never, reads_on, bind_ok, bind_err, ok_is}
-use Rattle.dms_centre_restored.proofs.WordsRead.{same_only}
+use Rattle.dms_text_exact.proofs.FrontLaws.{same_only}
 use Rattle.dms_centre_restored.proofs.SingleLines.{number_is, form_or, form_line, form_is, end_of, end_or, faultless, ended_line, ended_is}
 use Rattle.dms_centre_restored.proofs.PhasesRead.{can_be, job_of_phase, phase_only}
 use Rattle.dms_centre_restored.proofs.PhasesStop.{IsPhaseRead, phase_found, phase_stops}

@@ -11,7 +11,7 @@ use Rattle.dms_centre_restored.specs.declared.refusal.Lack.{Lack}
 use Rattle.dms_centre_restored.specs.declared.lines.PhaseLine.{PhaseLine}
 use Rattle.dms_centre_restored.specs.declared.lines.PhaseLine.TheVariants as phases
 use Rattle.dms_centre_restored.specs.Lacks.{wanting, ◌>>=◌}
-use Rattle.dms_centre_restored.specs.WordReading.{behind}
+use Rattle.dms_text_exact.specs.Fronts.{behind}
 use Rattle.dms_centre_restored.specs.LineReading.{number_line_at, phase_at, phase_wanted, step_line_at, step_wanted}
 use Rattle.dms_centre_restored.specs.LineReading.{work_at, work_wanted}
 

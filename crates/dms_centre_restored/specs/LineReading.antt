@@ -26,8 +26,9 @@ use Rattle.dms_centre_restored.specs.declared.refusal.StateField.{StateField}
 use Rattle.dms_centre_restored.specs.declared.refusal.StateField.TheVariants as fields
 use Rattle.dms_centre_restored.specs.declared.lines.PhaseLine.{PhaseLine}
 use Rattle.dms_centre_restored.specs.declared.lines.PhaseLine.TheVariants as phases
-use Rattle.dms_centre_restored.specs.WordReading.{behind, line_at, number_in, signed_in, after_number, after_octets}
-use Rattle.dms_centre_restored.specs.WordReading.{after_address, code_in}
+use Rattle.dms_text_exact.specs.ExactWords.{number_in, integer_in}
+use Rattle.dms_text_exact.specs.Fronts.{behind}
+use Rattle.dms_centre_restored.specs.WordReading.{line_at, after_number, after_octets, after_address, code_in}
 
 -- ---- lines
 
@@ -61,7 +62,7 @@ why_alone reason =
 -- the number of a word, where there is one
 abbrev pub numbered_or : Option (List ℕ) → (ℤ → Why) → Option Why → Option Why
 numbered_or None make others = others
-numbered_or (Some word) make others = signed_in word >>= (λ number. Some (make number))
+numbered_or (Some word) make others = integer_in word >>= (λ number. Some (make number))
 
 unfoldable pub why_caused : List ℕ → Option Why
 why_caused reason =
@@ -229,7 +230,7 @@ known word =
 unfoldable pub refused_at : List (List ℕ) → Option Outcome
 refused_at words = do
   found ← word_at words
-  status ← signed_in found.0
+  status ← integer_in found.0
   if_last (outcomes.Refused status) found.1
 
 unfoldable pub known_at : List ℕ → List (List ℕ) → Option Outcome

@@ -27,7 +27,7 @@ use Rattle.dms_centre_restored.specs.declared.refusal.Lack.{Lack}
 use Rattle.dms_centre_restored.specs.declared.job_lines.JobLines.{JobLines}
 use Rattle.dms_centre_restored.specs.declared.ledger_lines.EntryLine.{EntryLine}
 use Rattle.dms_centre_restored.specs.Lacks.{here, wanting, unless, ◌>>=◌}
-use Rattle.dms_centre_restored.specs.WordReading.{starts_with}
+use Rattle.dms_text_exact.specs.Fronts.{starts_with}
 use Rattle.dms_centre_restored.specs.LineReading.{field_at, ended_in, entry_line_at, end_at}
 use Rattle.dms_centre_restored.specs.JobReading.{first_lines_at, JobRead, job_lines_at}
 

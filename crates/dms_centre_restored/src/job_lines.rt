@@ -13,11 +13,12 @@ ghost use Rattle.dms_centre_restored.specs.StateReading.{job_read, saved_read, w
 
 use crate::lines::{PhaseLine, field, number_line, phase_line};
 use crate::refusal::{Lack, StateField, Unread};
-use crate::words::{after_address, after_number, after_octets, behind, code, number};
+use crate::words::{after_address, after_number, after_octets, code};
 use dms_centre::{SavedJob, SavedStage, Step};
 use dms_centre_text::{CommandWord, OwnedCommand, command_after};
 use dms_codes::{MAX_OWNER, MAX_TEXT, Order};
 use dms_text::Words;
+use dms_text_exact::{behind, number};
 use dms_text_forms::LineWords;
 use std::alloc::Global;
 

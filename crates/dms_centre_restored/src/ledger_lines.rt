@@ -19,10 +19,11 @@ ghost use Rattle.dms_centre_restored.specs.StateReading.{with_job_behind, has_la
 use crate::job_lines::JobLines;
 use crate::lines::{field, here};
 use crate::refusal::{Lack, StateField, Unread};
-use crate::words::{code, number, signed, starts_with};
+use crate::words::code;
 use dms_centre::{Centre, Ended, Entry, EntryFault, JobFault, Outcome, SavedJob};
 use dms_codes::{Activation, Order};
 use dms_text::{Words, are_same};
+use dms_text_exact::{integer, number, starts_with};
 use indexmap::IndexMap;
 
 /// An entry of the ledger, and the text after its line.
@@ -88,7 +89,7 @@ fn refused(words: Words<'_>) -> Option<Outcome>
     ensures { result ≡ refused_at words.entry }
 {
     let (word, words) = words.next_word()?;
-    let status = signed(word)?;
+    let status = integer(word)?;
     if words.is_empty() {
         Some(Outcome::Refused(status))
     } else {

@@ -11,9 +11,9 @@ ghost use Rattle.dms_centre_restored.specs.LineReading.{can_wait};
 ghost use Rattle.dms_centre_restored.specs.JobReading.{first_lines_at};
 
 use crate::refusal::{Lack, StateField};
-use crate::words::{behind, line, number, signed};
 use dms_centre::{Ended, Why};
 use dms_text::are_same;
+use dms_text_exact::{behind, cut, integer, number};
 
 /// What stands behind the name of a line.
 #[derive(Drop)]
@@ -50,7 +50,7 @@ pub(crate) fn field<'a>(
     let Some(text) = behind(name, text) else {
         return Err(lack);
     };
-    match line(text) {
+    match cut(b'\n', text) {
         Some((value, rest)) => Ok(NamedLine { value, rest, lack }),
         None => Err(lack),
     }
@@ -169,7 +169,7 @@ fn why_numbered(reason: &[u8]) -> Option<Why>
     ensures { result ≡ why_numbered reason.now }
 {
     match behind(b"error-status ", reason) {
-        Some(word) => Some(Why::Status(signed(word)?)),
+        Some(word) => Some(Why::Status(integer(word)?)),
         None => why_of_row(reason),
     }
 }
@@ -179,7 +179,7 @@ fn why_of_row(reason: &[u8]) -> Option<Why>
     ensures { result ≡ why_of_row reason.now }
 {
     match behind(b"the row has status ", reason) {
-        Some(word) => Some(Why::WrongStatus(signed(word)?)),
+        Some(word) => Some(Why::WrongStatus(integer(word)?)),
         None => why_caused(reason),
     }
 }
@@ -189,7 +189,7 @@ fn why_caused(reason: &[u8]) -> Option<Why>
     ensures { result ≡ why_caused reason.now }
 {
     let word = behind(b"the sign refused the activation for cause ", reason)?;
-    Some(Why::Cause(signed(word)?))
+    Some(Why::Cause(integer(word)?))
 }
 
 /// Whether a job is on.

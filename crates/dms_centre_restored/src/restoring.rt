@@ -121,7 +121,7 @@ fn put_last_line<'a>(centre: &mut Centre, text: &'a [u8]) -> Result<&'a [u8], Un
 }
 
 /// Compares the text of a central system's state with a text.
-#[tactic(auto, using(crate::proofs::Codes::same_texts))]
+#[tactic(auto, using(crate::proofs::SameTexts::same_texts))]
 fn compare(alloc: Global, centre: &Centre, text: &[u8]) -> Result<(), Unread>
     ensures text { OnOk result (text_of_state centre.now.state ≡ text.now) }
     ensures same { Gives (λ _. true) result (compared (text_of_state centre.now.state) text.now) }

@@ -1,26 +1,10 @@
--- Lines as they are put into a buffer: addresses, ledgers, jobs, the whole.
-use Rattle.std.proofs.Common.{◌≡◌, ℕ, ◌≤◌, List, [], ◌∷◌, ◌++◌, codes, decimal, map, flat_map, length, take, drop, get_or, refl, sym, ap, ◌∙◌, append_assoc, append-nil, arith, inl, inr}
+-- Lines as they are put into a buffer: ledgers, jobs, the whole.
+use Rattle.std.proofs.Common.{◌≡◌, ℕ, ◌≤◌, List, [], ◌∷◌, ◌++◌, map, flat_map, length, take, drop, refl, sym, ap, ◌∙◌, append_assoc, append-nil, arith, inl, inr}
 use Rattle.std.proofs.lemmas.List.{take_at, drop_all}
 use Rattle.std.proofs.lemmas.Bool.{cases_lt}
-use Rattle.dms_wire_ber.specs.NameText.{dotted}
 use Rattle.dms_text_filling.specs.Filling.{counted, laid, most_counted, Puts}
 use Rattle.dms_text_filling.proofs.Laid.{laid_whole}
 use Rattle.dms_text_filling.proofs.Parts.{nothing, two, same}
-
-joined : (w x y z : List ℕ) → w ++ x ++ y ++ z ≡ w ++ (x ++ (y ++ (z ++ [])))
-joined w x y z = simp (append_assoc, append-nil)
-
--- four numbers with dots between them
-pub dotted_four : (address : List ℕ) → length address ≡ 4
-    → decimal (get_or address 0 0) ++ (codes "." ++ decimal (get_or address 1 0)) ++ (codes "." ++ decimal (get_or address 2 0))
-    ++ (codes "." ++ decimal (get_or address 3 0)) ++ codes "\n" ≡ dotted address ++ codes "\n"
-dotted_four [] four = absurd (omega (arith, four))
-dotted_four (a ∷ []) four = absurd (omega (arith, four))
-dotted_four (a ∷ b ∷ []) four = absurd (omega (arith, four))
-dotted_four (a ∷ b ∷ c ∷ []) four = absurd (omega (arith, four))
-dotted_four (a ∷ b ∷ c ∷ d ∷ []) four =
-    ap (λ text. text ++ codes "\n") (joined (decimal a) (codes "." ++ decimal b) (codes "." ++ decimal c) (codes "." ++ decimal d))
-dotted_four (a ∷ b ∷ c ∷ d ∷ e ∷ more) four = absurd (omega (arith, four))
 
 -- the lines of a ledger are those of its entries
 pub flat_seen : {A B : Type 0} (lines : B → List ℕ) (model : A → B) (xs : List A) → flat_map (λ x. lines (model x)) xs ≡ flat_map lines (map model xs)

@@ -1,16 +1,17 @@
 -- Spellings that tell their values apart, whatever comes after.
-use Rattle.std.proofs.Common.{◌≡◌, ℕ, ℤ, pos, negsuc, zero, suc, ◌+◌, ◌/◌, ◌%◌, ◌<◌, ◌≤◌, ◌^◌, ◌==◌, ◌||◌, ◌&&◌, Bool, true, false, cond, List, [], ◌∷◌, ◌++◌, get_or, drop, slice_index, refl, sym, ap, ◌∙◌, append_assoc, arith, decimal, codes, nat_le, inl, inr}
+use Rattle.std.proofs.Common.{◌≡◌, ℕ, ℤ, pos, negsuc, suc, ◌+◌, ◌<◌, ◌^◌, ◌==◌, ◌||◌, Bool, true, false, cond, List, [], ◌∷◌, ◌++◌, get_or, drop, refl, sym, ap, ◌∙◌, append_assoc, arith, decimal, codes}
 use lib.Signed.{mag}
 use Rattle.std.specs.Fmt.{signed_decimal}
 use Rattle.std.specs.Str.{byte}
 use Rattle.std.specs.List.{list_any}
 use Rattle.std.specs.Result.{result_unwrap_or}
-use Rattle.std.specs.Str.Parse.{AllDigits}
-use Rattle.std.proofs.lemmas.Bool.{or_from, or_parts, and_parts, ne_eqb, eq-eqb, leb-true, false≢true, cases_lt}
-use Rattle.std.proofs.lemmas.Fmt.{decimal_is_IsNumeral, decimal_injective, signed_decimal_injective, decimal_digit}
-use Rattle.std.proofs.lemmas.Str.Parse.{digit_from_value}
-use Rattle.hex.specs.Hex.{IsBytes, decode_of, encode_lower, encode_with, lower_digits}
+use Rattle.std.proofs.lemmas.Bool.{or_from, or_parts, eq-eqb, false≢true}
+use Rattle.std.proofs.lemmas.Fmt.{decimal_injective, signed_decimal_injective, decimal_digit}
+use Rattle.hex.specs.Hex.{IsBytes, decode_of, encode_lower}
 use Rattle.hex.proofs.HexLemmas.{decode_of-encode_lower}
+use Rattle.dms_text_exact.specs.Fronts.{IsFree}
+use Rattle.dms_text_exact.proofs.DigitLaws.{hex_free}
+use Rattle.dms_text_exact.proofs.NumberLaws.{decimal_free}
 
 -- two values that are spelled at the front of one text are the same, and so is what comes after
 pub record Tells {A : Type 0} (spelled : A → List ℕ) (Good : A → Type 0) : Type 0 where
@@ -24,10 +25,6 @@ cancel (c ∷ p) x y e = cancel p x y (ap (drop 1) e)
 
 pub first_is : {c d : ℕ} {x y : List ℕ} → c ∷ x ≡ d ∷ y → c ≡ d
 first_is e = ap (λ xs. get_or xs 0 0) e
-
--- no octet of the word is this one
-abbrev pub IsFree : ℕ → List ℕ → Type 0
-IsFree end word = list_any (λ octet. octet == end) word ≡ false
 
 not_end : (c end : ℕ) (rest : Bool) → (c == end || rest) ≡ false → c ≡ end → ⊥
 not_end c end rest free e = let yes = eq-eqb c end e in let no = or_parts (c == end) rest free in absurd (false≢true (sym no.0 ∙ yes))
@@ -86,14 +83,6 @@ other_texts k x y other e = absurd (false≢true (sym other ∙ eq-eqb _ _ (ap (
 
 -- ---- numbers
 
-digits_free : (end : ℕ) (digits : List ℕ) → end < 48 → AllDigits 10 digits → IsFree end digits
-digits_free end [] low all = refl
-digits_free end (digit ∷ digits) low all =
-    or_from _ _ (ne_eqb digit end (λ e. omega (arith, digit_from_value digit all.0, e))) (digits_free end digits low all.1)
-
-decimal_free : (end n : ℕ) → end < 48 → n < 2 ^ 64 → IsFree end (decimal n)
-decimal_free end n low small = digits_free end (decimal n) low (decimal_is_IsNumeral n small).0.1
-
 pub number_tells : (end : ℕ) → end < 48 → Tells (λ n. decimal n ++ end ∷ []) (λ n. n < 2 ^ 64)
 number_tells end low = ended_tells decimal (λ n. n < 2 ^ 64) end (λ a b ga gb e. decimal_injective a b ga gb e) (λ n small. decimal_free end n low small)
 
@@ -151,31 +140,6 @@ cases_tell {A} Good text c = record {
 }
 
 -- ---- octets
-
-pub lower : (k : ℕ) → k < 16 → 48 ≤ slice_index lower_digits k
-lower k less = leb-true _ _ (all_from 16 k refl less)
-  where
-    all : ℕ → Bool
-    all zero = true
-    all (suc n) = nat_le 48 (slice_index lower_digits n) && all n
-
-    all_from : (n k : ℕ) → all n ≡ true → k < n → nat_le 48 (slice_index lower_digits k) ≡ true
-    all_from zero k h less = absurd (omega arith)
-    all_from (suc n) k h less =
-        let parts = and_parts (nat_le 48 (slice_index lower_digits n)) (all n) h in
-        elim (cases_lt k n) [
-          | inl below ↦ all_from n k parts.1 below
-          | inr top ↦ let e : k ≡ n = omega arith in ap (λ n. nat_le 48 (slice_index lower_digits n)) e ∙ parts.0
-        ]
-
-pub hex_free : (end : ℕ) (octets : List ℕ) → end < 48 → IsBytes octets → IsFree end (encode_lower octets)
-unfolding encode_with
-hex_free end [] low all = refl
-hex_free end (b ∷ rest) low all =
-    let small : b < 256 = all 0 in
-    or_from _ _ (ne_eqb (slice_index lower_digits (b / 16)) end (λ e. omega (arith, lower (b / 16) (omega arith), e)))
-    (or_from _ _ (ne_eqb (slice_index lower_digits (b % 16)) end (λ e. omega (arith, lower (b % 16) (omega arith), e)))
-    (hex_free end rest low (λ i. all (suc i))))
 
 pub same_octets : (a b : List ℕ) → IsBytes a → IsBytes b → encode_lower a ≡ encode_lower b → a ≡ b
 same_octets a b ga gb e = ap (λ r. result_unwrap_or r []) (sym (decode_of-encode_lower a ga) ∙ ap decode_of e ∙ decode_of-encode_lower b gb)

@@ -1,8 +1,7 @@
 -- Words of a state's text that tell their values apart.
-use Rattle.std.proofs.Common.{◌≡◌, ℕ, zero, suc, ◌/◌, ◌%◌, ◌<◌, ◌^◌, List, [], ◌∷◌, ◌++◌, get_or, slice_index, All, codes, decimal, refl, sym, ap, ◌∙◌, arith}
+use Rattle.std.proofs.Common.{◌≡◌, ℕ, ◌/◌, ◌%◌, ◌<◌, ◌^◌, List, [], ◌∷◌, ◌++◌, get_or, codes, decimal, refl, sym, ap, subst, ◌∙◌, arith}
 use Rattle.std.specs.Int.Digits.{AllBelowBase}
-use Rattle.std.proofs.lemmas.List.Elements.{All-head, All-tail}
-use Rattle.hex.specs.Hex.{IsBytes, encode_lower, encode_with, lower_digits}
+use Rattle.hex.specs.Hex.{IsBytes, encode_lower}
 use Rattle.dms_wire_ber.specs.NameText.{dotted}
 use Rattle.dms_codes.specs.declared.codes.Order.{Order}
 use Rattle.dms_codes.specs.declared.codes.Order.TheVariants.{High, Swapped}
@@ -12,8 +11,10 @@ use Rattle.dms_codes.proofs.Activations.{activation_back}
 use Rattle.dms_centre_jobs.specs.Commands.{IsAddress}
 use Rattle.dms_text_forms.specs.LineText.{code_text}
 use Rattle.dms_text_values.specs.ValueText.{octets_text}
+use Rattle.dms_text_exact.specs.Fronts.{IsFree}
+use Rattle.dms_text_exact.proofs.DigitLaws.{bytes_more, all_bytes, hex_free, octets_free}
 use Rattle.dms_centre_state.specs.CentreText.{number_line}
-use Rattle.dms_centre_state.proofs.Tells.{Tells, IsFree, lower, hex_free, same_octets, ended_tells, after_tells, pair_tells, made_tells, number_tells}
+use Rattle.dms_centre_state.proofs.Tells.{Tells, same_octets, ended_tells, after_tells, pair_tells, made_tells, number_tells}
 use Rattle.dms_centre_state.proofs.Groupings.{of_field, of_address}
 
 -- ---- fields that are numbers
@@ -25,25 +26,12 @@ field_tells name =
 
 -- ---- octets
 
-bytes_more : (octet : ℕ) (octets : List ℕ) → octet < 256 → IsBytes octets → IsBytes (octet ∷ octets)
-bytes_more octet octets small all zero = small
-bytes_more octet octets small all (suc i) = all i
-
 pub bytes_below : (octets : List ℕ) → AllBelowBase 256 octets → IsBytes octets
 bytes_below [] below = λ i. omega arith
 bytes_below (octet ∷ octets) below = bytes_more octet octets below.0 (bytes_below octets below.1)
 
-text_free : (octets : List ℕ) → IsBytes octets → IsFree 32 (octets_text octets)
-text_free [] all = refl
-text_free (octet ∷ octets) all = hex_free 32 (octet ∷ octets) (omega arith) all
-
 not_none : (octet : ℕ) (octets : List ℕ) → IsBytes (octet ∷ octets) → codes "-" ≡ encode_lower (octet ∷ octets) → ⊥
-unfolding encode_with
-not_none octet octets all e =
-    let small : octet < 256 = all 0 in
-    let low = lower (octet / 16) (omega (arith, small)) in
-    let same : 45 ≡ slice_index lower_digits (octet / 16) = ap (λ xs. get_or xs 0 0) e in
-    absurd (omega (arith, low, same))
+not_none octet octets all e = absurd (let none : IsFree 45 (codes "-") = subst (IsFree 45) (sym e) (hex_free 45 (octet ∷ octets) (omega arith) all) in cc)
 
 text_only : (a b : List ℕ) → IsBytes a → IsBytes b → octets_text a ≡ octets_text b → a ≡ b
 text_only [] [] ga gb e = refl
@@ -53,20 +41,15 @@ text_only (c ∷ a) (d ∷ b) ga gb e = same_octets (c ∷ a) (d ∷ b) ga gb e
 
 -- octets and a space
 pub text_tells : Tells (λ octets. octets_text octets ++ codes " ") IsBytes
-text_tells = ended_tells octets_text IsBytes 32 text_only text_free
+text_tells = ended_tells octets_text IsBytes 32 text_only (λ octets all. octets_free 32 octets (omega arith) all)
 
 -- ---- codes
-
-all_bytes : (octets : List ℕ) → All (λ octet. octet < 2 ^ 8) octets → IsBytes octets
-all_bytes [] all = λ i. omega arith
-all_bytes (octet ∷ octets) all =
-    bytes_more octet octets (All-head (λ octet. octet < 2 ^ 8) octet octets all) (all_bytes octets (All-tail (λ octet. octet < 2 ^ 8) octet octets all))
 
 checksum_bytes : (order : Order) (crc : ℕ) (after : List ℕ) → crc < 2 ^ 16 → IsBytes after → IsBytes (octets_of_checksum order crc ++ after)
 checksum_bytes High crc after small all = bytes_more (crc / 256) (crc % 256 ∷ after) (omega (arith, small)) (bytes_more (crc % 256) after (omega arith) all)
 checksum_bytes Swapped crc after small all = bytes_more (crc % 256) (crc / 256 ∷ after) (omega arith) (bytes_more (crc / 256) after (omega (arith, small)) all)
 
-code_bytes : (order : Order) (code : Activation) → IsActivation code → IsBytes (octets_of_activation order code)
+pub code_bytes : (order : Order) (code : Activation) → IsActivation code → IsBytes (octets_of_activation order code)
 code_bytes order code is =
     let id = code.id in
     let last = octets_of_checksum order id.crc ++ code.address in

@@ -1,9 +1,7 @@
 //! A job and its request, as lines of text.
 
-ghost use Rattle.std.specs.Prelude.{◌≡◌, ◌++◌, codes, decimal};
+ghost use Rattle.std.specs.Prelude.{◌≡◌, ◌++◌, codes};
 ghost use Rattle.dms_text_filling.specs.Filling.{Puts};
-ghost use Rattle.dms_text_values.specs.ValueText.{octets_text};
-ghost use Rattle.dms_wire_ber.specs.NameText.{dotted};
 ghost use Rattle.dms_centre_jobs.specs.Job.{Showing};
 ghost use Rattle.dms_centre_jobs.specs.CodeView.{job_model};
 ghost use Rattle.dms_centre_jobs.specs.PublicationView.{publication_model};
@@ -16,7 +14,8 @@ use crate::ledger_lines::put_code;
 use dms_centre::{Job, Pending, Phase, Publication};
 use dms_centre_jobs::Work;
 use dms_codes::{Activation, Order};
-use dms_text_filling::{put_decimal, put_digits, put_number, put_text};
+use dms_text_exact::{put_address, put_octets};
+use dms_text_filling::{put_decimal, put_number, put_text};
 
 /// Puts whether a job is on, and what it is.
 pub(crate) fn put_phase(buffer: &mut [u8], place: usize, order: Order, phase: Phase<'_>) -> usize
@@ -120,38 +119,6 @@ fn put_terms(buffer: &mut [u8], place: usize, publication: &Publication<'_>) -> 
     let place = put_text(buffer, place, " ");
     let place = put_decimal(buffer, place, terms.priority);
     let place = put_text(buffer, place, " ");
-    put_address(buffer, place, terms.address)
-}
-
-/// Puts four numbers with dots between them, and the end of their line.
-fn put_address(buffer: &mut [u8], place: usize, address: [u8; 4]) -> usize
-    ensures { Puts (dotted address ++ codes "\n") place buffer.old result buffer.new }
-{
-    match address {
-        [a, b, c, d] => {
-            let place = put_decimal(buffer, place, a);
-            let place = put_dot(buffer, place, b);
-            let place = put_dot(buffer, place, c);
-            let place = put_dot(buffer, place, d);
-            put_text(buffer, place, "\n")
-        }
-    }
-}
-
-/// Puts a dot and a number.
-fn put_dot(buffer: &mut [u8], place: usize, number: u8) -> usize
-    ensures { Puts (codes "." ++ decimal number) place buffer.old result buffer.new }
-{
-    let place = put_text(buffer, place, ".");
-    put_decimal(buffer, place, number)
-}
-
-/// Puts octets as pairs of small hexadecimal digits, and `-` for none.
-fn put_octets(buffer: &mut [u8], place: usize, octets: &[u8]) -> usize
-    ensures { Puts (octets_text octets.now) place buffer.old result buffer.new }
-{
-    match octets {
-        [] => put_text(buffer, place, "-"),
-        [_, ..] => put_digits(buffer, place, octets),
-    }
+    let place = put_address(buffer, place, terms.address);
+    put_text(buffer, place, "\n")
 }

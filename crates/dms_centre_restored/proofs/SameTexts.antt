@@ -1,10 +1,7 @@
--- What two rules of the readers rest on: a code is read of its digits, and octets that are compared are the same.
+-- Octets that are compared are the same.
 use Rattle.std.proofs.Common.{◌≡◌, ℕ, Bool, true, List, sym, ◌∙◌}
 use Rattle.dms_text.specs.Reading.{same_octets}
 use Rattle.dms_text.proofs.WordLaws.{same_found}
-use Rattle.dms_centre_text.proofs.CodeDigits.{code_read, no_code_read}
-
-pub ruleset codes_read = (code_read, no_code_read)
 
 pub same_text : (written text state : List ℕ) (same : Bool) → written ≡ state → same ≡ same_octets written text → same ≡ true → state ≡ text
 same_text written text state same is compared holds = sym is ∙ same_found written text (sym compared ∙ holds)

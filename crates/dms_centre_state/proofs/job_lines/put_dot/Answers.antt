@@ -1,6 +1,0 @@
-use Rattle.dms_text_filling.proofs.Parts.{two}
-use Rattle.dms_centre_state.proofs.job_lines.put_dot.Goals as goal
-
-pub returns : goal.returns
-returns c =
-    two c.put_text-place.ensures.octets c.put_decimal.ensures.octets
