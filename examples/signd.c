@@ -53,7 +53,8 @@ struct front_end {
     int is_quiet;            /* nothing is printed of what managers do */
 };
 
-/* No file of ours gets the number of a standard file that is closed, and a reader that goes away ends nothing. */
+/* No file of ours gets the number of a standard file that is closed; a reader that goes away, and a limit on the size of
+ * files, end nothing: a write fails then. */
 static void keep_standard_files(void)
 {
     int file;
@@ -62,6 +63,7 @@ static void keep_standard_files(void)
     } while (file <= STDERR_FILENO);
     close(file);
     signal(SIGPIPE, SIG_IGN);
+    signal(SIGXFSZ, SIG_IGN);
 }
 
 /* ---- descriptors */

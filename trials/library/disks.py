@@ -1,8 +1,9 @@
-"""Disks of examples/signd.c that are full, or can only be read, and are written again."""
+"""Disks of examples/signd.c that are full, can only be read, or take no larger file, and are written again."""
 
 from __future__ import annotations
 
 import pathlib
+import resource
 import signal
 import time
 
@@ -88,6 +89,19 @@ def _read_only(trial: Trial, mounted: Mounted, path: pathlib.Path) -> None:
         again(trial, f"{name}, and written again", front_end, place)
 
 
+def _limited(trial: Trial, path: pathlib.Path) -> None:
+    """A limit on the size of files, as systemd has one, is a disk that refuses."""
+    front_end = FrontEnd(trial, "signd", path)
+    _sets(trial, "a limit on files: before it", front_end, True)
+    size = path.stat().st_size
+    for most, is_answered in ((size, False), (resource.RLIM_INFINITY, True)):
+        resource.prlimit(front_end.process.pid, resource.RLIMIT_FSIZE, (most, resource.RLIM_INFINITY))
+        _sets(trial, f"a limit on files, {most} octets", front_end, is_answered)
+    status, faults = front_end.end()
+    is_said = faults.count("File too large: what is not recorded is not answered") == 1 and "written again" in faults
+    trial.check("a limit on files: it ends", status == 0 and is_said, f"exit {status}: {faults}")
+
+
 def silent(trial: Trial, mounted: Mounted, path: pathlib.Path) -> None:
     """A silence on which the sign acts, and polls after it, while the disk takes no record: the next start has them."""
     if trial.is_short():
@@ -119,6 +133,7 @@ def silent(trial: Trial, mounted: Mounted, path: pathlib.Path) -> None:
 
 
 def run(trial: Trial) -> None:
+    _limited(trial, trial.folder / "limited.journal")
     mounted = Mounted(trial.folder / "mounted")
     try:
         if not mounted.is_there:
