@@ -97,7 +97,7 @@ def _measured(trial: Trial) -> None:
     front_end = FrontEnd(trial, "signd", journal, "--most-recorded", "1000")
     for number in range(200):
         front_end.socket.send(request(wire.SET, SIGN.writer, number))
-    found = len(front_end.replies(0.9))
+    found = len(front_end.replies(5.0))
     trial.check("at another measure", found == 200, found)
     front_end.end()
 
