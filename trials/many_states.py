@@ -19,7 +19,7 @@ import random
 import re
 import sys
 from collections.abc import Callable, Iterable, Iterator
-from concurrent.futures import ThreadPoolExecutor
+from concurrent.futures import Executor, ProcessPoolExecutor
 from typing import NamedTuple
 
 from model import coprocess, saved_centre, text
@@ -28,6 +28,7 @@ from model.description import Description
 from model.restored import restore
 from model.restored_centre import restored
 from model.saved import saved
+from model.state import State as SignState
 from model.state_text import Refused
 from wisangub.process import description
 from wisangub.process.coprocess import CoProcess
@@ -40,7 +41,7 @@ from .states import begun
 _SIGNS = (None, str(TOP / "signs/roadside.sign"), str(TOP / "signs/gantry.sign"))
 _ENDS = (("centre", "sign"), ("sign", "centre"))
 _LINES = 200  # to each end of a talk: then others begin as they are made, so that no ledger grows without bound
-_BATCH = 500  # states, or changed texts, that are looked at together
+_BATCH = 25  # states that are looked at together
 _MOST_TOLD = 5
 _END = re.compile(rb"(?m)^end\r?\n")
 Answers = Callable[[str, str], list[str]]
@@ -55,22 +56,25 @@ class State(NamedTuple):
     octets: bytes
 
 
-class Sides:
-    """How a text is taken by the model and by the program, and what was told."""
+class Looked(NamedTuple):
+    """How often something was looked at, and what did not hold."""
 
-    def __init__(self, signtool: str, jobs: int) -> None:
-        self.signtool, self.pool = signtool, ThreadPoolExecutor(jobs)
-        self.passed = self.failed = 0
+    looks: int
+    wrong: list[str]
+    of_program: int = 0  # texts that the program was handed
 
-    def look(self, holds: bool, what: str) -> None:
-        self.passed += holds
-        self.failed += not holds
-        if not holds and self.failed <= _MOST_TOLD:
+
+class Counts:
+    """All that was looked at; of what does not hold the first is printed."""
+
+    def __init__(self) -> None:
+        self.passed = self.failed = self.of_program = 0
+
+    def take(self, looked: Looked) -> None:
+        for what in looked.wrong[: max(0, _MOST_TOLD - self.failed)]:
             print(what[:2000], flush=True)
-
-    def of_program(self, states: Iterable[State]) -> list[Told]:
-        """What the program makes of each text, in processes side by side."""
-        return list(self.pool.map(functools.partial(told_by_program, self.signtool), states))
+        self.passed, self.failed = self.passed + looked.looks - len(looked.wrong), self.failed + len(looked.wrong)
+        self.of_program += looked.of_program
 
 
 @functools.cache
@@ -85,9 +89,9 @@ def told_by_model(state: State) -> Told:
         if state.end == "centre":
             lines = saved_centre.saved(restored(described.writer, described.swapped, state.octets))
         else:
-            agent = Agent(described)
-            restore(agent.sign.state, state.octets)
-            lines = saved(agent.sign.state)
+            sign = SignState(described)
+            restore(sign, state.octets)
+            lines = saved(sign)
     except Refused as refused:
         return str(refused)
     return "".join(f"{line}\n" for line in lines).encode()
@@ -166,12 +170,14 @@ def in_batches(some: Iterator[State]) -> Iterator[list[State]]:
         yield batch
 
 
-def go_on(sides: Sides, some: Iterator[State]) -> None:
+def gone_on(signtool: str, some: list[State]) -> Looked:
     """Each is saved again as the same text by both."""
-    for batch in in_batches(some):
-        for state, by_program in zip(batch, sides.of_program(batch)):
-            for who, told in (("the model", told_by_model(state)), ("the program", by_program)):
-                sides.look(told == state.octets, f"a {state.end}, {state.octets!r}: {who} {told!r}")
+    wrong = []
+    for state in some:
+        for who, told in (("the model", told_by_model(state)), ("the program", told_by_program(signtool, state))):
+            if told != state.octets:
+                wrong.append(f"a {state.end}, {state.octets!r}: {who} {told!r}")
+    return Looked(2 * len(some), wrong, len(some))
 
 
 def is_other(state: State, told: Told) -> bool:
@@ -188,18 +194,38 @@ def is_whole(octets: bytes) -> bool:
     return found is not None and found.end() == len(octets)
 
 
-def changed(sides: Sides, chance: random.Random, some: list[State], share: int) -> None:
-    """Each text that is nearly one of these."""
-    near = (State(state.end, state.described, octets) for state in some for octets in others(chance, state.octets))
-    for batch in in_batches(near):
-        answers = {state: told_by_model(state) for state in batch}
-        for state, told in answers.items():
-            sides.look(not is_other(state, told), f"a {state.end}, {state.octets!r}: the model {told!r}")
-        asked = [state for state in answers if is_whole(state.octets) and chance.randrange(share) == 0]
-        for state, told in zip(asked, sides.of_program(asked)):
-            sides.look(
-                told == answers[state], f"a {state.end}, {state.octets!r}: {told!r}, the model {answers[state]!r}"
-            )
+def changed(signtool: str, seed: int, share: int, state: State) -> Looked:
+    """Each text that is nearly this one."""
+    chance = random.Random(f"{seed} {state}")
+    near = {State(state.end, state.described, octets) for octets in others(chance, state.octets)}
+    count, of_program, wrong = len(near), 0, []
+    for other in sorted(near):
+        told = told_by_model(other)
+        if is_other(other, told):
+            wrong.append(f"a {other.end}, {other.octets!r}: the model {told!r}")
+        if is_whole(other.octets) and chance.randrange(share) == 0:
+            by_program, of_program = told_by_program(signtool, other), of_program + 1
+            if by_program != told:
+                wrong.append(f"a {other.end}, {other.octets!r}: {by_program!r}, the model {told!r}")
+    return Looked(count + of_program, wrong, of_program)
+
+
+def all_gone_on(asked: argparse.Namespace, pool: Executor, counts: Counts) -> list[State]:
+    """The states, each of which goes on."""
+    taken = list(itertools.islice(states(asked.signtool, asked.seed, asked.sign or _SIGNS), asked.count))
+    for looked in pool.map(functools.partial(gone_on, asked.signtool), in_batches(iter(taken))):
+        counts.take(looked)
+    print(f"states: {len(taken)}, {counts.failed} of them not as they were", flush=True)
+    return taken
+
+
+def all_changed(asked: argparse.Namespace, pool: Executor, counts: Counts, some: list[State]) -> None:
+    """The changed texts of these states, each state by a process of its own."""
+    look, before = functools.partial(changed, asked.signtool, asked.seed, asked.share), counts.of_program
+    for at, looked in enumerate(pool.map(look, some), 1):
+        counts.take(looked)
+        if at % _BATCH == 0 or at == len(some):
+            print(f"changed: {at} states, {counts.of_program - before} of their texts by the program too", flush=True)
 
 
 def main() -> int:
@@ -214,19 +240,13 @@ def main() -> int:
     parser.add_argument("--jobs", type=int, default=len(os.sched_getaffinity(0)), help="processes side by side")
     parser.add_argument("--sign", nargs="*", help="descriptions, as in signs/; else three signs")
     asked = parser.parse_args()
-    sides, chance = Sides(asked.signtool, asked.jobs), random.Random(asked.seed)
-    taken: list[State] = []
-
-    def counted() -> Iterator[State]:
-        for state in itertools.islice(states(asked.signtool, asked.seed, asked.sign or _SIGNS), asked.count):
-            taken.append(state)
-            yield state
-
-    go_on(sides, counted())
-    print(f"states: {len(taken)}, {sides.failed} of them not as they were", flush=True)
-    changed(sides, chance, chance.sample(taken, min(asked.changed, len(taken))), asked.share)
-    print(f"{sides.passed} passed, {sides.failed} failed")
-    return 0 if sides.failed == 0 else 1
+    counts = Counts()
+    with ProcessPoolExecutor(asked.jobs) as pool:
+        taken = all_gone_on(asked, pool, counts)
+        some = random.Random(asked.seed).sample(taken, min(asked.changed, len(taken)))
+        all_changed(asked, pool, counts, some)
+    print(f"{counts.passed} passed, {counts.failed} failed")
+    return 0 if counts.failed == 0 else 1
 
 
 if __name__ == "__main__":

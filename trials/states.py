@@ -1,12 +1,16 @@
 """States of a sign, as random talks leave them and changed: the program and the model go on from them to the same, or
 refuse them at the same line."""
 
+import contextlib
 import functools
 import io
+import os
 import random
 import re
+import select
+import signal
 import subprocess
-from collections.abc import Sequence
+from collections.abc import Iterator, Sequence
 
 from model import coprocess, text
 from model.agent import Agent
@@ -37,11 +41,36 @@ def of_model(described: Description, octets: str) -> Told:
     return [one for line in lines for one in coprocess.answered(answer, coprocess.without_newline(line))], ""
 
 
+@contextlib.contextmanager
+def _in_memory(octets: bytes = b"") -> Iterator[int]:
+    """A file in memory with these octets, at its begin."""
+    with open(os.memfd_create("octets"), "w+b", buffering=0) as file:
+        file.write(octets)
+        file.seek(0)
+        yield file.fileno()
+
+
+def _status(process: int, call: list[str]) -> int:
+    """How a process ended; one that does not end is killed."""
+    with open(os.pidfd_open(process), "rb", buffering=0) as ends:
+        is_ended = select.select([ends], [], [], _PATIENCE)[0]
+    if not is_ended:
+        os.kill(process, signal.SIGKILL)
+    status = os.waitstatus_to_exitcode(os.waitpid(process, 0)[1])
+    if not is_ended:
+        raise subprocess.TimeoutExpired(call, _PATIENCE)
+    return status
+
+
 def begun(program: str, end: str, description: bytes | None, octets: bytes) -> subprocess.CompletedProcess[bytes]:
-    """The program, of an end that begins in the state of these octets, which lines may follow."""
+    """The program, of an end that begins in the state of these octets, which lines may follow. Its files are in memory,
+    since with pipes, at which both wait for each other, a call takes some five times as long."""
     call = [program, end, "--restore", *(["--sign"] if description is not None else [])]
-    handed = (description or b"") + octets
-    return subprocess.run(call, input=handed, capture_output=True, timeout=_PATIENCE, check=False)
+    with _in_memory((description or b"") + octets) as given, _in_memory() as told, _in_memory() as why:
+        files = [(os.POSIX_SPAWN_DUP2, file, at) for at, file in enumerate((given, told, why))]
+        status = _status(os.posix_spawn(program, call, os.environ, file_actions=files), call)
+        said = [os.pread(file, os.fstat(file).st_size, 0) for file in (told, why)]
+    return subprocess.CompletedProcess(call, status, *said)
 
 
 def of_program(program: str, description: bytes | None, octets: str) -> Told:
