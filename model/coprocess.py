@@ -2,6 +2,7 @@
 centre`.
 
     model/signtool sign [--sign] [--restore]       model/signtool centre [--sign] [--restore]
+    model/signtool pages [--sign] [--svg] [--page N] TEXT      (pages.py)
 
 With --sign a description comes first, up to its line `end`; else the sign is the bench sign. With --restore the sign
 or the centre goes on from a state, which comes next, up to its line `end`.
@@ -14,7 +15,7 @@ import sys
 from collections.abc import Callable, Iterable
 from typing import TypeVar
 
-from . import causes, device, layout, published, text
+from . import causes, device, layout, pages, published, text
 from .agent import Agent
 from .description import Description
 from .restored import restore
@@ -213,6 +214,8 @@ def _answering(end: str, described: Description, has_state: bool) -> Callable[[l
 
 
 def main() -> int:
+    if sys.argv[1:2] == ["pages"]:
+        return pages.main(sys.argv[2:], _described, _print_lines)
     parser = argparse.ArgumentParser(description=__doc__, formatter_class=argparse.RawDescriptionHelpFormatter)
     parser.add_argument("end", choices=("sign", "centre"), help="which end answers")
     parser.add_argument("--sign", action="store_true", help="a description comes first")

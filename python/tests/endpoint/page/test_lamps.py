@@ -5,7 +5,7 @@ import xml.etree.ElementTree
 
 import pytest
 
-from wisangub.endpoint.page.lamps import SHADES, Lamps, by_lines, pages_of, with_defaults
+from wisangub.endpoint.page.lamps import SHADES, Lamps, by_lines, called, pages_of, with_defaults
 from wisangub.endpoint.sign_front_end import line_of
 from wisangub.endpoint.text_of_picture import with_text
 from wisangub.process import description
@@ -60,6 +60,9 @@ def test_without_the_program_the_lines_are_drawn() -> None:
     picture = lamps.of(b"A", LINES, None)
     assert not picture.is_of_program and picture.svg == with_text(by_lines(LINES), b"A")
     assert lamps.of(b"A", LINES, None) is picture, "it is kept"
+    lines = tuple((called([MODEL.encode(), b"pages", b"--", b"A"], b"") or b"").splitlines())
+    picture = lamps.of(b"A", lines, None)
+    assert not picture.is_of_program and picture.svg == with_text(by_lines(lines), b"A"), "the model's stands still"
 
 
 @pytest.mark.skipif(not SIGNTOOL.is_file(), reason="the program is not built: tools/build.py builds it")

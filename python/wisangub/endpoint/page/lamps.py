@@ -15,6 +15,7 @@ WAIT = 20.0  # seconds for a call of the program
 DEFAULTS = re.compile(rb"^defaults [0-9 ]+", re.MULTILINE)
 SHADES = ("#000000", "#ff0000", "#ffff00", "#00ff00", "#00ffff", "#0000ff", "#ff00ff", "#ffffff", "#ff8000", "#ffbf00")
 PLATE = "#202020"
+STILL = b' data-still="yes"'  # of the model's picture: what is drawn here is no less, and says what it is
 GAP = 2  # rows between two pages that are drawn one below the other
 Lines = tuple[bytes, ...]
 
@@ -54,7 +55,8 @@ class Lamps:
         said = called([self.program.encode(), b"pages", b"--sign", b"--", word], sign)
         if said is None or tuple(said.splitlines()) != lines:
             return None
-        return called([self.program.encode(), b"pages", b"--sign", b"--svg", b"--", word], sign)
+        svg = called([self.program.encode(), b"pages", b"--sign", b"--svg", b"--", word], sign)
+        return None if svg is not None and STILL in svg else svg
 
 
 def with_defaults(text: bytes, defaults: tuple[int, ...]) -> bytes:
