@@ -1,5 +1,5 @@
 -- Eight cells that are lit at once.
-use Rattle.std.proofs.Common.{◌≡◌, ℕ, ◌+◌, ◌-◌, ◌/◌, ◌%◌, ◌^◌, ◌==◌, ◌<◌, ◌≤◌, ◌&&◌, ◌||◌, Bool, true, false, cond, List, [], ◌++◌, length, length-append, length-drop, map, get_or, take, drop, refl, sym, ap, ◌∙◌, arith, inl, inr}
+use Rattle.std.proofs.Common.{◌≡◌, ℕ, ◌+◌, ◌-◌, ◌*◌, ◌/◌, ◌%◌, ◌^◌, ◌==◌, ◌<◌, ◌≤◌, ◌&&◌, ◌||◌, Bool, true, false, cond, List, [], ◌∷◌, ◌++◌, length, length-append, length-drop, map, get_or, take, drop, refl, sym, ap, ◌∙◌, arith, inl, inr}
 use Rattle.std.specs.Prelude.{bit_and, nat_le, nat_lt}
 use Rattle.std.specs.Int.{w32, trailing_zeros}
 use Rattle.std.specs.List.{range_with_len}
@@ -20,13 +20,19 @@ use Rattle.dms_face_pages.proofs.DrawingLaws.{same_test}
 
 -- ---- the masks
 
+-- the mask of an octet in the table
+abbrev pub mask_from : ℕ → List ℕ
+mask_from first = get_or MASKS first 0 ∷ get_or MASKS (first + 1) 0 ∷ get_or MASKS (first + 2) 0 ∷ get_or MASKS (first + 3) 0
+    ∷ get_or MASKS (first + 4) 0 ∷ get_or MASKS (first + 5) 0 ∷ get_or MASKS (first + 6) 0 ∷ get_or MASKS (first + 7) 0 ∷ []
+
 -- The whole table, computed.
-table_is : MASKS ≡ map mask_of (range_with_len 0 256)
+table_is : map (λ octet. mask_from (8 * octet)) (range_with_len 0 256) ≡ map mask_of (range_with_len 0 256)
 table_is = refl
 
-pub mask_at : (octet : ℕ) → octet < 256 → get_or MASKS octet [] ≡ mask_of octet
+pub mask_at : (octet : ℕ) → octet < 256 → mask_from (8 * octet) ≡ mask_of octet
 mask_at octet below =
-    ap (λ table. get_or table octet []) table_is ∙ get_or-map-range_with_len mask_of 0 256 octet octet [] below (omega arith)
+    sym (get_or-map-range_with_len (λ n. mask_from (8 * n)) 0 256 octet octet [] below (omega arith))
+    ∙ ap (λ table. get_or table octet []) table_is ∙ get_or-map-range_with_len mask_of 0 256 octet octet [] below (omega arith)
 
 -- ---- one cell
 
