@@ -4,15 +4,17 @@
     measures/measured.py [--instructions] [--times] [TOPIC ..]
     measures/measured.py --recorded               the tables of measures/measured.tsv, and a line a topic
     measures/measured.py --compare [TOPIC ..]     which take more instructions than stand there
-    measures/measured.py --record [TOPIC ..]      writes the new figures of what stands there
+    measures/measured.py --record [--keep-times] [TOPIC ..]   writes the new figures of what stands there
     measures/measured.py --growth                 whether twice the work takes the program twice the instructions
 
 It runs the program that measures/run.sh builds, crates/dms_measures/out/measure; its `--list` names the topics. Times
 are the least of interleaved passes of two milliseconds or more. Instructions are counted by callgrind (Debian's package
 valgrind): those of no calls are taken from those of some. They are the same whatever else the machine does. With
-neither option both are printed. With --compare the last line counts what was compared, and the exit status is 1 where a
-measure takes over half a per cent more than is recorded, or where one that is recorded is not measured. With --growth
-crates/signtool/out/signtool is counted, and the exit status is 1 where something grows faster than its input.
+neither option both are printed, and with --keep-times instructions alone: --record then leaves the times that stand
+there, as those of a machine that does much else say little. With --compare the last line counts what was compared, and
+the exit status is 1 where a measure takes over half a per cent more than is recorded, or where one that is recorded is
+not measured. With --growth crates/signtool/out/signtool is counted, and the exit status is 1 where something grows
+faster than its input.
 """
 
 import argparse
@@ -73,7 +75,7 @@ def show(rows: list[Row]) -> None:
 
 def measure(rows: list[Row], asked: argparse.Namespace) -> None:
     """Takes what is asked for: times, instructions, or both."""
-    if asked.times or not (asked.instructions or asked.compare):
+    if asked.times or not (asked.instructions or asked.compare or asked.keep_times):
         before = os.getloadavg()[0]
         for row, (_, _, proved, by_hand) in zip(rows, lines(*asked.topics), strict=True):
             row.times = (float(proved), float(by_hand))
@@ -91,6 +93,7 @@ def options() -> argparse.Namespace:
     which.add_argument("--compare", action="store_true", help="which take more instructions than are recorded")
     which.add_argument("--record", action="store_true", help="writes the new figures of what is recorded")
     which.add_argument("--growth", action="store_true", help="whether twice the work takes twice the instructions")
+    parser.add_argument("--keep-times", action="store_true", help="take none, and with --record leave those that stand")
     parser.add_argument("topics", nargs="*", metavar="TOPIC", help="these topics; else all")
     return parser.parse_args()
 

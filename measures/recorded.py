@@ -49,9 +49,14 @@ def written(rows: list[Row]) -> str:
 
 
 def renewed(old: list[Row], new: list[Row]) -> list[Row]:
-    """The old rows, those that were measured again with their new figures."""
+    """The old rows, those that were measured again with their new figures; what was not taken stays."""
     by_name = {(row.topic, row.name): row for row in new}
-    return [by_name.get((row.topic, row.name), row) for row in old]
+    rows = []
+    for row in old:
+        again = by_name.get((row.topic, row.name), row)
+        times, instructions = again.times or row.times, again.instructions or row.instructions
+        rows.append(Row(row.topic, row.name, times, instructions))
+    return rows
 
 
 def _cells(figures: tuple[float, float] | None, digits: str) -> list[str]:

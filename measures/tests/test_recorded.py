@@ -29,6 +29,11 @@ def test_what_was_measured_again() -> None:
     assert renewed(ROWS, [again, Row("sign", "Get of two", (1.0, 1.0), (1.0, 1.0))]) == [ROWS[0], again, ROWS[2]]
 
 
+def test_what_was_not_taken_again_stays() -> None:
+    counted = Row("sign", "tick", None, (68.0, 84.0))
+    assert renewed(ROWS, [counted])[1] == Row("sign", "tick", (4.9, 7.4), (68.0, 84.0))
+
+
 def test_a_topic_has_a_table() -> None:
     assert table(ROWS, "sign") == (
         "## sign\n\n"
