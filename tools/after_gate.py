@@ -27,8 +27,8 @@ from steps.together import adopt_orphans, end_children, ended
 STEPS = (
     Step("vectors", "python3 -m trials.check_vectors --program {program}", 720),
     Step("model", "python3 -m trials.compare_model --program {program} --count 300", 720),
-    Step("co-process", "python3 -m trials.compare_coprocess --signtool {program} --count 3000", 600),
-    Step("restored states", "python3 -m trials.restored --signtool {program} --count 300", 600),
+    Step("co-process", "python3 -m trials.compare_coprocess --signtool {program} --count 3000", 1200),
+    Step("restored states", "python3 -m trials.restored --signtool {program} --count 300", 1200),
     Step("causes", "python3 -m trials.compare_causes --program {program} --count 1000", 720),
     Step("hostile datagrams", "python3 -m trials.hostile --program {program} --count 5000", 720),
     Step("faults of the program", "trials/program_faults.sh {program}", 600),
