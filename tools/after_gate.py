@@ -18,6 +18,7 @@ from __future__ import annotations
 
 import argparse
 import os
+import signal
 import sys
 
 from steps.cost import Cost
@@ -96,18 +97,20 @@ def main() -> int:
         return 0
     if len(steps) < len(set(asked.steps)):
         parser.error("there is no such step: --list names all")
+    signal.signal(signal.SIGTERM, lambda *_: sys.exit(143))  # which stops the steps: each has a session of its own
     adopt_orphans()
     cost = Cost()
     lines = [COUNTS.search(line) for line in asked.gate]
     # what printed no counts did not come to its end
     before = [Outcome(int(counts[1]), int(counts[2])) if counts else Outcome(failed=1) for counts in lines]
-    found = {}
-    if os.access(asked.program, os.X_OK):
-        found = _outcomes(steps, os.path.abspath(asked.program))
-    else:
+    if not os.access(asked.program, os.X_OK):
+        steps = []
         before.append(Outcome(failed=1))
         print(f"there is no program at {asked.program}: tools/prove.py leaves it there, and so does tools/build.py")
-    end_children()
+    try:
+        found = _outcomes(steps, os.path.abspath(asked.program))
+    finally:
+        end_children()
     print(f"steps: {cost}", file=sys.stderr)
     return _told(before, found)
 
