@@ -90,6 +90,20 @@ fn octets_have_small_digits(rt: HostRuntime) -> Result<(), Fail> {
     Ok(())
 }
 
+/// The memory of the octets may be refused, once.
+#[test]
+fn exact_octets_or_out_of_memory(rt: HostRuntime) {
+    let mut found = octets(rt.alloc(), 3, b"466f67");
+    if found.is_err() {
+        found = octets(rt.alloc(), 3, b"466f67");
+    }
+    let is_read = match found {
+        Ok(Some(read)) => read.as_slice() == b"Fog".as_slice(),
+        Ok(None) | Err(_) => false,
+    };
+    assert!(rt; is_read);
+}
+
 #[test]
 fn a_name_at_the_front_is_told(rt: HostRuntime) {
     let text: &[u8] = b"sends 3\nend\n";
