@@ -92,6 +92,19 @@ impl<'a> Binds<'a> {
         let (only, after) = first_name(self.content)?;
         if after.is_empty() { Some(only) } else { None }
     }
+
+    /// The binding that is left, where it is the only one.
+    pub fn only(&self) -> Option<Bind<'a>>
+        ensures some { IfSome result (λ binding. self.now ≡ var_bind binding ∷ []) }
+        ensures none { IfNone result (length self.now ≢ 1) }
+    {
+        let (binding, after) = first_binding(self.content)?;
+        if after.is_empty() {
+            Some(binding)
+        } else {
+            None
+        }
+    }
 }
 
 impl<'a> Iterator for Binds<'a> {

@@ -1,6 +1,6 @@
 //! A SET of one binding, as most are: no name can be given twice, and what is written is not read again.
 
-ghost use Rattle.std.specs.Prelude.{◌≡◌, [], ◌∷◌, IfSome};
+ghost use Rattle.std.specs.Prelude.{◌≡◌, [], ◌∷◌};
 ghost use Rattle.dms_wire.specs.Limits.{AreBindingsInLimits};
 ghost use Rattle.dms_wire.specs.View.{var_bind};
 ghost use Rattle.dms_sign_access.specs.ChangeView.{write_by, IsChange};
@@ -57,14 +57,6 @@ impl Sign {
     {
         write(&mut self.table, &mut self.settings, change);
     }
-}
-
-/// The binding that is left, where it is the only one.
-pub(super) fn only<'a>(binds: &Binds<'a>) -> Option<Bind<'a>>
-    ensures { IfSome result (λ binding. binds.now ≡ var_bind binding ∷ []) }
-{
-    binds.only_name()?;
-    binds.again().next()
 }
 
 /// Writes a field, where its row takes it, or a setting.

@@ -23,7 +23,6 @@ ghost use Rattle.dms_sign.specs.SetView.{refusal_of, is_field, AreKept, AreLeft,
 ghost use Rattle.dms_sign.specs.SetView.{Says, StaysWithout};
 ghost use Rattle.dms_sign.specs.State.{SignState};
 
-use crate::sign::set_one::only;
 use crate::sign::{Sign, judge, source_of};
 use dms_codes::{Activation, Ask, RowId, Status};
 use dms_face::Face;
@@ -66,7 +65,7 @@ impl Sign {
         ensures after { self.new ≡ (set self.old may_write binds.now).after }
         ensures says { Says result (set self.old may_write binds.now) }
     {
-        match only(binds) {
+        match binds.only() {
             Some(binding) => self.set_one(may_write, &binding, binds),
             None => self.set_all(may_write, binds),
         }
