@@ -69,7 +69,8 @@ impl Sign {
         receipt
     }
 
-    /// Answers a Set.
+    /// Answers a Set: out of line, so that a Get needs no room for what a Set keeps.
+    #[inline(never)]
     fn answer_set(&mut self, message: &Message<'_>, out: &mut Out) -> Receipt
         requires { IsRead (snmp_message message.now) }
         ensures after { self.new
