@@ -28,21 +28,24 @@ import threading
 import time
 from collections.abc import Iterator
 from contextlib import contextmanager
-from dataclasses import dataclass
+from dataclasses import dataclass, field
 
+from building.ending import end_at_sigterm
 from building.kit import Kit
 from building.plan import TOP, Crate, Plan
 from building.proofs import Proofs
 from building.schedule import free_memory
 from steps.cost import Cost
 from tries.check import Checker
+from tries.checks import Checks
 from tries.kept import Kept, folder, sum_of
 from tries.libraries import libraries, whole_plan
 from tries.trial import Outcome, tried
 from upkeep.edits import Edit, edits_of, faults
 
 # what an outcome is decided by
-JUDGES = ("try_edits.py", "tries/*.py", "upkeep/edits.py", "upkeep/functions.py", "building/kit.py")
+_BUILDING = ("building/kit.py", "building/plan.py", "building/proofs.py")
+JUDGES = ("try_edits.py", "tries/*.py", "upkeep/edits.py", "upkeep/functions.py", *_BUILDING)
 
 
 class Memory:
@@ -84,6 +87,7 @@ class Run:
     kit: Kit
     kept: Kept
     says_goals: bool
+    checks: Checks = field(default_factory=Checks)
 
     def sum_of(self, crate: Crate) -> str:
         """A sum of all that a check of the crate reads, and of what judges it."""
@@ -113,7 +117,7 @@ class Run:
         if not work.left:
             return
         with tempfile.TemporaryDirectory(prefix="wrong-bodies-") as room:
-            checker = Checker(self.plan, self.kit, work.crate, below, pathlib.Path(room))
+            checker = Checker(self.plan, self.kit, work.crate, below, pathlib.Path(room), self.checks)
             is_same = True  # whether the files stand as they were when the sum was made, looked at after each check
             for outcome in tried(checker, work.left):
                 if checker.checks > work.checks:
@@ -142,6 +146,8 @@ class Run:
 
         def one(work: Work) -> tuple[int, int, int]:
             with memory.taken(work.crate.memory if work.left else 0):
+                if self.checks.have_ended:
+                    return 0, len(work.known) + len(work.left), 0
                 try:
                     return self.counted(work, below)
                 except (OSError, ValueError, LookupError) as fault:  # no room on the disk, say: the others go on
@@ -149,7 +155,11 @@ class Run:
                     return 0, len(work.known) + len(work.left), 0
 
         with concurrent.futures.ThreadPoolExecutor(jobs) as pool:
-            return list(pool.map(one, sorted(works, key=lambda work: -work.crate.work * len(work.left))))
+            try:
+                return list(pool.map(one, sorted(works, key=lambda work: -work.crate.work * len(work.left))))
+            except BaseException:
+                self.checks.end()  # else the pool waits for each of them
+                raise
 
 
 def applicable(name: str, edits: list[Edit]) -> tuple[int, int, int]:
@@ -179,6 +189,7 @@ def asked_for() -> argparse.Namespace:
 
 def main() -> int:
     asked = asked_for()
+    end_at_sigterm()
     edits = {name: edits_of(TOP / "crates" / name) for name in asked.crates}
     if asked.only:
         edits = {name: [edit for edit in of if edit.name.partition("/")[2] in asked.only] for name, of in edits.items()}

@@ -10,17 +10,20 @@ from building.kit import Kit
 from building.plan import PARTS, Crate, Plan
 from upkeep.edits import Edit, applied
 
+from .checks import KILLED, Checks
 from .said import Said, heard
 
-KILLED = (-9, 137)
+_ENDED_BY_KILL = (KILLED, 128 - KILLED)
 MOST_SECONDS = 3600  # of one check, which takes ten minutes where all processors are taken
 
 
 class Checker:
     """A copy of a crate, with what earlier checks of it proved, and the libraries that it stands on."""
 
-    def __init__(self, plan: Plan, kit: Kit, crate: Crate, libraries: pathlib.Path, room: pathlib.Path) -> None:
-        self.crate, self.room, self.checks = crate, room, 0
+    def __init__(
+        self, plan: Plan, kit: Kit, crate: Crate, libraries: pathlib.Path, room: pathlib.Path, running: Checks
+    ) -> None:
+        self.crate, self.room, self.running, self.checks = crate, room, running, 0
         for part in PARTS:
             if (crate.folder / part).is_dir():
                 shutil.copytree(crate.folder / part, room / part)
@@ -41,7 +44,7 @@ class Checker:
             self.inside(file).write_text(text, encoding="utf-8")
         try:
             ran = self.run(only)
-            ran = self.run(only) if ran.returncode in KILLED else ran
+            ran = self.run(only) if ran.returncode in _ENDED_BY_KILL and not self.running.have_ended else ran
         finally:
             for file in texts:
                 shutil.copyfile(file, self.inside(file))
@@ -53,17 +56,4 @@ class Checker:
 
     def run(self, only: list[str]) -> subprocess.CompletedProcess[str]:
         self.checks += 1
-        words = [*self.words, *only]
-        try:
-            return subprocess.run(
-                words,
-                cwd=self.room,
-                stdin=subprocess.DEVNULL,
-                capture_output=True,
-                text=True,
-                errors="replace",
-                check=False,
-                timeout=MOST_SECONDS,
-            )
-        except subprocess.TimeoutExpired:
-            return subprocess.CompletedProcess(words, KILLED[0], "", "")
+        return self.running.run([*self.words, *only], self.room, MOST_SECONDS)

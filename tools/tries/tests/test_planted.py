@@ -12,6 +12,7 @@ from building import plan as planning
 from building.kit import Kit
 from building.plan import Plan
 from tries.check import Checker
+from tries.checks import Checks
 from tries.trial import Outcome, tried
 from upkeep.edits import Edit, edits_of
 
@@ -104,7 +105,7 @@ def crate(tmp_path: pathlib.Path, monkeypatch: pytest.MonkeyPatch) -> pathlib.Pa
 
 def checker_of(crate: pathlib.Path, kit: Kit) -> Checker:
     plan, top = Plan(), crate.parent.parent
-    return Checker(plan, kit, plan.crates["tiny"], top, top / "room")
+    return Checker(plan, kit, plan.crates["tiny"], top, top / "room", Checks())
 
 
 def words(outcomes: list[Outcome]) -> dict[str, str]:
@@ -171,7 +172,7 @@ KILLED = (-9, OPEN.format("one", "one"))
 @pytest.fixture
 def scripted(crate: pathlib.Path, tmp_path: pathlib.Path) -> Scripted:
     plan = Plan()
-    return Scripted(plan, Kit(tmp_path), plan.crates["tiny"], tmp_path, tmp_path / "room")
+    return Scripted(plan, Kit(tmp_path), plan.crates["tiny"], tmp_path, tmp_path / "room", Checks())
 
 
 def test_a_check_that_was_killed_refuses_nothing(crate: pathlib.Path, scripted: Scripted) -> None:
