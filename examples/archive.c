@@ -78,7 +78,7 @@ static int copied(int from, int to)
     return count < 0 || fsync(to) != 0 ? errno : 0;
 }
 
-/* A copy of the file, under a name that it has when it is whole. */
+/* A copy of the file, under a name that it has when it is whole; what is not leaves no room taken. */
 static int copy(int folder, const char *path, const char *name)
 {
     char made[NAME_MAX + 8];
@@ -87,7 +87,7 @@ static int copy(int folder, const char *path, const char *name)
     if (from < 0) {
         return error;
     }
-    int to = openat(folder, made, O_WRONLY | O_CREAT | O_TRUNC | O_CLOEXEC, 0600);
+    int to = openat(folder, made, O_WRONLY | O_CREAT | O_EXCL | O_CLOEXEC, 0600);
     error = to < 0 ? errno : copied(from, to);
     if (error == 0 && renameat(folder, made, folder, name) != 0) {
         error = errno;
@@ -95,6 +95,9 @@ static int copy(int folder, const char *path, const char *name)
     close(from);
     if (to >= 0) {
         close(to);
+    }
+    if (to >= 0 && error != 0) {
+        (void)unlinkat(folder, made, 0);
     }
     return error;
 }

@@ -1,6 +1,7 @@
 #define _GNU_SOURCE
 #include "lives.h"
 
+#include <errno.h>
 #include <fcntl.h>
 #include <glob.h>
 #include <inttypes.h>
@@ -95,8 +96,8 @@ size_t found_beside(const char *end, char *to)
 
 void clear(void)
 {
-    static const char *const ends[] = {"", ".*"};
-    for (size_t at = 0; at < 2; at++) {
+    static const char *const ends[] = {"", ".*", ".kept/*"};
+    for (size_t at = 0; at < sizeof ends / sizeof *ends; at++) {
         glob_t found;
         if (glob(beside(ends[at]), 0, NULL, &found) == 0) {
             for (size_t one = 0; one < found.gl_pathc; one++) {
@@ -152,6 +153,7 @@ void make_older(const char *from)
 /* ---- what a life does to the disk */
 
 static int noted = -1; /* where a life notes it */
+static int is_elsewhere; /* no file has a second name */
 
 /* A life is killed before the call that is asked for. */
 static void note(char call)
@@ -187,7 +189,8 @@ int ftruncate(int file, off_t length)
 int link(const char *from, const char *to)
 {
     note('l');
-    return linkat(AT_FDCWD, from, AT_FDCWD, to, 0);
+    errno = EXDEV;
+    return is_elsewhere ? -1 : linkat(AT_FDCWD, from, AT_FDCWD, to, 0);
 }
 
 int rename(const char *from, const char *to)
@@ -260,8 +263,12 @@ static void step(struct journal *journal, char what, int to, double *up)
     } else if (what == 'o') {
         power = (struct power){1, moment_at(*up)};
         (void)journal_keep(journal, "power-lost\n", 11);
-    } else if (what == 'f' || what == 'r' || what == 'z') {
-        limit(what == 'f' ? (rlim_t)journal->size : what == 'z' ? 0 : RLIM_INFINITY);
+    } else if (what == 'e') {
+        is_elsewhere = 1;
+    } else if (what == 'f' || what == 'l') {
+        limit((rlim_t)journal->size - (what == 'l'));
+    } else if (what == 'r' || what == 'z') {
+        limit(what == 'z' ? 0 : RLIM_INFINITY);
     } else if (what == 'x') {
         _exit(0);
     } else if (what == 'p') {

@@ -52,9 +52,10 @@ void make_older(const char *from);
 /*
  * The exit status of a life; what was handed over, and what was said, stands in `handed` and `said`. A letter is a step:
  * a datagram is kept (k), a second passes (t) or a minute (m), a poll is heard (h), the disk is full (f), takes no octet
- * of any file (z) or has room again (r), the power goes (o), the journal is shortened (s), it is polled for long (p), it
- * ends at once (x). Where `f` comes first the disk is full from the start on, and so with `F` for each file. `done` has
- * the life's calls of fsync (s), fdatasync (d), ftruncate (c), link (l) and rename (r) in their order.
+ * of any file (z), or lacks one for a file as long (l), or has room again (r), a file has no second name (e), the power
+ * goes (o), the journal is shortened (s), it is polled for long (p), it ends at once (x). Where `f` comes first the disk
+ * is full from the start on, and so with `F` for each file. `done` has the life's calls of fsync (s), fdatasync (d),
+ * ftruncate (c), link (l) and rename (r) in their order.
  */
 int lived(struct journal_asked asked, const char *steps);
 int lives(const char *steps);

@@ -264,6 +264,17 @@ static void archived(void)
     check("and no other", archive_keep("/nowhere/at/all", path) != 0 && !archive_is(path) && archive_is(beside(".kept")));
 }
 
+/* A folder on another disk has a copy; where that lacks room no part of one is left: each try would leave another. */
+static void archived_elsewhere(void)
+{
+    clear();
+    check("no room for the old file", lives("kkkkkkkkels") == UNRECORDED && is_in("! ", handed));
+    check("no part of it", found_beside(".kept/*", handed) == 0 && found_beside(".new", handed) == 0);
+    check("room later", lives("elsrs") == 0 && is_in("! = ", handed));
+    check("each octet of it", found_beside(".kept/*", handed) == 1 && count_in("\ndatagram 3000 ", handed) == 8);
+    check("under its name", found_beside(".kept/journal.20*-1", handed) == 1);
+}
+
 /* ---- links */
 
 static char link_path[512], real_path[512];
@@ -379,6 +390,7 @@ int main(int count, char **words)
     refusing_disk();
     killed(0);
     archived();
+    archived_elsewhere();
     killed(1);
     linked();
     named_beside();
