@@ -293,6 +293,21 @@ def test_what_is_cut_off_is_kept_under_the_date_and_a_number(path: str, has_link
     assert {(folder / name).stat().st_mode & 0o777 for name in names} == {0o600}
 
 
+@pytest.mark.parametrize("name, at", [("open", 2), ("write", 1), ("fsync", 1), ("rename", 0)])
+def test_where_a_copy_is_refused_no_part_of_one_is_left(path: str, name: str, at: int) -> None:
+    folder, journal = pathlib.Path(path).parent / "kept", Journal.opened(path, HEAD)
+    folder.mkdir()
+    journal.keep([START, CLOCK])
+    text, archive = pathlib.Path(path).read_bytes(), Archive(str(folder))
+    with mock.patch("os.link", cannot_link(errno.EXDEV)):
+        with mock.patch(f"os.{name}", RefusingCall(name, at, errno.ENOSPC)), pytest.raises(NotKept):
+            journal.exchange(SIGN.state, lambda: archive.keep(path))
+        assert not os.listdir(folder) and pathlib.Path(path).read_bytes() == text
+        journal.exchange(SIGN.state, lambda: archive.keep(path))
+    journal.close()
+    assert [one.read_bytes() for one in folder.iterdir()] == [text]
+
+
 def test_an_archive_is_a_folder(path: str) -> None:
     pathlib.Path(path).write_text("")
     for name in (path, f"{path}-none"):

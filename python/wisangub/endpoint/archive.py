@@ -49,12 +49,16 @@ class Archive:
 
 
 def _copy(path: str, name: str) -> None:
-    """A copy of a file under a name that it has when it is whole."""
+    """A copy of a file under a name that it has when it is whole; what is not leaves no room taken."""
     file, made = os.open(path, os.O_RDONLY | os.O_CLOEXEC), -1
     try:
-        made = os.open(name + NEW, os.O_WRONLY | os.O_CREAT | os.O_TRUNC | os.O_CLOEXEC, MODE)
+        made = os.open(name + NEW, os.O_WRONLY | os.O_CREAT | os.O_EXCL | os.O_CLOEXEC, MODE)
         copied(file, 0, os.fstat(file).st_size, made)
         os.rename(name + NEW, name)
+    except OSError:
+        if made >= 0:
+            os.unlink(name + NEW)
+        raise
     finally:
         for one in (file, made):
             if one >= 0:
