@@ -2,11 +2,13 @@
 #include "asked.h"
 
 #include <getopt.h>
+#include <limits.h>
 #include <stdio.h>
 #include <stdlib.h>
 #include <string.h>
 
 #include "archive.h"
+#include "files.h"
 #include "shortening.h"
 #include "wisangub.h"
 #include "writes.h"
@@ -102,6 +104,26 @@ static void take(struct asked *asked, int option, const char *word)
     }
 }
 
+/* A log's lines would damage each other file, and a file beside a journal takes its place. */
+static void look_at_log(const struct asked *asked)
+{
+    char beside[PATH_MAX];
+    const char *journal = asked->journal.path;
+    snprintf(beside, sizeof beside, "%s" NAME_BESIDE, journal != NULL ? journal : "");
+    const struct {
+        const char *path, *what;
+    } others[] = {{journal, "journal"},
+                  {journal != NULL ? beside : NULL, "file beside the journal"},
+                  {asked->description, "description"},
+                  {asked->objects, "file of objects"}};
+    for (size_t at = 0; asked->log != NULL && at < sizeof others / sizeof *others; at++) {
+        if (others[at].path != NULL && file_is_same(asked->log, others[at].path)) {
+            fprintf(stderr, "%s cannot be the log and the %s\n", asked->log, others[at].what);
+            exit(2);
+        }
+    }
+}
+
 /* How a journal is shortened. */
 static void look_at_shortening(struct asked *asked)
 {
@@ -153,5 +175,6 @@ struct asked asked_for(int count, char **words)
     }
     look_at_shortening(&asked);
     asked.description = words[optind];
+    look_at_log(&asked);
     return asked;
 }

@@ -33,6 +33,27 @@ _Noreturn void lose(const char *path, const char *why)
 
 int is_refusal(int error) { return error == ENOSPC || error == EROFS || error == EDQUOT; }
 
+/* The end of a name, and its folder: whether that is there. */
+static const char *parts_of(const char *path, struct stat *folder, int *is_there)
+{
+    char name[PATH_MAX];
+    const char *slash = strrchr(path, '/'), *end = slash != NULL ? slash + 1 : path;
+    snprintf(name, sizeof name, "%.*s.", (int)(end - path), path);
+    *is_there = stat(name, folder) == 0;
+    return end;
+}
+
+int file_is_same(const char *one, const char *other)
+{
+    struct stat left, right;
+    int is_left = stat(one, &left) == 0, is_right = stat(other, &right) == 0;
+    if (!is_left && !is_right) {
+        const char *name = parts_of(one, &left, &is_left), *named = parts_of(other, &right, &is_right);
+        is_left = is_left && strcmp(name, named) == 0;
+    }
+    return is_left && is_right && left.st_dev == right.st_dev && left.st_ino == right.st_ino;
+}
+
 static int is_named(int file, const char *path, off_t *size)
 {
     struct stat open, named;

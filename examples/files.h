@@ -20,6 +20,9 @@ struct place {
 _Noreturn void refuse(const char *path, const char *why);
 _Noreturn void lose(const char *path, const char *why);
 
+/* Whether two names are of one file, which may not be there yet. */
+int file_is_same(const char *one, const char *other);
+
 /* Whether an error is of a disk that is full or can only be read. */
 int is_refusal(int error);
 

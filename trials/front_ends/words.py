@@ -81,6 +81,7 @@ def _of_options(folder: pathlib.Path) -> list[Row]:
         ("--fresh without a journal", ["--fresh"], "--journal"),
         ("--json without a log", ["--json"], "--log"),
         ("a log that is the journal", ["--log", more, "--journal", more], "cannot be the log and the journal"),
+        ("a log that is beside it", ["--log", f"{more}.new", "--journal", more], "and the file beside the journal"),
         ("--down without a journal", ["--down", "power"], "--journal"),
         ("a log that is a folder", ["--log", str(folder)], "Is a directory"),
         ("no such program", ["--signtool", f"{folder}/none"], "No such file or directory"),

@@ -13,7 +13,7 @@ from trials.front_ends.disks import Mounted
 
 from .front_ends import MOST_REPLY, FrontEnd
 from .strangers import WAIT, request
-from .trial import Trial
+from .trial import TOP, Trial
 
 _SIGN = text.bench()
 _LINE = re.compile(r"\d{4}-\d\d-\d\dT\d\d:\d\d:\d\d\.\d{3}Z (-|127\.0\.0\.1:\d+|\[::1\]:\d+) ([a-z -]+?)( [0-9a-f]+)?")
@@ -90,6 +90,33 @@ def _unwritten(trial: Trial) -> None:
     trial.check("a folder is no log", status == 1 and str(trial.folder) in said, said)
 
 
+def _as_it_stands(path: pathlib.Path) -> tuple[bytes, int] | None:
+    """A file's octets and mode; None where there is none."""
+    return (path.read_bytes(), path.stat().st_mode) if path.exists() else None
+
+
+def _of_others(trial: Trial) -> None:
+    """No log is a file that signd reads, a journal, which its lines would damage, or what takes a journal's place."""
+    sign, journal, way = (trial.folder / name for name in ("log.sign", "log.journal", "log.way"))
+    sign.write_bytes((TOP / "signs/bench.sign").read_bytes())
+    way.symlink_to(trial.folder)
+    for is_there in (False, True):
+        for log, what in (
+            (journal, "journal"),
+            (way / journal.name, "journal"),
+            (journal.with_name("log.journal.new"), "file beside the journal"),
+            (trial.folder / "log.objects", "file of objects"),
+            (sign, "description"),
+        ):
+            if is_there:
+                log.touch(0o640)
+            before = _as_it_stands(log)
+            options = ("--journal", str(journal), "--objects", str(trial.folder / "log.objects"), "--log", str(log))
+            found = trial.ran(trial.called(trial.way, "signd", "--port", "0", *options, str(sign)))
+            trial.same(f"the log and the {what}", found, (2, f"{log} cannot be the log and the {what}\n"))
+            trial.same(f"the {what} stays", _as_it_stands(log), before)
+
+
 def _leaves_room(trial: Trial) -> None:
     """A log leaves what is left of a small disk to the journal."""
     mounted = Mounted(trial.folder / "mounted-log")
@@ -112,4 +139,5 @@ def run(trial: Trial) -> None:
     _told(trial)
     _pictures(trial)
     _unwritten(trial)
+    _of_others(trial)
     _leaves_room(trial)

@@ -148,3 +148,5 @@ def test_a_program_without_these_lines_is_refused(path: pathlib.Path, tmp_path: 
 def test_options_that_do_not_go_together() -> None:
     assert refused("--objects", "")[0] == 2
     assert refused("--objects", "x", "--log", "x") == (2, "x cannot be the log and the file of objects\n")
+    words = "y.new cannot be the log and the file beside the journal\n"
+    assert refused("--objects", "x", "--journal", "y", "--log", "y.new") == (2, words)

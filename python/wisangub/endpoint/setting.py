@@ -15,7 +15,7 @@ from wisangub.process.coprocess import CoProcess
 from wisangub.process.stands import signtool
 from wisangub.refusal import Refusal
 
-from .files import Place, octets_aside, opened
+from .files import NEW, Place, octets_aside, opened
 from .journal import Journal
 from .reading import first_of, number_behind
 from .records import SECTOR, SHORTEST, Head
@@ -58,6 +58,7 @@ def checked(asked: argparse.Namespace) -> None:
         raise Refusal("--json is of a --log FILE")
     for what, other in (
         ("journal", asked.journal),
+        ("file beside the journal", asked.journal and asked.journal + NEW),
         ("description", asked.sign),
         ("file of objects", getattr(asked, "objects", None)),
     ):
