@@ -78,18 +78,24 @@ static int seconds_after(double up)
     return made;
 }
 
-/* The signals that are heeded; a SIGHUP where something is done at it. */
-static int signals(int has_hangup)
+/* What signals tell waits until the sign has started, and ends nothing; a SIGHUP where something is done at it. */
+static void hold_signals(sigset_t *held, int has_hangup)
 {
-    sigset_t taken;
-    sigemptyset(&taken);
+    sigemptyset(held);
+    sigaddset(held, SIGUSR1);
+    sigaddset(held, SIGUSR2);
+    if (has_hangup) {
+        sigaddset(held, SIGHUP);
+    }
+    had(sigprocmask(SIG_BLOCK, held, NULL), "sigprocmask");
+}
+
+/* The signals that are heeded: those that were held, and those that end the sign, which end a start at once. */
+static int signals(const sigset_t *held)
+{
+    sigset_t taken = *held;
     sigaddset(&taken, SIGINT);
     sigaddset(&taken, SIGTERM);
-    sigaddset(&taken, SIGUSR1);
-    sigaddset(&taken, SIGUSR2);
-    if (has_hangup) {
-        sigaddset(&taken, SIGHUP);
-    }
     had(sigprocmask(SIG_BLOCK, &taken, NULL), "sigprocmask");
     return had(signalfd(-1, &taken, SFD_CLOEXEC | SFD_NONBLOCK), "signalfd");
 }
@@ -404,6 +410,8 @@ static void start(struct front_end *front_end, const struct asked *asked, const 
 int main(int count, char **words)
 {
     struct asked asked = asked_for(count, words);
+    sigset_t held;
+    hold_signals(&held, asked.objects != NULL || asked.journal.path != NULL);
     keep_standard_files();
     struct front_end front_end = {.socket = bound(asked.host, asked.port),
                                   .timer = -1,
@@ -413,7 +421,7 @@ int main(int count, char **words)
     log_open(&front_end.log, asked.log);
     struct described described = description_of(asked.description);
     start(&front_end, &asked, &described);
-    int waited = signals(front_end.firmware != NULL || front_end.journal != NULL);
+    int waited = signals(&held);
     if (!asked.is_quiet) {
         announce(front_end.socket, asked.host);
     }

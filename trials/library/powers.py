@@ -2,6 +2,7 @@
 
 from __future__ import annotations
 
+import contextlib
 import os
 import pathlib
 import signal
@@ -74,6 +75,24 @@ def _once(trial: Trial) -> None:
     trial.check("power: a loss across a kill", len(back) == 1 and back[0] in whiles, back)
 
 
+def _at_a_start(trial: Trial) -> None:
+    """A loss that is told while it starts, and waits for its file of objects, is one once it has."""
+    journal, objects = trial.folder / "starting.journal", trial.folder / "starting.objects"
+    os.mkfifo(objects)
+    front_end = FrontEnd(trial, "signd", journal, "--objects", str(objects), waits=False)
+    last, file = time.monotonic() + MOST_REPLY, -1
+    while file < 0 and time.monotonic() < last:
+        with contextlib.suppress(OSError):  # nobody reads it yet
+            file = os.open(objects, os.O_WRONLY | os.O_NONBLOCK)
+    _signalled(front_end, signal.SIGUSR1)
+    os.close(file)
+    trial.check("power: it starts", bool(front_end.first_line()), front_end.process.poll())
+    time.sleep(0.2)
+    trial.same("power: signd ends after its start", front_end.end()[0], 0)
+    trial.same("power: a loss at a start", told(journal) if journal.exists() else None, [b"power-lost"])
+
+
 def run(trial: Trial) -> None:
     lost(trial)
+    _at_a_start(trial)
     _once(trial)
