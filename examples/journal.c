@@ -17,7 +17,7 @@ enum { RECORDS_MOST = 1 << 18, MINUTE = 60, LINES_MOST = 1 << 14 };
 
 /* ---- what the disk takes */
 
-/* Says why the disk refuses, once, and when it takes records again. */
+/* Says why the disk refuses, once, and when it takes records again. One that is needed is so at a start. */
 static void tell(struct journal *journal, int refused)
 {
     const char *path = journal->asked.path;
@@ -27,7 +27,7 @@ static void tell(struct journal *journal, int refused)
         fprintf(stderr, "%s: it is written again\n", path);
     }
     journal->refused = refused;
-    if (refused != 0 && journal->asked.is_needed) {
+    if (refused != 0 && journal->asked.is_needed && !journal->is_started) {
         fprintf(stderr, "%s: it is needed\n", path);
         exit(1);
     }

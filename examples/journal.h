@@ -20,7 +20,7 @@ struct journal_asked {
     const char *path, *digest; /* of the description */
     enum down down;
     int accepts_damage;        /* it goes on from where the file is damaged */
-    int is_needed;             /* the process ends where the disk takes no records */
+    int is_needed;             /* the process ends where the disk takes no start */
 };
 
 /* The sign's power, and since when it has none. */

@@ -178,6 +178,7 @@ static void full(void)
     check("what is lost is told", is_in(" seconds are not recorded, and will be lost at the next start", said));
     check("each minute", lives("fmmm") == UNRECORDED && is_in("60 seconds", said) && is_in("180 seconds", said));
     check("needed", lived((struct journal_asked){.is_needed = 1}, "ft") == 1 && is_in("it is needed", said));
+    check("at a start alone", lived((struct journal_asked){.is_needed = 1}, "kfktrk") == 0 && is_in("+ - + ", handed));
     size_t before = size;
     int status = lives("kftpkrk");
     check("polled for long, in the memory that it has", !is_in("grown ", handed));
