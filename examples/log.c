@@ -5,6 +5,7 @@
 #include <fcntl.h>
 #include <inttypes.h>
 #include <netdb.h>
+#include <poll.h>
 #include <stdio.h>
 #include <string.h>
 #include <sys/stat.h>
@@ -77,6 +78,13 @@ static int has_room(const struct log *log)
            || (uint64_t)found.f_bavail * found.f_frsize >= (uint64_t)LEFT * MILLION;
 }
 
+/* Whether a line is taken at once: a reader that stands still, as of a pipe, does not hold the sign up. */
+static int is_taken(const struct log *log)
+{
+    struct pollfd waited = {.fd = log->file, .events = POLLOUT};
+    return log->is_on_disk || poll(&waited, 1, 0) != 0;
+}
+
 /* An event is left out, which is said of the first. */
 static void leave_out(struct log *log, const char *why)
 {
@@ -92,6 +100,10 @@ static void put(struct log *log, const char *line, size_t size)
         char why[64];
         snprintf(why, sizeof why, "its disk has less than %d MB left", LEFT);
         leave_out(log, why);
+        return;
+    }
+    if (!is_taken(log)) {
+        leave_out(log, "nobody takes its lines");
         return;
     }
     ssize_t written = write(log->file, log->is_torn ? line : line + 1, log->is_torn ? size : size - 1);

@@ -17,8 +17,8 @@ struct log {
  * it cannot be opened. */
 void log_open(struct log *log, const char *path);
 
-/* An event in words, of a peer or of none, and octets of a datagram or none. A log that is not written, or whose disk is
- * nearly full, leaves events out, and says so once. */
+/* An event in words, of a peer or of none, and octets of a datagram or none. A log that is not written, whose reader
+ * takes nothing, or whose disk is nearly full, leaves events out, and says so once. */
 void log_event(struct log *log, const struct sockaddr_storage *peer, const char *event, const uint8_t *octets,
                size_t size);
 

@@ -19,6 +19,7 @@ _SIGN = text.bench()
 _LINE = re.compile(r"\d{4}-\d\d-\d\dT\d\d:\d\d:\d\d\.\d{3}Z (-|127\.0\.0\.1:\d+|\[::1\]:\d+) ([a-z -]+?)( [0-9a-f]+)?")
 _ACTIVATE = (1, 3, 6, 1, 4, 1, 1206, 4, 2, 3, 6, 3, 0)
 _MOST_WAIT = 20.0  # seconds
+_UNREAD = 1000  # datagrams whose lines are more than a pipe holds
 
 
 def _events(path: pathlib.Path, trial: Trial) -> list[tuple[str, str]]:
@@ -90,6 +91,25 @@ def _unwritten(trial: Trial) -> None:
     trial.check("a folder is no log", status == 1 and str(trial.folder) in said, said)
 
 
+def _unread(trial: Trial) -> None:
+    """A log that nobody takes, as of a pipe that is full, leaves events out, whole ones, and the sign goes on."""
+    front_end = FrontEnd(trial, "signd", None, "--log", "-", "--no-ticks")
+    asked = request(wire.GET, _SIGN.reader, 1).hex()
+    answered = 0
+    while answered < _UNREAD and front_end.ask(asked):
+        answered += 1
+    trial.same("a log that nobody takes: answered", answered, _UNREAD)
+    assert front_end.process.stdout is not None
+    found = front_end.more + (front_end.process.stdout.read() or b"")
+    trial.check("and answered behind it", bool(front_end.ask(asked)))
+    found += front_end.process.stdout.read() or b""
+    lines = found.decode("ascii").splitlines()
+    trial.check("its lines", all(map(_LINE.fullmatch, lines)) and len(lines) < 2 * _UNREAD, lines[-2:])
+    status, faults = front_end.end()
+    is_said = "the log - is not written: nobody takes its lines" in faults and "the log - is written again" in faults
+    trial.check("it is said", status == 0 and is_said, faults)
+
+
 def _as_it_stands(path: pathlib.Path) -> tuple[bytes, int] | None:
     """A file's octets and mode; None where there is none."""
     return (path.read_bytes(), path.stat().st_mode) if path.exists() else None
@@ -139,5 +159,6 @@ def run(trial: Trial) -> None:
     _told(trial)
     _pictures(trial)
     _unwritten(trial)
+    _unread(trial)
     _of_others(trial)
     _leaves_room(trial)
