@@ -2,6 +2,7 @@
 
 import argparse
 import errno
+import fcntl
 import os
 import pathlib
 import tempfile
@@ -179,5 +180,31 @@ def test_a_log_that_is_no_file_of_a_disk_is_written() -> None:
     read, write = os.pipe()
     Log(f"/dev/fd/{write}", is_json=False).event("one")
     assert os.read(read, 100).endswith(b" - one\n")
+    os.close(read)
+    os.close(write)
+
+
+def test_a_log_whose_reader_stands_still_leaves_events_out() -> None:
+    told: list[str] = []
+    read, write = os.pipe()
+    name, most = f"/dev/fd/{write}", fcntl.fcntl(write, fcntl.F_GETPIPE_SZ)
+    with mock.patch.object(LOG, "info", told.append):
+        log = Log(name, is_json=False)
+        for _ in range(most // 20):  # each has more octets
+            log.event("one")
+        before = os.read(read, most).splitlines()
+        log.event("last")
+        assert os.read(read, 100).endswith(b" - last\n")
+        log.event(3 * most * "l")  # in parts, as far as they are taken
+        part = os.read(read, most)
+        log.event("one")
+        assert part.endswith(b"lll") and os.read(read, 100).startswith(b"\n2")
+    assert all(line.endswith(b" - one") for line in before)
+    assert told == [
+        f"the log {name} is not written: nobody takes its lines",
+        f"the log {name} is written again, without {most // 20 - len(before)} events",
+        f"the log {name} is not written: nobody takes its lines",
+        f"the log {name} is written again, without 1 events",
+    ]
     os.close(read)
     os.close(write)

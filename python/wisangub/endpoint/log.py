@@ -4,6 +4,7 @@ import datetime
 import errno
 import json
 import os
+import select
 import stat
 
 from wisangub.output import LOG
@@ -45,9 +46,17 @@ def _look_at_disk(file: int) -> None:
         raise OSError(errno.ENOSPC, f"its disk has less than {LEAST_LEFT // 1_000_000} MB left")
 
 
+def _look_at_reader(file: int) -> None:
+    """Raises OSError where a write would wait for a reader that stands still, as of a pipe."""
+    waited = select.poll()
+    waited.register(file, select.POLLOUT)
+    if not waited.poll(0):
+        raise OSError(errno.EAGAIN, "nobody takes its lines")
+
+
 class Log:
-    """Where events are told, as text or as JSON. A log that cannot be written, or whose disk is nearly full, leaves
-    events out, and says so once."""
+    """Where events are told, as text or as JSON. A log that cannot be written, whose reader takes nothing, or whose
+    disk is nearly full, leaves events out, and says so once."""
 
     def __init__(self, path: str, is_json: bool) -> None:
         self.path, self.file, self.is_json, self.mib = path, _file_of(path), is_json, Mib.read()
@@ -65,15 +74,21 @@ class Log:
         self.write(json.dumps(told) if self.is_json else _line_of(told))
 
     def write(self, line: str) -> None:
-        """A line, in one write, after a newline where the last one was written in part."""
+        """A line, in one write, after a newline where the last one was written in part; what is no file of a disk has a
+        long one in parts, each of which a pipe takes at once."""
         if self.is_given_up:
             return
         octets = b"\n" * self.is_torn + line.encode("utf-8", "backslashreplace") + b"\n"
+        written = 0
         try:
             if self.is_on_disk:
                 _look_at_disk(self.file)
-            written = os.write(self.file, octets)
+                written = os.write(self.file, octets)
+            while not self.is_on_disk and written < len(octets):
+                _look_at_reader(self.file)
+                written += os.write(self.file, octets[written : written + select.PIPE_BUF])
         except OSError as fault:
+            self.is_torn |= written > 0
             if not self.left_out:
                 LOG.info(f"the log {self.path} is not written: {fault.strerror}")
             self.left_out += 1
