@@ -124,12 +124,27 @@ static void look_at_log(const struct asked *asked)
     }
 }
 
+/* What is asked of a journal goes with one: a sign that needs it does not go on without. */
+static void look_at_journal(const struct asked *asked)
+{
+    const struct {
+        int is_asked;
+        const char *option;
+    } rows[] = {{asked->journal.accepts_damage, "--accept-damage"},
+                {asked->journal.is_needed, "--need-journal"},
+                {asked->journal.down != DOWN_BY_BOOT, "--down"},
+                {asked->keep != NULL, "--keep"},
+                {asked->archive != NULL, "--archive"}};
+    for (size_t at = 0; asked->journal.path == NULL && at < sizeof rows / sizeof *rows; at++) {
+        if (rows[at].is_asked) {
+            refuse_word(rows[at].option, "is", " of a --journal FILE");
+        }
+    }
+}
+
 /* How a journal is shortened. */
 static void look_at_shortening(struct asked *asked)
 {
-    if (asked->journal.path == NULL && (asked->keep != NULL || asked->archive != NULL)) {
-        refuse_word(asked->keep != NULL ? "--keep" : "--archive", "is", " of a --journal FILE");
-    }
     asked->shortening.most = asked->keep != NULL ? octets_of(asked->keep) : KEEP_USUAL;
     asked->shortening.archive = asked->archive;
     if (asked->shortening.most == 0) {
@@ -173,6 +188,7 @@ struct asked asked_for(int count, char **words)
     if (asked.most < 1 || asked.most > WRITES_MOST) {
         misused("--most-recorded is 1 to 1000000");
     }
+    look_at_journal(&asked);
     look_at_shortening(&asked);
     asked.description = words[optind];
     look_at_log(&asked);

@@ -144,11 +144,14 @@ def _refusals(trial: Trial, kinds: tuple[str, ...]) -> None:
 
 
 def _options(trial: Trial, kinds: tuple[str, ...]) -> None:
-    """What shortening is asked for wrongly."""
+    """What shortening is asked for wrongly, and what is asked of a journal that is none."""
     journal = trial.folder / "unasked.journal"
     for kind in kinds:
         for words, said in _OPTIONS:
             trial.same(f"{kind} {words}", FrontEnd(trial, kind, journal, *words).end(), (2, said))
+            alone = FrontEnd(trial, kind, None, *words).end()
+            trial.same(f"{kind} {words} alone", alone, (2, f"{words[0]} is of a --journal FILE\n"))
+        for words in (["--need-journal"], ["--accept-damage"], ["--down", "power"]):
             alone = FrontEnd(trial, kind, None, *words).end()
             trial.same(f"{kind} {words} alone", alone, (2, f"{words[0]} is of a --journal FILE\n"))
     trial.check("no journal is begun", not journal.exists())
