@@ -20,7 +20,8 @@ int watchdog_open(const char *path)
     return file;
 }
 
-void systemd_tell(const char *state)
+/* Tells systemd a state, with flags of a message. */
+static void tell(const char *state, int flags)
 {
     const char *path = getenv("NOTIFY_SOCKET");
     struct sockaddr_un to = {.sun_family = AF_UNIX};
@@ -35,23 +36,25 @@ void systemd_tell(const char *state)
     int file = socket(AF_UNIX, SOCK_DGRAM | SOCK_CLOEXEC, 0);
     if (file >= 0) {
         socklen_t to_size = (socklen_t)(offsetof(struct sockaddr_un, sun_path) + size);
-        (void)!sendto(file, state, strlen(state), MSG_NOSIGNAL, (struct sockaddr *)&to, to_size);
+        (void)!sendto(file, state, strlen(state), MSG_NOSIGNAL | flags, (struct sockaddr *)&to, to_size);
         close(file);
     }
 }
+
+void systemd_tell(const char *state) { tell(state, 0); }
 
 void watchdogs_feed(int watchdog)
 {
     if (watchdog >= 0) {
         (void)!write(watchdog, "1", 1);
     }
-    systemd_tell("WATCHDOG=1");
+    tell("WATCHDOG=1", MSG_DONTWAIT);
 }
 
 /* A watchdog that is not told `V` first goes on counting when it is closed. */
 void watchdogs_end(int watchdog)
 {
-    systemd_tell("STOPPING=1");
+    tell("STOPPING=1", MSG_DONTWAIT);
     if (watchdog >= 0) {
         (void)!write(watchdog, "V", 1);
         close(watchdog);

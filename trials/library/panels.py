@@ -4,10 +4,12 @@ from __future__ import annotations
 
 import configparser
 import os
+import pathlib
 import shutil
 import signal
 import socket
 import subprocess
+import sys
 import threading
 import time
 from collections.abc import Callable
@@ -16,7 +18,7 @@ from model import layout, text
 from trials.picture import is_lit, up
 
 from .against_vectors import cases
-from .trial import PLAIN, TOP, UNDER_VALGRIND, Trial, Way, described
+from .trial import PLAIN, TOP, UNDER_VALGRIND, Late, Trial, Way, described
 
 TENTHS = 120
 FEW_TENTHS = 25  # where each takes long
@@ -298,11 +300,31 @@ def unit(trial: Trial) -> None:
     trial.check("panel.service: systemd reads it", status == 0 and "panel.service" not in said, said)
 
 
+def unread(trial: Trial) -> None:
+    """A systemd that reads nothing holds no lamps up: what it does not take is left out."""
+    library, path = trial.folder / "watchdogs.so", trial.folder / "unread"
+    status, said = trial.ran(["cc", "-shared", "-fPIC", "-o", str(library), str(TOP / "examples/watchdogs.c")])
+    if not trial.check("compile watchdogs.c", status == 0, said):
+        return
+    most = int(pathlib.Path("/proc/sys/net/unix/max_dgram_qlen").read_text(encoding="ascii"))
+    tells = f"to = ctypes.CDLL({str(library)!r}); [to.watchdogs_feed(-1) for _ in range({2 * most + 9})]"
+    with socket.socket(socket.AF_UNIX, socket.SOCK_DGRAM) as told:
+        told.bind(str(path))
+        try:
+            words = [sys.executable, "-c", f"import ctypes; {tells}"]
+            status, said = trial.ran(words, "", MOST_WAIT, NOTIFY_SOCKET=str(path))
+        except Late as late:
+            status, said = -1, str(late)
+        trial.check("a systemd that reads nothing", status == 0, said)
+        trial.same("what it was told", told.recv(20), b"WATCHDOG=1")
+
+
 def run(trial: Trial) -> None:
     for way in {PLAIN, trial.way}:
         simulated(trial, way, TENTHS if way == PLAIN else FEW_TENTHS)
     live(trial)
     unit(trial)
+    unread(trial)
 
 
 def under_valgrind(trial: Trial) -> None:
