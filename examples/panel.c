@@ -70,6 +70,7 @@ static int each_tenth(void)
     return made;
 }
 
+/* What ends it waits from now on until the lamps can be darkened. */
 static int signals(void)
 {
     sigset_t taken;
@@ -134,11 +135,11 @@ static int has_power(int input)
     return input < 0 || pread(input, &octet, 1, 0) != 1 || octet != '0';
 }
 
-static void serve(int input, int watchdog, int socket)
+static void serve(int input, int watchdog, int socket, int ends)
 {
     struct pollfd waited[WAITED] = {[SOCKET] = {.fd = socket, .events = POLLIN},
                                     [TIMER] = {.fd = each_tenth(), .events = POLLIN},
-                                    [SIGNALS] = {.fd = signals(), .events = POLLIN}};
+                                    [SIGNALS] = {.fd = ends, .events = POLLIN}};
     uint64_t expired;
     while (waited[SIGNALS].revents == 0) {
         must(poll(waited, WAITED, -1) < 0 && errno != EINTR ? -1 : 0, "poll");
@@ -208,13 +209,14 @@ int main(int count, char **words)
     make_sign(&sign, asked.description, digest);
     wisangub_sign_matrix(&sign, &width, &height);
     struct spi_panel panel = spi_panel(must(open(asked.panel, O_WRONLY | O_CLOEXEC), asked.panel), width, height);
+    int ends = signals();
     controller_begin(&controller, &sign, &panel.lamps, tenths());
     fputs(controller.is_lit ? "panel: the lamps show the sign\n" : "panel: the lamps take no frame\n", stderr);
     int input = asked.power != NULL ? must(open(asked.power, O_RDONLY | O_CLOEXEC), asked.power) : -1;
     int watchdog = watchdog_open(asked.watchdog), socket = bound_to(asked.host, asked.port);
     announce(socket);
     systemd_tell("READY=1");
-    serve(input, watchdog, socket);
+    serve(input, watchdog, socket, ends);
     controller_power(&controller, 0, tenths());
     controller_show(&controller, tenths());
     watchdogs_end(watchdog);

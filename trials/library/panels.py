@@ -3,6 +3,7 @@
 from __future__ import annotations
 
 import configparser
+import contextlib
 import os
 import pathlib
 import shutil
@@ -300,6 +301,38 @@ def unit(trial: Trial) -> None:
     trial.check("panel.service: systemd reads it", status == 0 and "panel.service" not in said, said)
 
 
+def _opened(path: pathlib.Path, process: subprocess.Popen[str]) -> int:
+    """A pipe that a process waits at, open to be written; -1 where it is gone."""
+    last = time.monotonic() + MOST_WAIT
+    while process.poll() is None and time.monotonic() < last:
+        with contextlib.suppress(OSError):  # nobody reads it yet
+            return os.open(path, os.O_WRONLY | os.O_NONBLOCK)
+    return -1
+
+
+def ended_at_start(trial: Trial) -> None:
+    """A SIGTERM once the lamps are lit darkens them, also before the sign is on the network."""
+    folder = trial.folder / "starting"
+    folder.mkdir()
+    spi, power = folder / "spi", folder / "power"
+    os.mkfifo(spi)
+    os.mkfifo(power)  # it is waited for
+    reads = os.open(spi, os.O_RDONLY | os.O_NONBLOCK)
+    words = ("--port", "0", "--power", str(power), str(TOP / "signs/roadside.sign"), str(spi))
+    with subprocess.Popen(trial.called(trial.way, "panel", *words), stderr=subprocess.PIPE, text=True) as process:
+        assert process.stderr is not None
+        trial.same("a start: the lamps", process.stderr.readline(), "panel: the lamps show the sign\n")
+        process.send_signal(signal.SIGTERM)
+        time.sleep(0.2)
+        if (file := _opened(power, process)) >= 0:
+            os.close(file)
+        status = process.wait(MOST_WAIT)
+    face = Face("roadside")
+    dark = bytes(face.stride * face.face.height)
+    trial.check("a start that is ended: dark", status == 0 and os.read(reads, 1 << 20).endswith(dark), status)
+    os.close(reads)
+
+
 def unread(trial: Trial) -> None:
     """A systemd that reads nothing holds no lamps up: what it does not take is left out."""
     library, path = trial.folder / "watchdogs.so", trial.folder / "unread"
@@ -323,6 +356,7 @@ def run(trial: Trial) -> None:
     for way in {PLAIN, trial.way}:
         simulated(trial, way, TENTHS if way == PLAIN else FEW_TENTHS)
     live(trial)
+    ended_at_start(trial)
     unit(trial)
     unread(trial)
 
