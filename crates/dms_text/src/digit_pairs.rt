@@ -27,7 +27,8 @@ pub fn octets(alloc: Global, word: &[u8]) -> Result<Option<Vec<u8>>, AllocError>
     }
 }
 
-fn is_dash(word: &[u8]) -> bool
+/// Whether a word is `-`, which is no octets.
+pub fn is_dash(word: &[u8]) -> bool
     ensures { result ≡ is_dash word.now }
 {
     matches!(word, [b'-'])
@@ -45,8 +46,8 @@ fn unless_at_fault(word: &[u8]) -> Result<Option<Vec<u8>>, AllocError>
     }
 }
 
-/// Whether a word is one pair of hexadecimal digits or more.
-fn are_pairs(word: &[u8]) -> bool
+/// Whether a word is one pair of hexadecimal digits or more. It takes no memory.
+pub fn are_pairs(word: &[u8]) -> bool
     ensures { result ≡ are_pairs word.now }
 {
     !word.is_empty() && word.len() % 2 == 0 && are_digits(word)

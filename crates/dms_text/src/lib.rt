@@ -20,7 +20,7 @@ mod numbers;
 mod parts;
 mod words;
 
-pub use digit_pairs::octets;
+pub use digit_pairs::{are_pairs, is_dash, octets};
 pub use lines::{Line, Lines};
 pub use numbers::{hexadecimal, number, version};
 pub use parts::{index_of, split_once};

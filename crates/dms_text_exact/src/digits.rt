@@ -2,10 +2,10 @@
 
 ghost use Rattle.std.specs.Prelude.{◌≡◌, ◌%◌, ◌==◌, ◌&&◌, IfOk, IsSome, OnErr, is_some, length, nat_lt};
 ghost use Rattle.std.specs.List.{list_all};
-ghost use Rattle.dms_text.specs.Reading.{is_dash};
 ghost use Rattle.dms_text.specs.Views.{octets_found};
 ghost use Rattle.dms_text_exact.specs.ExactWords.{is_small_digit, are_written, octets_in, code_in};
 
+use dms_text::is_dash;
 use std::alloc::{AllocError, Global};
 
 fn are_small_digits(word: &[u8]) -> bool
@@ -23,12 +23,6 @@ fn are_written(most: usize, word: &[u8]) -> bool
     ensures { result ≡ are_written most word.now }
 {
     word.len() / 2 <= most && (is_dash(word) || are_small_digits(word))
-}
-
-fn is_dash(word: &[u8]) -> bool
-    ensures { result ≡ is_dash word.now }
-{
-    matches!(word, [b'-'])
 }
 
 /// The octets that a word is, at most `most`; `-` is none. Only for octets can memory be wanting.
