@@ -10,11 +10,10 @@ use Rattle.dms_wire.specs.Limits.{IsValueInLimits, AreBindingsInLimits}
 use Rattle.dms_text.specs.Octets.{SpellsOctets}
 use Rattle.dms_text.specs.Words.{words_of, parts_of}
 use Rattle.dms_text.specs.Reading.{word_at, keyword_at, is_end}
-use Rattle.dms_text_forms.specs.Fields.{SpellsEach}
+use Rattle.dms_text_forms.specs.Fields.{SpellsEach, SpellsAddressPart}
 use Rattle.dms_text_values.specs.NameReading.{name_of}
 use Rattle.dms_text_values.specs.ValueReading.{value_at}
 use Rattle.dms_device.specs.Object.{can_be_sent}
-use Rattle.dms_agent_state.specs.ObjectFields.{SpellsAddressPart}
 use Rattle.dms_agent_state.specs.SpelledValue.{SpellsValue}
 use Rattle.dms_agent_state.proofs.ObjectWordLaws.{name_found}
 use Rattle.dms_agent_state.proofs.ValueLaws.{value_found, read_sent}

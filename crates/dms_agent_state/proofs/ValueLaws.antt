@@ -8,13 +8,14 @@ use Rattle.dms_wire.specs.Message.{ObjectValue, integer, octet_string, null, obj
 use Rattle.dms_text.specs.Octets.{SpellsOctets}
 use Rattle.dms_text.specs.Reading.{word_at, same_octets, ◌>>=◌}
 use Rattle.dms_text.proofs.WordLaws.{begun, goes_on, same_found, word_found, word_only, keyword_found, keyword_only, numeral_found, numeral_only}
-use Rattle.dms_text_forms.specs.Fields.{SpellsFourOctets, SpellsOne}
+use Rattle.dms_text_forms.specs.Fields.{SpellsFourOctets, SpellsOne, SpellsAddress}
+use Rattle.dms_text_forms.proofs.AddressLaws.{address_found, address_only, address_some}
 use Rattle.dms_text_forms.proofs.FieldLaws.{next_octets_found, next_octets_only}
 use Rattle.dms_device.specs.Object.{can_be_sent}
 use Rattle.dms_text_values.specs.ValueReading.{integer_value_at, octet_string_at, object_identifier_at, ip_address_at, counter_at, gauge_at, time_ticks_at, opaque_at, large_number_at, application_word, type_word, value_after, value_at}
-use Rattle.dms_agent_state.specs.ObjectFields.{SpellsName, SpellsInteger, SpellsAddress}
+use Rattle.dms_agent_state.specs.ObjectFields.{SpellsName, SpellsInteger}
 use Rattle.dms_agent_state.specs.SpelledValue.{SpellsValue}
-use Rattle.dms_agent_state.proofs.ObjectWordLaws.{name_found, name_only, name_some, integer_found, integer_only, address_found, address_only, address_some}
+use Rattle.dms_agent_state.proofs.ObjectWordLaws.{name_found, name_only, name_some, integer_found, integer_only}
 
 -- ---- types
 

@@ -1,5 +1,5 @@
 -- What single words of an object's line spell (this profile).
-use Rattle.std.specs.Prelude.{◌≡◌, ◌⊎◌, ℕ, ℤ, pos, neg_ℤ, ◌^◌, ◌≤◌, List, ◌∷◌, length}
+use Rattle.std.specs.Prelude.{◌≡◌, ◌⊎◌, ℕ, ℤ, pos, neg_ℤ, ◌^◌, ◌≤◌, List, ◌∷◌}
 use Rattle.std.specs.Str.{byte}
 use Rattle.dms_wire_ber.specs.ObjectIdentifier.{IsNameInLimits}
 use Rattle.dms_text.specs.Numbers.{SpellsNumber}
@@ -28,13 +28,3 @@ pub record SpellsNegative (number : ℤ) (word : List ℕ) : Type 0 where
 
 abbrev pub SpellsInteger : ℤ → List ℕ → Type 0
 SpellsInteger number word = SpellsPositive number word ⊎ SpellsNegative number word
-
--- one number of an IpAddress: one to three decimal digits, at most 255
-pub record SpellsAddressPart (number : ℕ) (word : List ℕ) : Type 0 where
-  pub spelled : SpellsNumber 10 3 number word
-  pub small : number ≤ 255
-
--- four of them, parted by dots
-pub record SpellsAddress (address : List ℕ) (word : List ℕ) : Type 0 where
-  pub four : length address ≡ 4
-  pub parts : SpellsEach SpellsAddressPart address (parts_of (byte ".") word)

@@ -3,8 +3,8 @@ use Rattle.std.specs.Prelude.{◌≡◌, ℕ, List, [], ◌∷◌, codes}
 use Rattle.dms_wire.specs.Message.{ObjectValue, integer, octet_string, null, object_identifier}
 use Rattle.dms_wire.specs.Message.{ip_address, counter, gauge, time_ticks, opaque}
 use Rattle.dms_text.specs.Octets.{SpellsOctets}
-use Rattle.dms_text_forms.specs.Fields.{SpellsFourOctets, SpellsOne}
-use Rattle.dms_agent_state.specs.ObjectFields.{SpellsName, SpellsInteger, SpellsAddress}
+use Rattle.dms_text_forms.specs.Fields.{SpellsFourOctets, SpellsOne, SpellsAddress}
+use Rattle.dms_agent_state.specs.ObjectFields.{SpellsName, SpellsInteger}
 
 -- two keywords, and one word after them that spells something
 pub record SpellsThird (first second : List ℕ) (Spelled : List ℕ → Type 0) (words : List (List ℕ)) : Type 0 where

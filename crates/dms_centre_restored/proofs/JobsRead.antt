@@ -9,7 +9,7 @@ use Rattle.dms_text.specs.Numbers.{SpellsDecimal}
 use Rattle.dms_text.specs.Words.{parts_of, words_of}
 use Rattle.dms_text.specs.Reading.{word_at, ◌>>=◌}
 use Rattle.dms_text.proofs.WordLaws.{goes_on}
-use Rattle.dms_text_forms.specs.Fields.{SpellsEach}
+use Rattle.dms_text_forms.specs.Fields.{SpellsEach, SpellsAddressPart, SpellsAddress}
 use Rattle.dms_text_forms.specs.LineText.{code_text}
 use Rattle.dms_text_values.specs.ValueText.{octets_text}
 use Rattle.dms_codes.specs.declared.codes.Order.{Order}
@@ -24,7 +24,6 @@ use Rattle.dms_centre_jobs.specs.Commands.{CommandModel, Publish, Activate, IsAd
 use Rattle.dms_centre_jobs.specs.Requests.{IsWork, OfPublishing, OfShowing}
 use Rattle.dms_centre.specs.declared.restoring.SavedStage.{SavedStage}
 use Rattle.dms_centre.specs.Restoring.{suits}
-use Rattle.dms_centre_text.specs.CommandFields.{SpellsAddressPart, SpellsAddress}
 use Rattle.dms_centre_text.specs.CommandLine.{SpellsPublication}
 use Rattle.dms_centre_text.specs.CommandReading.{publish_at, command_word, command_of}
 use Rattle.dms_centre_text.proofs.CommandLaws.{command_only}

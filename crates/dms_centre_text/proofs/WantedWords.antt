@@ -1,45 +1,22 @@
 -- A word that is wanted as an address or as a code is read as one, and no other word is.
-use Rattle.std.proofs.Common.{◌≡◌, ℕ, ◌==◌, Bool, true, false, cond, List, [], ◌∷◌, length, Option, Some, None, is_some, Result, Ok, Err, arith, refl}
+use Rattle.std.proofs.Common.{◌≡◌, ℕ, ◌==◌, Bool, true, false, cond, List, length, Some, None, is_some, Result, Ok, Err, arith, refl}
 use Rattle.std.specs.Prelude.{IsSome}
 use Rattle.hex.specs.Hex.{decode_of}
 use Rattle.hex.specs.declared.error.FromHexError.{FromHexError}
-use Rattle.dms_text.specs.Words.{parts_of}
-use Rattle.dms_text.specs.Reading.{decimal_at, is_end, ◌>>=◌}
 use Rattle.dms_codes.specs.declared.codes.Order.{Order}
 use Rattle.dms_codes.specs.declared.codes.Activation.{Activation}
 use Rattle.dms_codes.specs.Codes.{activation_of}
-use Rattle.dms_text_forms.specs.FieldsReading.{if_last}
-use Rattle.dms_text_forms.specs.Form.{ends, is_address, is_twelve}
-use Rattle.dms_text_forms.specs.Form as form
+use Rattle.dms_text_forms.specs.FieldsReading.{address_of}
+use Rattle.dms_text_forms.specs.Form.{is_twelve}
 use Rattle.dms_text_forms.specs.LineReading.{wanted_at}
 use Rattle.dms_text_forms.specs.declared.wanted.Wanted.TheVariants as wants
-use Rattle.dms_centre_text.specs.CommandReading.{address_at, address_of, code_from, code_at, next_address_at}
+use Rattle.dms_centre_text.specs.CommandReading.{code_from, code_at, next_address_at}
 
 -- ---- addresses
 
-bound : {A C : Type 0} (o : Option A) (f : A → Option (List (List ℕ))) (g : A → Option C) → ((x : A) → ends (f x) ≡ is_some (g x)) → ends (o >>= f) ≡ is_some (o >>= g)
-bound None f g e = refl
-bound (Some x) f g e = e x
-
-at_end : (address : List ℕ) (rest : List (List ℕ)) → is_end rest ≡ is_some (if_last address rest)
-at_end address [] = refl
-at_end address (word ∷ rest) = refl
-
-address_parts : (parts : List (List ℕ)) → ends (form.address_at parts) ≡ is_some (address_at parts)
-unfolding form.address_at address_at
-address_parts parts =
-    bound {A = ℕ × List (List ℕ)} (decimal_at 3 0 255 parts) _ _ λ first.
-    bound {A = ℕ × List (List ℕ)} (decimal_at 3 0 255 first.1) _ _ λ second.
-    bound {A = ℕ × List (List ℕ)} (decimal_at 3 0 255 second.1) _ _ λ third.
-    bound {A = ℕ × List (List ℕ)} (decimal_at 3 0 255 third.1) _ _ λ fourth.
-    at_end (first.0 ∷ second.0 ∷ third.0 ∷ fourth.0 ∷ []) fourth.1
-
-address_word : (word : List ℕ) → is_address word ≡ is_some (address_of word)
-address_word word = address_parts (parts_of 46 word)
-
 pub address_wanted : (words : List (List ℕ)) (word : List ℕ) (rest : List (List ℕ)) → wanted_at wants.Address words ≡ Some (word, rest) → IsSome (address_of word)
 unfolding wanted_at
-address_wanted words word rest e = grind (arith, e, address_word)
+address_wanted words word rest e = grind (arith, e)
 
 pub address_next : (words : List (List ℕ)) (word address : List ℕ) (rest : List (List ℕ)) → wanted_at wants.Address words ≡ Some (word, rest) → Some address ≡ address_of word
     → next_address_at words ≡ Some (address, rest)
@@ -48,7 +25,7 @@ address_next words word address rest e is = grind (arith, e, is)
 
 pub address_none : (words : List (List ℕ)) → wanted_at wants.Address words ≡ None → next_address_at words ≡ None
 unfolding wanted_at next_address_at
-address_none words e = grind (arith, e, address_word)
+address_none words e = grind (arith, e)
 
 pub ruleset addresses = (address_wanted, address_next, address_none)
 

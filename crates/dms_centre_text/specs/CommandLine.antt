@@ -4,8 +4,8 @@ use Rattle.dms_text.specs.Octets.{SpellsOctets}
 use Rattle.dms_codes.specs.declared.codes.Order.{Order}
 use Rattle.dms_centre_jobs.specs.Job.{PublicationModel}
 use Rattle.dms_centre_jobs.specs.Commands.{CommandModel, Publish, Blank, Activate}
-use Rattle.dms_text_forms.specs.Fields.{SpellsOctet, SpellsTwoOctets, SpellsOne}
-use Rattle.dms_centre_text.specs.CommandFields.{SpellsAddress, SpellsCode}
+use Rattle.dms_text_forms.specs.Fields.{SpellsOctet, SpellsTwoOctets, SpellsOne, SpellsAddress}
+use Rattle.dms_centre_text.specs.CommandFields.{SpellsCode}
 
 -- `publish MEMORY NUMBER TEXT OWNER BEACON PIXEL RUN MINUTES PRIORITY ADDRESS`
 pub record SpellsPublication (publication : PublicationModel) (words : List (List ℕ)) : Type 0 where

@@ -1,13 +1,12 @@
 -- The lines of commands read from their beginning, which the calls say of themselves; `command_found` and
 -- `command_only` in proofs/ join it to the lines that spell commands (this profile).
-use Rattle.std.specs.Prelude.{ℕ, ◌≡◌, ◌==◌, Bool, true, false, if◌then◌else◌, List, [], ◌∷◌, length, codes, Option}
+use Rattle.std.specs.Prelude.{ℕ, ◌≡◌, ◌==◌, Bool, true, false, if◌then◌else◌, List, length, codes, Option}
 use Rattle.std.specs.Prelude.{Some, None, option_map}
 use Rattle.std.specs.Prelude.{Result, Ok, Err}
-use Rattle.std.specs.Str.{byte}
 use Rattle.hex.specs.Hex.{decode_of}
 use Rattle.hex.specs.declared.error.FromHexError.{FromHexError}
-use Rattle.dms_text.specs.Words.{parts_of, words_of}
-use Rattle.dms_text.specs.Reading.{same_octets, word_at, decimal_at, ◌>>=◌}
+use Rattle.dms_text.specs.Words.{words_of}
+use Rattle.dms_text.specs.Reading.{same_octets, word_at, ◌>>=◌}
 use Rattle.dms_codes.specs.declared.codes.Order.{Order}
 use Rattle.dms_codes.specs.declared.codes.Activation.{Activation}
 use Rattle.dms_codes.specs.Codes.{activation_of}
@@ -16,23 +15,11 @@ use Rattle.dms_centre_jobs.specs.declared.publication.Attributes.{Attributes}
 use Rattle.dms_centre_jobs.specs.declared.publication.Terms.{Terms}
 use Rattle.dms_centre_jobs.specs.PublicationView.{published}
 use Rattle.dms_centre_jobs.specs.Commands.{CommandModel, Publish, Blank, Activate}
-use Rattle.dms_text_forms.specs.FieldsReading.{if_last, octet_at, two_octets_at, octets_at}
+use Rattle.dms_text_forms.specs.FieldsReading.{if_last, octet_at, two_octets_at, octets_at, address_of}
 use Rattle.dms_centre_text.specs.declared.command_word.CommandWord.{CommandWord}
 use Rattle.dms_centre_text.specs.declared.command_word.CommandWord.TheVariants as key
 
 -- ---- words
-
--- the four numbers of an address, of the parts of a word
-unfoldable pub address_at : List (List ℕ) → Option (List ℕ)
-address_at parts = do
-  first ← decimal_at 3 0 255 parts
-  second ← decimal_at 3 0 255 first.1
-  third ← decimal_at 3 0 255 second.1
-  fourth ← decimal_at 3 0 255 third.1
-  if_last (first.0 ∷ second.0 ∷ third.0 ∷ fourth.0 ∷ []) fourth.1
-
-abbrev pub address_of : List ℕ → Option (List ℕ)
-address_of word = address_at (parts_of (byte ".") word)
 
 -- the code of twelve octets
 abbrev pub code_from : Order → Result (List ℕ) FromHexError → Option Activation

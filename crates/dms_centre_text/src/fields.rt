@@ -9,13 +9,12 @@ ghost use Rattle.dms_text_forms.specs.LineReading.{Takes, Lacks};
 ghost use Rattle.dms_text_forms.specs.declared.wanted.Wanted.{Wanted};
 ghost use Rattle.dms_text_forms.specs.declared.wanted.Wanted.TheVariants as wants;
 ghost use Rattle.dms_centre_text.specs.CommandForm.{row_form, attributes_form, terms_form};
-ghost use Rattle.dms_centre_text.specs.CommandReading.{address_of, attributes_at, code_from, code_at, last_code_at};
+ghost use Rattle.dms_centre_text.specs.CommandReading.{attributes_at, code_from, code_at, last_code_at};
 ghost use Rattle.dms_centre_text.specs.CommandReading.{last_terms_at, next_address_at, row_at};
 
 use dms_centre::{Attributes, Terms};
 use dms_codes::{Activation, Order, RowId};
-use dms_text::Words;
-use dms_text_forms::{LineWords, Wanted, WordFault};
+use dms_text_forms::{LineWords, Wanted, WordFault, address};
 use hex::FromHex;
 
 /// A row of the message table, and the words after it.
@@ -57,22 +56,6 @@ pub(crate) fn attributes(words: LineWords<'_>) -> Result<(Attributes, LineWords<
         run_priority,
     };
     Ok((attributes, words))
-}
-
-/// Four numbers with a dot between two.
-#[tactic(auto, unfolding(crate::specs::CommandReading::address_at))]
-pub fn address(word: &[u8]) -> Option<[u8; 4]>
-    ensures { result ≡ address_of word.now }
-{
-    let (first, parts) = Words::split(word, b'.').octet(3, 0, u8::MAX)?;
-    let (second, parts) = parts.octet(3, 0, u8::MAX)?;
-    let (third, parts) = parts.octet(3, 0, u8::MAX)?;
-    let (fourth, parts) = parts.octet(3, 0, u8::MAX)?;
-    if parts.is_empty() {
-        Some([first, second, third, fourth])
-    } else {
-        None
-    }
 }
 
 /// An address, and the words after it.

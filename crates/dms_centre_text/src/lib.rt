@@ -23,7 +23,7 @@ mod reading;
 
 pub use cause::CommandCause;
 pub use command_word::CommandWord;
-pub use fields::address;
+pub use dms_text_forms::address;
 pub use ledger_text::{put_code, put_ledger};
 pub use owned_command::OwnedCommand;
 pub use reading::{command_after, read_command};

@@ -18,11 +18,10 @@ use Rattle.dms_world.specs.World.{IsFresh}
 use Rattle.dms_world.specs.Headline.{IsEvent, AreEvents}
 use Rattle.dms_sign_text.specs.BenchSign.{bench_text}
 use Rattle.dms_sign_text.specs.Description.{Description, SpellsSign, SpellsPermanentLine, numbers_of}
-use Rattle.dms_text_forms.specs.Fields.{SpellsEach, SpellsOctet}
+use Rattle.dms_text_forms.specs.Fields.{SpellsEach, SpellsOctet, SpellsAddress, SpellsAddressPart}
 use Rattle.dms_sign_text.proofs.BenchValue.{bench_sign}
 use Rattle.dms_sign_text.proofs.BenchText.{spells_the_bench_sign}
 use Rattle.dms_sign_text.proofs.DescriptionLaws.{one_sign}
-use Rattle.dms_centre_text.specs.CommandFields.{SpellsAddress, SpellsAddressPart}
 use Rattle.dms_centre_text.specs.CommandLine.{SpellsPublication, SpellsCommand}
 use Rattle.dms_replay.specs.EventLine.{SpellsEvent, SpellsEventWords}
 use Rattle.dms_replay.specs.Script.{NamesSign, the_bench, described, SpellsScript, beginning_of}

@@ -6,8 +6,7 @@ use Rattle.dms_text.specs.Reading.{number_of}
 use Rattle.dms_text.proofs.NumberLaws.{number_found}
 use Rattle.dms_codes.specs.declared.codes.Order.TheVariants.{High}
 use Rattle.dms_world.specs.Event.{EventModel, sign_tick, centre_tick, to_sign, to_centre}
-use Rattle.dms_text_forms.specs.Fields.{SpellsFourOctets}
-use Rattle.dms_centre_text.specs.CommandFields.{SpellsAddressPart}
+use Rattle.dms_text_forms.specs.Fields.{SpellsFourOctets, SpellsAddressPart}
 use Rattle.dms_replay.specs.EventLine.{SpellsEvent}
 use Rattle.dms_replay.specs.Script.{SpellsScript, the_bench}
 use Rattle.dms_replay_laws.proofs.BenchWorld.{publish}

@@ -9,8 +9,8 @@ use Rattle.dms_wire_ber.specs.NameText.{dotted}
 use Rattle.dms_text.specs.Words.{parts_of}
 use Rattle.dms_text.specs.Reading.{decimal_at}
 use Rattle.dms_text.proofs.WordLaws.{begun, goes_on, numeral_found, numeral_only}
+use Rattle.dms_text_forms.specs.FieldsReading.{address_at, address_of}
 use Rattle.dms_text_forms.proofs.WordReading.{last_found}
-use Rattle.dms_text_values.specs.ValueReading.{address_at, address_of}
 use Rattle.dms_text_exact.specs.ExactWords.{has_needless_zero, address_in}
 use Rattle.dms_text_exact.specs.Fronts.{IsFree}
 use Rattle.dms_text_exact.proofs.Tests.{if_false}

@@ -8,7 +8,8 @@ use Rattle.hex.specs.Hex.{decode_sized}
 use Rattle.hex.specs.declared.error.FromHexError.{FromHexError}
 use Rattle.dms_text.specs.Words.{parts_of}
 use Rattle.dms_text.specs.Reading.{number_of, within, is_dash, octets_of, ◌>>=◌}
-use Rattle.dms_text_values.specs.ValueReading.{integer_of, address_of}
+use Rattle.dms_text_forms.specs.FieldsReading.{address_of}
+use Rattle.dms_text_values.specs.ValueReading.{integer_of}
 
 -- ---- numbers
 

@@ -68,6 +68,6 @@ pub fn address(word: &[u8]) -> Option<[u8; 4]>
     if has_zero_in_parts(word) {
         None
     } else {
-        dms_text_values::address(word)
+        dms_text_forms::address(word)
     }
 }

@@ -2,3 +2,4 @@ pub mod WordReading
 pub mod FieldLaws
 pub mod WordTests
 pub mod LineLaws
+pub mod AddressLaws

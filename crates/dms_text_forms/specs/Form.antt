@@ -1,11 +1,10 @@
 -- What each word of a line is to be, and the first word that is not (this profile).
 use Rattle.std.specs.Prelude.{ℕ, ◌+◌, ◌==◌, ◌&&◌, ◌||◌, Bool, true, false, if◌then◌else◌, List, []}
 use Rattle.std.specs.Prelude.{◌∷◌, length, nat_le, Option, Some, None, is_some, Result, Ok, Err}
-use Rattle.std.specs.Str.{byte}
 use Rattle.hex.specs.Hex.{decode_of}
 use Rattle.hex.specs.declared.error.FromHexError.{FromHexError}
-use Rattle.dms_text.specs.Words.{parts_of}
-use Rattle.dms_text.specs.Reading.{same_octets, number_of, version_of, octets_of, word_at, decimal_at, is_end, ◌>>=◌}
+use Rattle.dms_text.specs.Reading.{same_octets, number_of, version_of, octets_of, word_at, is_end}
+use Rattle.dms_text_forms.specs.FieldsReading.{address_of}
 use Rattle.dms_text_forms.specs.Vocabulary.{keyword_text}
 use Rattle.dms_text_forms.specs.declared.wanted.Wanted.{Wanted}
 use Rattle.dms_text_forms.specs.declared.wanted.Wanted.TheVariants as wanted
@@ -23,22 +22,9 @@ is_from low high (Some number) = nat_le low number && nat_le number high
 abbrev pub is_number : ℕ → ℕ → ℕ → List ℕ → Bool
 is_number most low high word = is_from low high (number_of 10 most word)
 
--- what stands after four numbers of one to three digits, each at most 255
-unfoldable pub address_at : List (List ℕ) → Option (List (List ℕ))
-address_at parts = do
-  first ← decimal_at 3 0 255 parts
-  second ← decimal_at 3 0 255 first.1
-  third ← decimal_at 3 0 255 second.1
-  fourth ← decimal_at 3 0 255 third.1
-  Some fourth.1
-
-abbrev pub ends : Option (List (List ℕ)) → Bool
-ends None = false
-ends (Some rest) = is_end rest
-
 -- four numbers with dots between them
 abbrev pub is_address : List ℕ → Bool
-is_address word = ends (address_at (parts_of (byte ".") word))
+is_address word = is_some (address_of word)
 
 abbrev pub is_twelve : Result (List ℕ) FromHexError → Bool
 is_twelve (Ok octets) = length octets == 12

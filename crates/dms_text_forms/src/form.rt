@@ -2,10 +2,11 @@
 
 ghost use Rattle.std.specs.Prelude.{◌≡◌, ◌+◌, ◌<◌, ◌≤◌, ◌^◌, [], length, IfSome};
 ghost use Rattle.dms_text.specs.Words.{words_of};
-ghost use Rattle.dms_text_forms.specs.Form.{is_wanted, is_number, is_address, address_at, word_fault};
+ghost use Rattle.dms_text_forms.specs.Form.{is_wanted, is_number, is_address, word_fault};
 ghost use Rattle.dms_text_forms.specs.Form.{fault_from};
 ghost use Rattle.dms_text_forms.specs.LineReading.{number_within};
 
+use crate::addresses::address;
 use crate::digits::{are_octets, is_code};
 use crate::fault::{WordFault, WordFaultKind};
 use crate::wanted::Wanted;
@@ -111,20 +112,5 @@ pub(crate) fn number_within(word: &[u8], most: usize, low: u64, high: u64) -> Op
 fn is_address(word: &[u8]) -> bool
     ensures { result ≡ is_address word.now }
 {
-    match after_address(Words::split(word, b'.')) {
-        Some(rest) => rest.is_empty(),
-        None => false,
-    }
-}
-
-/// What stands after the four numbers of an address.
-#[tactic(auto, unfolding(crate::specs::Form::address_at))]
-fn after_address(parts: Words<'_>) -> Option<Words<'_>>
-    ensures { result ≡ address_at parts.entry }
-{
-    let (_, parts) = parts.octet(3, 0, 255)?;
-    let (_, parts) = parts.octet(3, 0, 255)?;
-    let (_, parts) = parts.octet(3, 0, 255)?;
-    let (_, parts) = parts.octet(3, 0, 255)?;
-    Some(parts)
+    address(word).is_some()
 }

@@ -8,6 +8,7 @@
 //! ```
 #![tactic(auto)]
 
+mod addresses;
 mod digits;
 mod fault;
 pub mod fields;
@@ -16,6 +17,7 @@ mod line_words;
 mod vocabulary;
 mod wanted;
 
+pub use addresses::address;
 pub use fault::{WordFault, WordFaultKind};
 pub use form::word_fault;
 pub use line_words::LineWords;

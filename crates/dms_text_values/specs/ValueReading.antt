@@ -3,9 +3,8 @@
 use Rattle.std.specs.Prelude.{ℕ, ◌==◌, nat_le, if◌then◌else◌, List, [], ◌∷◌, codes, Option, Some, None}
 use Rattle.std.specs.Prelude.{ℤ, pos, neg_ℤ}
 use Rattle.std.specs.Str.{byte}
-use Rattle.dms_text.specs.Words.{parts_of}
 use Rattle.dms_text.specs.Reading.{same_octets, number_of, word_at, keyword_at, decimal_at, ◌>>=◌}
-use Rattle.dms_text_forms.specs.FieldsReading.{if_last, octets_at}
+use Rattle.dms_text_forms.specs.FieldsReading.{octets_at, address_of}
 use Rattle.dms_wire.specs.Message.{ObjectValue, integer, octet_string, null, object_identifier}
 use Rattle.dms_wire.specs.Message.{ip_address, counter, gauge, time_ticks, opaque}
 use Rattle.dms_text_values.specs.NameReading.{name_of}
@@ -39,18 +38,6 @@ integer_at words = do
 
 abbrev pub large_number_at : List (List ℕ) → Option (ℕ × List (List ℕ))
 large_number_at words = decimal_at 10 0 4294967295 words
-
--- four numbers of one to three digits, each at most 255
-unfoldable pub address_at : List (List ℕ) → Option (List ℕ)
-address_at parts = do
-  first ← decimal_at 3 0 255 parts
-  second ← decimal_at 3 0 255 first.1
-  third ← decimal_at 3 0 255 second.1
-  fourth ← decimal_at 3 0 255 third.1
-  if_last (first.0 ∷ second.0 ∷ third.0 ∷ fourth.0 ∷ []) fourth.1
-
-abbrev pub address_of : List ℕ → Option (List ℕ)
-address_of word = address_at (parts_of (byte ".") word)
 
 -- ---- values, each with the words after it
 

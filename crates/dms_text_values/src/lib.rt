@@ -10,14 +10,12 @@
 //! ```
 #![tactic(auto)]
 
-mod addresses;
 mod integers;
 mod names;
 mod printing;
 mod type_word;
 mod values;
 
-pub use addresses::address;
 pub use integers::{integer, integer_of};
 pub use names::{NameRead, name};
 pub use printing::put_value;

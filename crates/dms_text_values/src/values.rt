@@ -8,11 +8,11 @@ ghost use Rattle.dms_text_values.specs.ValueReading.{object_identifier_at, integ
 ghost use Rattle.dms_text_values.specs.ValueReading.{counter_at, gauge_at, time_ticks_at, large_number_at};
 ghost use Rattle.dms_text_values.specs.View.{worded_value, value_and_rest, octets_within, has_octets};
 
-use crate::addresses::address;
 use crate::integers::integer;
 use crate::names::{NameRead, name};
 use crate::type_word::TypeWord;
 use dms_text::{Words, octets};
+use dms_text_forms::address;
 use dms_text_forms::fields::octets_word;
 use dms_wire::Value;
 use std::alloc::{AllocError, Global};

@@ -10,7 +10,7 @@ use Rattle.signtool_calls.specs.declared.call.SignWanted.{SignWanted}
 use Rattle.dms_text_streams.specs.declared.failed.Failed.{Failed}
 use Rattle.dms_replay.specs.Replayed.{IsReport}
 use Rattle.dms_sign.specs.State.{SignState}
-use Rattle.dms_centre_text.specs.CommandReading.{address_of}
+use Rattle.dms_text_forms.specs.FieldsReading.{address_of}
 use Rattle.signtool_print.specs.CodeAnswers.{code_answer, activation_answer}
 use Rattle.signtool_print.specs.DatagramLines.{decode_answer}
 use Rattle.signtool_print.specs.ItemLines.{items_answer}

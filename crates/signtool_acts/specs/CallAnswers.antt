@@ -6,7 +6,7 @@ use Rattle.std.specs.Str.Lines.{lines}
 use Rattle.hex.specs.Hex.{encode_lower, decode_of}
 use Rattle.hex.specs.declared.error.FromHexError.{FromHexError}
 use Rattle.dms_text.specs.Lines.{kept_lines}
-use Rattle.dms_centre_text.specs.CommandReading.{address_of}
+use Rattle.dms_text_forms.specs.FieldsReading.{address_of}
 use Rattle.signtool_calls.specs.declared.call.Call.{Call}
 use Rattle.signtool_calls.specs.declared.call.Call.TheVariants as calls
 use Rattle.signtool_calls.specs.declared.call.SignWanted.{SignWanted}

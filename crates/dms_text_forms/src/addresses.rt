@@ -1,12 +1,12 @@
 //! The address that a word spells.
 
 ghost use Rattle.std.specs.Prelude.{◌≡◌};
-ghost use Rattle.dms_text_values.specs.ValueReading.{address_of, address_at};
+ghost use Rattle.dms_text_forms.specs.FieldsReading.{address_of, address_at};
 
 use dms_text::Words;
 
-/// Four numbers with a dot between two.
-#[tactic(auto, unfolding(crate::specs::ValueReading::address_at))]
+/// Four numbers of one to three decimal digits, each at most 255, with a dot between two.
+#[tactic(auto, unfolding(crate::specs::FieldsReading::address_at))]
 pub fn address(word: &[u8]) -> Option<[u8; 4]>
     ensures { result ≡ address_of word.now }
 {
