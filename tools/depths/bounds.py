@@ -109,7 +109,7 @@ BOUNDS = (
         9,
         "a call for each column of a table, and one after the last",
         "crates/dms_device_fonts/src/reading.rt",
-        r"Table::\w+ => (\d+),",
+        r"FontTable::\w+ => (\d+),",
     ),
     Bound(
         ("dms_device_fonts::next::first_place",),

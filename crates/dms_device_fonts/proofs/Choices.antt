@@ -7,8 +7,8 @@ use Rattle.dms_face_font.specs.Font.{FontModel}
 use Rattle.dms_device_fonts.specs.Tree.{first_from, or_first, below}
 use Rattle.dms_device_fonts.specs.Fonts.{font_at}
 use Rattle.dms_device_fonts.specs.View.{cell_binding, place_binding, placed}
-use Rattle.dms_device_fonts.specs.declared.place.Cell.{Cell}
-use Rattle.dms_device_fonts.specs.declared.place.Place.{Place}
+use Rattle.dms_device_fonts.specs.declared.place.FontCell.{FontCell}
+use Rattle.dms_device_fonts.specs.declared.place.FontPlace.{FontPlace}
 
 pub or_some : (o more : Option VarBind) (n : ℕ) (b : VarBind) → o ≡ Some b → Some (below n b) ≡ or_first (option_map (below n) o) more
 or_some o more n b e = sym (ap (λ o. or_first (option_map (below n) o) more) e)
@@ -26,11 +26,11 @@ pub step_at : (first : ℕ → Option VarBind) (n end : ℕ) → n < end
     → first_from first n (end - n) ≡ or_first (option_map (below n) (first n)) (first_from first (n + 1) (end - (n + 1)))
 step_at first n end low = ap (first_from first n) (let left : end - n ≡ suc (end - (n + 1)) = omega arith in left)
 
-pub cells_below : (o : Option Cell) → option_map (λ cell. below 1 (cell_binding cell)) o ≡ option_map (below 1) (option_map cell_binding o)
+pub cells_below : (o : Option FontCell) → option_map (λ cell. below 1 (cell_binding cell)) o ≡ option_map (below 1) (option_map cell_binding o)
 cells_below None = refl
 cells_below (Some cell) = refl
 
-pub places_below : (node : List ℕ) (fonts : List FontModel) (o : Option Place)
+pub places_below : (node : List ℕ) (fonts : List FontModel) (o : Option FontPlace)
     → option_map (λ place. placed node (place_binding fonts place)) o ≡ option_map (placed node) (option_map (place_binding fonts) o)
 places_below node fonts None = refl
 places_below node fonts (Some place) = refl

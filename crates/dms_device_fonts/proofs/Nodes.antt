@@ -4,8 +4,8 @@ use Rattle.std.specs.Prelude.{option_map}
 use Rattle.dms_wire.specs.Message.{ObjectValue, VarBind}
 use Rattle.dms_device_fonts.specs.Tree.{Tree, Span, tree_value, tree_first, tree_after, first_from, or_first, below, under}
 use Rattle.dms_device_fonts.specs.View.{placed, side_after}
-use Rattle.dms_device_fonts.specs.declared.steps.Side.{Side}
-use Rattle.dms_device_fonts.specs.declared.steps.Side.TheVariants.{Before, Under, After}
+use Rattle.dms_device_fonts.specs.declared.steps.NodeSide.{NodeSide}
+use Rattle.dms_device_fonts.specs.declared.steps.NodeSide.TheVariants.{Before, Under, After}
 use Rattle.dms_device_fonts.proofs.Spans.{none_left}
 
 pub only_one : (o : Option VarBind) → or_first o None ≡ o
@@ -39,12 +39,12 @@ pub alike_after : (node others numbers : List ℕ) (first : ℕ) (tree : Tree) (
     → tree_after (Span first 1 (λ _. under others tree)) numbers ≡ o → tree_after (under node tree) numbers ≡ o
 alike_after node others numbers first tree o is e = subst (λ ns. tree_after (under ns tree) numbers ≡ o) (sym is) e
 
-side_below : (n : ℕ) (node : List ℕ) (tree : Tree) (side : Side) → option_map (below n) (side_after node tree side) ≡ side_after (n ∷ node) tree side
+side_below : (n : ℕ) (node : List ℕ) (tree : Tree) (side : NodeSide) → option_map (below n) (side_after node tree side) ≡ side_after (n ∷ node) tree side
 side_below n node tree Before = placed_below n node (tree_first tree)
 side_below n node tree (Under numbers) = placed_below n node (tree_after tree numbers)
 side_below n node tree After = refl
 
-pub inside_after : (node others numbers rest : List ℕ) (first number : ℕ) (tree : Tree) (side : Side) → node ≡ first ∷ others → first ≤ number → number < first + 1
+pub inside_after : (node others numbers rest : List ℕ) (first number : ℕ) (tree : Tree) (side : NodeSide) → node ≡ first ∷ others → first ≤ number → number < first + 1
     → tree_after (Span first 1 (λ _. under others tree)) numbers
     ≡ or_first (option_map (below number) (tree_after (under others tree) rest)) (first_from (λ _. tree_first (under others tree)) (number + 1) (first + 1 - (number + 1)))
     → tree_after (under others tree) rest ≡ side_after others tree side → tree_after (under node tree) numbers ≡ side_after node tree side

@@ -4,13 +4,13 @@ use Rattle.dms_wire.specs.Message.{ObjectValue}
 use Rattle.dms_face_font.specs.Font.{FontModel}
 use Rattle.dms_device_fonts.specs.Tree.{Leaf, tree_value}
 use Rattle.dms_device_fonts.specs.Fonts.{font_at, font_row, column_cells, font_object, scalar, scalar_value}
-use Rattle.dms_device_fonts.specs.declared.place.Table.{Table}
+use Rattle.dms_device_fonts.specs.declared.place.FontTable.{FontTable}
 
 pub leaf_none : (o : Option ObjectValue) (numbers : List ℕ) → o ≡ None → tree_value (Leaf o) numbers ≡ None
 leaf_none o [] e = e
 leaf_none o (n ∷ numbers) e = refl
 
-pub row_reads : (table : Table) (fonts : List FontModel) (column index : ℕ) (font : FontModel) (numbers rest : List ℕ) (o : Option ObjectValue) → font_at fonts index ≡ Some font
+pub row_reads : (table : FontTable) (fonts : List FontModel) (column index : ℕ) (font : FontModel) (numbers rest : List ℕ) (o : Option ObjectValue) → font_at fonts index ≡ Some font
     → tree_value (column_cells table fonts column) numbers ≡ tree_value (font_row table column index (font_at fonts index)) rest
     → o ≡ tree_value (font_row table column index (Some font)) rest → o ≡ tree_value (column_cells table fonts column) numbers
 row_reads table fonts column index font numbers rest o at reads is =

@@ -7,8 +7,8 @@ use Rattle.dms_face_font.specs.Glyph.{GlyphModel, bitmap_octets}
 use Rattle.dms_face_font.specs.Font.{FontModel, glyph_of}
 use Rattle.dms_face.specs.Face.{FaceModel}
 use Rattle.dms_device_fonts.specs.Tree.{Tree, Leaf, Span, under, tree_value, tree_after}
-use Rattle.dms_device_fonts.specs.declared.place.Table.{Table}
-use Rattle.dms_device_fonts.specs.declared.place.Table.TheVariants.{Fonts, Characters}
+use Rattle.dms_device_fonts.specs.declared.place.FontTable.{FontTable}
+use Rattle.dms_device_fonts.specs.declared.place.FontTable.TheVariants.{Fonts, Characters}
 
 abbrev pub number : ℕ → ObjectValue
 number n = integer (pos n)
@@ -42,20 +42,20 @@ character_leaf font column n = Leaf (option_map (λ (g : GlyphModel). character_
 
 -- what a font has in a column: fontTable has a row for each font, and characterTable one for each of its characters, by
 -- the character's number
-abbrev pub font_row : Table → (column index : ℕ) → Option FontModel → Tree
+abbrev pub font_row : FontTable → (column index : ℕ) → Option FontModel → Tree
 font_row Fonts column index font = Leaf (option_map (λ (f : FontModel). font_cell index f column) font)
 font_row Characters column index None = Leaf None
 font_row Characters column index (Some font) = Span 1 65535 (character_leaf font column)
 
-abbrev pub column_count : Table → ℕ
+abbrev pub column_count : FontTable → ℕ
 column_count Fonts = 8
 column_count Characters = 3
 
-abbrev pub column_cells : Table → List FontModel → ℕ → Tree
+abbrev pub column_cells : FontTable → List FontModel → ℕ → Tree
 column_cells table fonts column = Span 1 (length fonts) (λ index. font_row table column index (font_at fonts index))
 
 -- a table has an entry, 1
-abbrev pub table_cells : Table → List FontModel → Tree
+abbrev pub table_cells : FontTable → List FontModel → Tree
 table_cells table fonts = Span 1 1 (λ _. Span 1 (column_count table) (column_cells table fonts))
 
 -- an object has the instance 0
@@ -67,10 +67,10 @@ abbrev pub scalar_value : List FontModel → ℕ → ObjectValue
 scalar_value fonts n = if n == 1 then number (length fonts) else if n == 3 then number 255 else number 128
 
 -- numFonts 1, fontTable 2, maxFontCharacters 3, characterTable 4, fontMaxCharacterSize 5
-abbrev pub table_at : ℕ → Option Table
+abbrev pub table_at : ℕ → Option FontTable
 table_at n = if n == 2 then Some Fonts else if n == 4 then Some Characters else None
 
-abbrev pub object_of : List FontModel → ℕ → Option Table → Tree
+abbrev pub object_of : List FontModel → ℕ → Option FontTable → Tree
 object_of fonts n (Some table) = table_cells table fonts
 object_of fonts n None = scalar (scalar_value fonts n)
 

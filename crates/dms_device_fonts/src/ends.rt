@@ -6,32 +6,36 @@ ghost use Rattle.std.specs.Option.{option_copied};
 ghost use Rattle.dms_device_fonts.specs.Tree.{tree_first, tree_after, first_from};
 ghost use Rattle.dms_device_fonts.specs.Fonts.{font_row, character_leaf};
 ghost use Rattle.dms_device_fonts.specs.View.{end_binding, character_binding, lowest};
-ghost use Rattle.dms_device_fonts.specs.declared.place.Table.TheVariants.{Characters};
+ghost use Rattle.dms_device_fonts.specs.declared.place.FontTable.TheVariants.{Characters};
 
-use crate::place::{End, Table};
-use crate::steps::{Turn, place_in};
+use crate::place::{End, FontTable};
+use crate::steps::{SpanPlace, place_in};
 use dms_face_font::{Font, Glyph};
 use dms_wire_ber::Numbers;
 
 /// The first row of a font.
-pub(crate) fn first_end<'a>(table: Table, font: &'a Font) -> Option<End<'a>>
+pub(crate) fn first_end<'a>(table: FontTable, font: &'a Font) -> Option<End<'a>>
     ensures { (column index : ℕ) → option_map (end_binding column index font.now) result
         ≡ tree_first (font_row table column index (Some font.now)) }
 {
     match table {
-        Table::Fonts => Some(End::OfFont),
-        Table::Characters => as_end(least_glyph(font, 1)),
+        FontTable::Fonts => Some(End::OfFont),
+        FontTable::Characters => as_end(least_glyph(font, 1)),
     }
 }
 
 /// The first row of a font after some numbers below its index.
-pub(crate) fn end_after<'a>(table: Table, font: &'a Font, numbers: Numbers<'_>) -> Option<End<'a>>
+pub(crate) fn end_after<'a>(
+    table: FontTable,
+    font: &'a Font,
+    numbers: Numbers<'_>,
+) -> Option<End<'a>>
     ensures { (column index : ℕ) → option_map (end_binding column index font.now) result
         ≡ tree_after (font_row table column index (Some font.now)) numbers.entry }
 {
     match table {
-        Table::Fonts => None,
-        Table::Characters => as_end(glyph_after(font, numbers)),
+        FontTable::Fonts => None,
+        FontTable::Characters => as_end(glyph_after(font, numbers)),
     }
 }
 
@@ -51,9 +55,9 @@ fn glyph_after<'a>(font: &'a Font, numbers: Numbers<'_>) -> Option<&'a Glyph>
         ≡ tree_after (font_row Characters column index (Some font.now)) numbers.entry }
 {
     match place_in(numbers, 1, 65535) {
-        Turn::First => least_glyph(font, 1),
-        Turn::Inside(below) => least_glyph(font, below.number + 1),
-        Turn::Past => None,
+        SpanPlace::First => least_glyph(font, 1),
+        SpanPlace::Inside(below) => least_glyph(font, below.number + 1),
+        SpanPlace::Past => None,
     }
 }
 

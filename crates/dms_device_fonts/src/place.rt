@@ -3,7 +3,7 @@
 use dms_face_font::{Font, Glyph};
 /// A table of the fonts' objects.
 #[derive(Clone, Copy, Debug, PartialEq, Eq)]
-pub(crate) enum Table {
+pub(crate) enum FontTable {
     /// fontTable: a row for each font.
     Fonts,
     /// characterTable: a row for each character of each font.
@@ -19,7 +19,7 @@ pub(crate) enum End<'a> {
 
 /// A row of a table: of the font with this index, from 1.
 #[derive(Clone, Copy)]
-pub(crate) struct Row<'a> {
+pub(crate) struct FontRow<'a> {
     pub index: usize,
     pub font: &'a Font,
     pub end: End<'a>,
@@ -27,16 +27,16 @@ pub(crate) struct Row<'a> {
 
 /// A cell of a table: a column and a row.
 #[derive(Clone, Copy)]
-pub(crate) struct Cell<'a> {
+pub(crate) struct FontCell<'a> {
     pub column: usize,
-    pub row: Row<'a>,
+    pub row: FontRow<'a>,
 }
 
 /// Where an instance stands.
 #[derive(Clone, Copy)]
-pub(crate) enum Place<'a> {
+pub(crate) enum FontPlace<'a> {
     /// The only instance of an object.
     OfScalar(usize),
     /// A cell of the table with this number.
-    OfCell(usize, Cell<'a>),
+    OfCell(usize, FontCell<'a>),
 }

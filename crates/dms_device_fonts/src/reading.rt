@@ -6,10 +6,10 @@ ghost use Rattle.dms_device_fonts.specs.Tree.{tree_value, under};
 ghost use Rattle.dms_device_fonts.specs.Fonts.{fonts_node, font_objects, table_cells, column_cells, font_row};
 ghost use Rattle.dms_device_fonts.specs.Fonts.{column_count};
 ghost use Rattle.dms_device_fonts.specs.Fonts.{scalar, scalar_value, table_at, font_cell, character_cell};
-ghost use Rattle.dms_device_fonts.specs.declared.place.Table.TheVariants.{Fonts, Characters};
+ghost use Rattle.dms_device_fonts.specs.declared.place.FontTable.TheVariants.{Fonts, Characters};
 
-use crate::place::Table;
-use crate::steps::{NODE, Side, is_over, place_under, step};
+use crate::place::FontTable;
+use crate::steps::{NODE, NodeSide, is_over, place_under, step};
 use dms_face_font::{Font, Glyph};
 use dms_wire::{Oid, Value};
 use dms_wire_ber::Numbers;
@@ -19,9 +19,9 @@ pub(crate) fn read_name<'a>(fonts: &'a [Font], name: &Oid<'_>) -> Option<Value<'
     ensures { option_map object_value result ≡ tree_value (under fonts_node (font_objects fonts.now)) name.now }
 {
     match place_under(name.numbers(), &NODE) {
-        Side::Before => None,
-        Side::Under(rest) => read(fonts, rest),
-        Side::After => None,
+        NodeSide::Before => None,
+        NodeSide::Under(rest) => read(fonts, rest),
+        NodeSide::After => None,
     }
 }
 
@@ -37,12 +37,12 @@ fn read<'a>(fonts: &'a [Font], numbers: Numbers<'_>) -> Option<Value<'a>>
 }
 
 /// The table of this number.
-pub(crate) fn table_at(number: usize) -> Option<Table>
+pub(crate) fn table_at(number: usize) -> Option<FontTable>
     ensures { result ≡ table_at number }
 {
     match number {
-        2 => Some(Table::Fonts),
-        4 => Some(Table::Characters),
+        2 => Some(FontTable::Fonts),
+        4 => Some(FontTable::Characters),
         _ => None,
     }
 }
@@ -69,7 +69,7 @@ pub(crate) fn scalar_value<'a>(fonts: &[Font], number: usize) -> Value<'a>
     }
 }
 
-fn read_table<'a>(table: Table, fonts: &'a [Font], numbers: Numbers<'_>) -> Option<Value<'a>>
+fn read_table<'a>(table: FontTable, fonts: &'a [Font], numbers: Numbers<'_>) -> Option<Value<'a>>
     ensures { option_map object_value result ≡ tree_value (table_cells table fonts.now) numbers.entry }
 {
     let entry = step(numbers, 1, 1)?;
@@ -78,18 +78,18 @@ fn read_table<'a>(table: Table, fonts: &'a [Font], numbers: Numbers<'_>) -> Opti
 }
 
 /// How many columns a table has.
-pub(crate) fn column_count(table: Table) -> usize
+pub(crate) fn column_count(table: FontTable) -> usize
     ensures value { result ≡ column_count table }
     ensures few { result ≤ 8 }
 {
     match table {
-        Table::Fonts => 8,
-        Table::Characters => 3,
+        FontTable::Fonts => 8,
+        FontTable::Characters => 3,
     }
 }
 
 fn read_column<'a>(
-    table: Table,
+    table: FontTable,
     fonts: &'a [Font],
     column: usize,
     numbers: Numbers<'_>,
@@ -99,8 +99,8 @@ fn read_column<'a>(
     let row = step(numbers, 1, fonts.len())?;
     let font = &fonts[row.number - 1];
     match table {
-        Table::Fonts => read_font(font, row.number, column, row.rest),
-        Table::Characters => read_character(font, column, row.rest),
+        FontTable::Fonts => read_font(font, row.number, column, row.rest),
+        FontTable::Characters => read_character(font, column, row.rest),
     }
 }
 

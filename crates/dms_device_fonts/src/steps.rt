@@ -19,7 +19,7 @@ pub(crate) struct Below<'a> {
 
 /// Where some numbers are, whose first may be one of a span.
 #[derive(Drop)]
-pub(crate) enum Turn<'a> {
+pub(crate) enum SpanPlace<'a> {
     /// Before all that stands in the span: there are no numbers, or the first one is too small.
     First,
     /// At a number of the span.
@@ -29,23 +29,23 @@ pub(crate) enum Turn<'a> {
 }
 
 /// Where these numbers are in a span of so many, from `least` on.
-pub(crate) fn place_in<'a>(numbers: Numbers<'a>, least: usize, count: usize) -> Turn<'a>
+pub(crate) fn place_in<'a>(numbers: Numbers<'a>, least: usize, count: usize) -> SpanPlace<'a>
     ensures value { (at : ℕ → Tree) → tree_value (Span least count at) numbers.entry ≡ read_by at result }
     ensures after { (at : ℕ → Tree) → tree_after (Span least count at) numbers.entry ≡ turned least count at result }
     ensures inside { IsInside least count result }
 {
     let mut rest = numbers;
     let Some(number) = rest.next() else {
-        return Turn::First;
+        return SpanPlace::First;
     };
     let number = number as usize;
     if number < least {
-        return Turn::First;
+        return SpanPlace::First;
     }
     if number - least < count {
-        Turn::Inside(Below { number, rest })
+        SpanPlace::Inside(Below { number, rest })
     } else {
-        Turn::Past
+        SpanPlace::Past
     }
 }
 
@@ -56,9 +56,9 @@ pub(crate) fn step<'a>(numbers: Numbers<'a>, least: usize, count: usize) -> Opti
     ensures high { IfSome result (λ below. below.number < least + count) }
 {
     match place_in(numbers, least, count) {
-        Turn::First => None,
-        Turn::Inside(below) => Some(below),
-        Turn::Past => None,
+        SpanPlace::First => None,
+        SpanPlace::Inside(below) => Some(below),
+        SpanPlace::Past => None,
     }
 }
 
@@ -75,7 +75,7 @@ pub(crate) fn is_over(numbers: Numbers<'_>) -> bool
 
 /// Where a name is, seen from what stands below another one.
 #[derive(Drop)]
-pub(crate) enum Side<'a> {
+pub(crate) enum NodeSide<'a> {
     Before,
     /// Below it: these numbers are left.
     Under(Numbers<'a>),
@@ -83,16 +83,16 @@ pub(crate) enum Side<'a> {
 }
 
 /// Where these numbers are, seen from what stands below others.
-pub(crate) fn place_under<'a>(numbers: Numbers<'a>, node: &[u32]) -> Side<'a>
+pub(crate) fn place_under<'a>(numbers: Numbers<'a>, node: &[u32]) -> NodeSide<'a>
     ensures value { (tree : Tree) → tree_value (under node.now tree) numbers.entry ≡ side_value tree result }
     ensures after { (tree : Tree) → tree_after (under node.now tree) numbers.entry ≡ side_after node.now tree result }
 {
     let Some((first, others)) = node.split_first() else {
-        return Side::Under(numbers);
+        return NodeSide::Under(numbers);
     };
     match place_in(numbers, *first as usize, 1) {
-        Turn::First => Side::Before,
-        Turn::Inside(below) => place_under(below.rest, others),
-        Turn::Past => Side::After,
+        SpanPlace::First => NodeSide::Before,
+        SpanPlace::Inside(below) => place_under(below.rest, others),
+        SpanPlace::Past => NodeSide::After,
     }
 }

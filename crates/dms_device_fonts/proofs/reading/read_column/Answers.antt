@@ -4,7 +4,7 @@ use Rattle.std.proofs.lemmas.Option.{slice_get_read}
 use Rattle.dms_wire.specs.View.{object_value}
 use Rattle.dms_device_fonts.specs.Tree.{tree_value}
 use Rattle.dms_device_fonts.specs.Fonts.{font_row, font_at, column_cells}
-use Rattle.dms_device_fonts.specs.declared.place.Table.TheVariants.{Fonts, Characters}
+use Rattle.dms_device_fonts.specs.declared.place.FontTable.TheVariants.{Fonts, Characters}
 use Rattle.dms_device_fonts.proofs.ValueLaws.{row_reads}
 use Rattle.dms_device_fonts.proofs.reading.read_column.Goals as goal
 
