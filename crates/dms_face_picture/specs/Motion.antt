@@ -7,7 +7,7 @@ use Rattle.dms_multi.specs.declared.item.Lead.{Lead}
 use Rattle.dms_multi.specs.declared.item.Lead.TheVariants.{Lit, Dark}
 use Rattle.dms_face.specs.declared.cell.Flash.{Flash}
 use Rattle.dms_face_pages.specs.Drawn.{DrawnPage}
-use Rattle.dms_face_picture.specs.declared.motion.Turn.{Turn}
+use Rattle.dms_face_picture.specs.declared.motion.PageTurn.{PageTurn}
 use Rattle.dms_face_picture.specs.declared.motion.Motion.{Motion}
 use Rattle.dms_face_picture.specs.declared.motion.Motion.TheVariants.{Still, Stays, Turns}
 use Rattle.dms_face_picture.specs.declared.motion.Rhythm.{Rhythm}
@@ -16,7 +16,7 @@ use Rattle.dms_face_picture.specs.declared.motion.Rhythm.TheVariants.{Shown, Fla
 -- ---- when something is lit
 
 -- a page is shown from its turn's beginning on, for its time
-abbrev pub is_shown : Turn → ℕ → Bool
+abbrev pub is_shown : PageTurn → ℕ → Bool
 is_shown turn tenth = nat_le turn.start tenth && nat_lt tenth (turn.start + turn.on)
 
 abbrev pub period : Flash → ℕ

@@ -13,7 +13,7 @@ use std::io;
 
 /// When a page of a message is shown, in tenths of a second.
 #[derive(Clone, Copy, Debug)]
-pub(crate) struct Turn {
+pub(crate) struct PageTurn {
     /// When it is first shown, from the round's beginning.
     pub start: u32,
     /// For how long.
@@ -30,19 +30,19 @@ pub(crate) enum Motion {
     /// The page stays; what flashes flashes.
     Stays,
     /// The page takes turns with others.
-    Turns(Turn),
+    Turns(PageTurn),
 }
 
 /// When something is to be seen.
 #[derive(Clone, Copy, Debug)]
 pub(crate) enum Rhythm {
     /// While a page is shown.
-    Shown(Turn),
+    Shown(PageTurn),
     /// While a flash is lit that begins where its page is first shown, after so many tenths.
     Flashing(Flash, u32),
 }
 
-impl Turn {
+impl PageTurn {
     ghost use Rattle.std.specs.Prelude.{◌≡◌};
     ghost use Rattle.dms_face_picture.specs.Motion.{is_shown};
 
@@ -65,7 +65,7 @@ impl Motion {
         if round == 0 || (count == 1 && page.off() == 0) {
             return Motion::Stays;
         }
-        Motion::Turns(Turn {
+        Motion::Turns(PageTurn {
             start,
             on: page.on(),
             round,

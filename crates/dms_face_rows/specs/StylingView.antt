@@ -1,8 +1,8 @@
 -- What the code keeps of a text's items, as the definitions have it (this profile).
-use Rattle.dms_face_rows.specs.declared.styling.Styling.{Styling}
+use Rattle.dms_face_rows.specs.declared.styling.RowStyling.{RowStyling}
 use Rattle.dms_face.specs.Layout.{Style}
 
-abbrev pub style_of : Styling → Style
+abbrev pub style_of : RowStyling → Style
 style_of s = record {
   font = s.font.now;
   foreground = s.foreground;

@@ -5,7 +5,7 @@ ghost use Rattle.std.specs.Option.{option_copied};
 ghost use Rattle.dms_face_rows.specs.StylingView.{style_of};
 ghost use Rattle.dms_face_rows.specs.NoGlyph.{no_glyph};
 
-use crate::styling::Styling;
+use crate::styling::RowStyling;
 use dms_face::Glyph;
 use std::default::MadeWith;
 use std::marker::Model;
@@ -13,7 +13,7 @@ use std::marker::Model;
 /// A character by its number, and what holds for it.
 #[derive(Drop)]
 pub(crate) struct HeldCharacter<'a> {
-    pub style: Styling<'a>,
+    pub style: RowStyling<'a>,
     pub character: u16,
 }
 
@@ -32,8 +32,8 @@ impl<'a> Model for HeldCharacter<'a> {
     } };
 }
 
-impl<'a> MadeWith<Styling<'a>> for HeldCharacter<'a> {
-    fn made_with(style: Styling<'a>) -> HeldCharacter<'a> {
+impl<'a> MadeWith<RowStyling<'a>> for HeldCharacter<'a> {
+    fn made_with(style: RowStyling<'a>) -> HeldCharacter<'a> {
         HeldCharacter {
             style,
             character: 0,

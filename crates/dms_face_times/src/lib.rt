@@ -17,4 +17,4 @@ mod turns;
 pub use changing::due;
 pub use flashes::{flashes_due, sooner};
 pub use times::{PageTimes, page_times};
-pub use turns::{Turn, turn_at};
+pub use turns::{PageUp, turn_at};

@@ -7,7 +7,7 @@ use crate::times::PageTimes;
 
 /// What is up: a page, or none in the time after one.
 #[derive(Clone, Copy, Debug, PartialEq, Eq)]
-pub struct Turn {
+pub struct PageUp {
     /// The page's number, from 0.
     pub page: Option<usize>,
     /// Since how many tenths of a second.
@@ -49,12 +49,12 @@ fn stay(pages: &[PageTimes]) -> bool
 }
 
 /// Of pages that take turns from this number on, the one that is up.
-fn turn_from(number: usize, tenth: u64, pages: &[PageTimes]) -> Turn
+fn turn_from(number: usize, tenth: u64, pages: &[PageTimes]) -> PageUp
     requires { number + length pages.now ≤ 6 }
     ensures { result ≡ turn_from number tenth pages.now }
 {
     match pages {
-        [] => Turn {
+        [] => PageUp {
             page: None,
             since: tenth,
             left: None,
@@ -63,13 +63,13 @@ fn turn_from(number: usize, tenth: u64, pages: &[PageTimes]) -> Turn
             let on = u64::from(page.on);
             let span = span(*page);
             if tenth < on {
-                Turn {
+                PageUp {
                     page: Some(number),
                     since: tenth,
                     left: Some(on - tenth),
                 }
             } else if tenth < span {
-                Turn {
+                PageUp {
                     page: None,
                     since: tenth,
                     left: Some(span - tenth),
@@ -82,13 +82,13 @@ fn turn_from(number: usize, tenth: u64, pages: &[PageTimes]) -> Turn
 }
 
 /// What is up of one to six pages when the picture has been up for so many tenths of a second.
-pub fn turn_at(pages: &[PageTimes], tenth: u64) -> Turn
+pub fn turn_at(pages: &[PageTimes], tenth: u64) -> PageUp
     requires some { 1 ≤ length pages.now }
     requires few { length pages.now ≤ 6 }
     ensures { result ≡ turn_at pages.now tenth }
 {
     if stay(pages) {
-        return Turn {
+        return PageUp {
             page: Some(pages.len() - 1),
             since: tenth,
             left: None,
