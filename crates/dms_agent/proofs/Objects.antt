@@ -9,7 +9,7 @@ use Rattle.dms_mib_replies.specs.Replies.{reply_with, get_reply, get_next_reply}
 use Rattle.dms_sign.specs.Requests.{may_write}
 use Rattle.dms_sign.specs.Reply as sign
 use Rattle.dms_sign.specs.ReplyView.{is_addressed}
-use Rattle.dms_device.specs.declared.fault.Refusal.{Refusal}
+use Rattle.dms_device.specs.declared.fault.BindingFault.{BindingFault}
 use Rattle.dms_device.specs.Setting.{are_all_named, refusal_of, written}
 use Rattle.dms_agent.specs.declared.agent.Agent.{Agent}
 use Rattle.dms_agent.specs.Values.{agent_value, agent_after}
@@ -17,13 +17,13 @@ use Rattle.dms_agent.specs.Received.{AgentReceived, dropped, of_sign, read, devi
 use Rattle.dms_agent.specs.Promises.{is_set, is_done, objects_after}
 
 -- what is answered, by the kind, by whether all names are the device's, and by its refusal
-abbrev answered_by : Agent → SnmpMessage → Kind → Bool → Option Refusal → AgentReceived
+abbrev answered_by : Agent → SnmpMessage → Kind → Bool → Option BindingFault → AgentReceived
 answered_by a m Get named refusal = read a (get_reply (agent_value a) m)
 answered_by a m GetNext named refusal = read a (get_next_reply (agent_after a) m)
 answered_by a m Response named refusal = dropped a
 answered_by a m Set named refusal = cond named (device_set a m refusal) (of_sign a (sign.heard a.sign m))
 
-device_by : (a : Agent) (m : SnmpMessage) (addressed : Bool) (kind : Kind) (named : Bool) (refusal : Option Refusal)
+device_by : (a : Agent) (m : SnmpMessage) (addressed : Bool) (kind : Kind) (named : Bool) (refusal : Option BindingFault)
     → (cond addressed (answered_by a m kind named refusal) (dropped a)).after.device
     ≡ cond (addressed && is_set kind && named && is_none refusal) (written a.device m.bindings) a.device
 device_by a m false kind named refusal = refl
@@ -34,7 +34,7 @@ device_by a m true Set false refusal = refl
 device_by a m true Set true None = refl
 device_by a m true Set true (Some refusal) = refl
 
-reply_by : (a : Agent) (m : SnmpMessage) (addressed : Bool) (kind : Kind) (named : Bool) (refusal : Option Refusal)
+reply_by : (a : Agent) (m : SnmpMessage) (addressed : Bool) (kind : Kind) (named : Bool) (refusal : Option BindingFault)
     → (addressed && is_set kind && named && is_none refusal) ≡ true
     → (cond addressed (answered_by a m kind named refusal) (dropped a)).reply ≡ Some (reply_with m 0 0 m.bindings)
 reply_by a m addressed kind named refusal e = grind arith

@@ -16,7 +16,7 @@ use Rattle.dms_mib_replies.proofs.Fitting.{error_fits, sent_whole}
 use Rattle.dms_sign.specs.Requests.{Answer, may_write}
 use Rattle.dms_sign.specs.Reply as sign
 use Rattle.dms_sign.specs.ReplyView.{is_addressed}
-use Rattle.dms_device.specs.declared.fault.Refusal.{Refusal}
+use Rattle.dms_device.specs.declared.fault.BindingFault.{BindingFault}
 use Rattle.dms_device.specs.Setting.{are_all_named, refusal_of}
 use Rattle.dms_agent.specs.declared.agent.Agent.{Agent}
 use Rattle.dms_agent.specs.Values.{agent_value, agent_after}
@@ -52,7 +52,7 @@ sign_small : (m : SnmpMessage) (x : Answer) → IsRead m → IsSmall (sign.reply
 unfolding sign.reply_to
 sign_small m x is = small m _ is
 
-set_small : (m : SnmpMessage) (o : Option Refusal) → IsRead m → IsSmall (set_reply m o)
+set_small : (m : SnmpMessage) (o : Option BindingFault) → IsRead m → IsSmall (set_reply m o)
 set_small m None is = small m _ is
 set_small m (Some refusal) is = small m _ is
 
@@ -61,7 +61,7 @@ set_small m (Some refusal) is = small m _ is
 abbrev Fits : AgentReceived → Type 0
 Fits x = IfSome x.reply IsSmall
 
-set_fits : (a : Agent) (m : SnmpMessage) (named : Bool) (refusal : Option Refusal) → IsRead m
+set_fits : (a : Agent) (m : SnmpMessage) (named : Bool) (refusal : Option BindingFault) → IsRead m
     → Fits (cond named (device_set a m refusal) (of_sign a (sign.heard a.sign m)))
 set_fits a m true refusal is = set_small m refusal is
 set_fits a m false refusal is = sign_small m _ is

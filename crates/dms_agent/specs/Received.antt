@@ -11,7 +11,7 @@ use Rattle.dms_codes.specs.declared.codes.Activation.{Activation}
 use Rattle.dms_sign.specs.Requests.{may_write}
 use Rattle.dms_sign.specs.Reply as sign
 use Rattle.dms_sign.specs.ReplyView.{is_addressed}
-use Rattle.dms_device.specs.declared.fault.Refusal.{Refusal}
+use Rattle.dms_device.specs.declared.fault.BindingFault.{BindingFault}
 use Rattle.dms_device.specs.Setting.{are_all_named, refusal_of, written_unless}
 use Rattle.dms_agent.specs.declared.agent.Agent.{Agent}
 use Rattle.dms_agent.specs.Values.{agent_value, agent_after}
@@ -37,12 +37,12 @@ read a octets = record { reply = Some octets; after = record a { sign = sign.aft
 -- ---- a Set
 
 -- it repeats the bindings, without an error or with that for which the Set is refused
-abbrev pub set_reply : SnmpMessage → Option Refusal → List ℕ
+abbrev pub set_reply : SnmpMessage → Option BindingFault → List ℕ
 set_reply m None = reply_with m 0 0 m.bindings
 set_reply m (Some refusal) = reply_with m (error_status_number refusal.status) refusal.index m.bindings
 
 -- A Set of the device's is judged and assigned at once; the sign's silence is over.
-abbrev pub device_set : Agent → SnmpMessage → Option Refusal → AgentReceived
+abbrev pub device_set : Agent → SnmpMessage → Option BindingFault → AgentReceived
 device_set a m refusal = record {
   reply = Some (set_reply m refusal);
   after = record a { sign = sign.after_get a.sign; device = written_unless a.device m.bindings refusal };

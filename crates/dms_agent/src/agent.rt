@@ -14,7 +14,7 @@ ghost use Rattle.dms_device.specs.Setting.{written};
 ghost use Rattle.dms_agent.specs.declared.agent.PublishFault.TheVariants.{OfTheSign, OutOfMemory};
 ghost use Rattle.dms_device.specs.Taken.{told, told_first};
 
-use dms_device::{Device, Object};
+use dms_device::{Device, PublishedObject};
 use dms_device_fonts::fonts_value;
 use dms_mib_replies::Objects;
 use dms_sign::Sign;
@@ -110,7 +110,7 @@ impl Agent {
     /// Publishes an object, in place of the one that has its name, unless the sign has an object of that name, or its
     /// fonts have one that can be read. Where it is refused, or there is no memory for it, nothing changes. It runs out
     /// of memory only for a new name.
-    pub fn publish(&mut self, object: Object) -> Result<(), PublishFault>
+    pub fn publish(&mut self, object: PublishedObject) -> Result<(), PublishFault>
         ensures done { OnOk result (self.new ≡ record self.old { device = published self.old.device object }) }
         ensures beside { OnOk result (own_value self.old object.name ≡ None) }
         ensures kept { OnErr result (self.new ≡ self.old) }
@@ -136,7 +136,7 @@ impl Agent {
     }
 
     /// Puts values back that a manager set before, as `Device::put_back` does.
-    pub fn put_back(&mut self, values: &[Object])
+    pub fn put_back(&mut self, values: &[PublishedObject])
         ensures { self.new ≡ record self.old { device = written self.old.device (map binding_of values.now) } }
     {
         self.device.put_back(values);

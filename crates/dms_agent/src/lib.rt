@@ -4,7 +4,7 @@
 //!
 //! ```
 //! let mut agent = Agent::new(alloc, sign);
-//! agent.publish(Object::new(alloc, name.content(), &Value::Integer(7), Access::ReadOnly)?)?;
+//! agent.publish(PublishedObject::new(alloc, name.content(), &Value::Integer(7), ManagerAccess::ReadOnly)?)?;
 //! let mut reply = Out::new();
 //! assert!(rt; agent.receive(datagram, &mut reply) == Receipt::Replied);
 //! ```

@@ -10,7 +10,7 @@ ghost use Rattle.dms_agent.specs.Received.{set_reply, agent_set};
 ghost use Rattle.dms_agent.specs.Received.{agent_answered, agent_received};
 
 use crate::agent::Agent;
-use dms_device::Refusal;
+use dms_device::BindingFault;
 use dms_mib_replies::{answer_get, answer_next, repeat};
 use dms_sign::Receipt;
 use dms_wire::{ErrorStatus, Kind, Message, Out, heard};
@@ -82,7 +82,7 @@ impl Agent {
 }
 
 /// Writes the reply to a Set of the device's.
-fn reply_to_set(done: Result<(), Refusal>, message: &Message<'_>, out: &mut Out)
+fn reply_to_set(done: Result<(), BindingFault>, message: &Message<'_>, out: &mut Out)
     requires { IsRead (snmp_message message.now) }
     ensures { out.new.items ≡ set_reply (snmp_message message.now) (refusal_in done) }
 {

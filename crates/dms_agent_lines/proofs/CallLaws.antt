@@ -14,8 +14,8 @@ use Rattle.dms_text_forms.proofs.WordReading.{last_found, by_keyword, by_text}
 use Rattle.dms_text_forms.proofs.FieldLaws.{last_octets_found, last_octets_only}
 use Rattle.dms_text_streams.proofs.CallReading.{bare_found, nothing_found}
 use Rattle.dms_text_values.specs.ValueReading.{value_at}
-use Rattle.dms_device.specs.declared.access.Access.{Access}
-use Rattle.dms_device.specs.declared.access.Access.TheVariants.{ReadOnly, Number, Octets}
+use Rattle.dms_device.specs.declared.access.ManagerAccess.{ManagerAccess}
+use Rattle.dms_device.specs.declared.access.ManagerAccess.TheVariants.{ReadOnly, Number, Octets}
 use Rattle.dms_agent.specs.declared.agent.Agent.{Agent}
 use Rattle.dms_sign_lines.specs.Answer as sign
 use Rattle.dms_agent_lines.specs.AgentCall.{AgentCall, NewObject, receive, publish, withdraw, show_fonts, tell, put_back, save}
@@ -63,7 +63,7 @@ keyword_found word keyword e =
 
 -- ---- what a manager may write
 
-number_access_found : (words : List (List ℕ)) (access : Access) → number_access_at words ≡ Some access → SpellsAccess access (codes "number" ∷ words)
+number_access_found : (words : List (List ℕ)) (access : ManagerAccess) → number_access_at words ≡ Some access → SpellsAccess access (codes "number" ∷ words)
 unfolding number_access_at
 number_access_found words access e =
     let least = begun _ _ _ e in
@@ -80,7 +80,7 @@ number_access_found words access e =
       has_most = second.spelled;
     })
 
-octets_access_found : (words : List (List ℕ)) (access : Access) → octets_access_at words ≡ Some access → SpellsAccess access (codes "octets" ∷ words)
+octets_access_found : (words : List (List ℕ)) (access : ManagerAccess) → octets_access_at words ≡ Some access → SpellsAccess access (codes "octets" ∷ words)
 unfolding octets_access_at
 octets_access_found words access e =
     let least = begun _ _ _ e in
@@ -97,7 +97,7 @@ octets_access_found words access e =
       has_most = second.spelled;
     })
 
-access_after_found : (word : List ℕ) (words : List (List ℕ)) (access : Access) → access_after word words ≡ Some access → SpellsAccess access (word ∷ words)
+access_after_found : (word : List ℕ) (words : List (List ℕ)) (access : ManagerAccess) → access_after word words ≡ Some access → SpellsAccess access (word ∷ words)
 access_after_found word words access e =
     let at = λ (keyword : List ℕ) (is : word ≡ keyword) (read : SpellsAccess access (keyword ∷ words)).
     subst (λ word. SpellsAccess access (word ∷ words)) (sym is) read
@@ -106,13 +106,13 @@ access_after_found word words access e =
     by_keyword word (codes "octets") _ _ access e (λ is e. at _ is (octets_access_found words access e)) λ e.
     absurd (none-some access e)
 
-written_access_found : (words : List (List ℕ)) (access : Access) → written_access_at words ≡ Some access → SpellsAccess access words
+written_access_found : (words : List (List ℕ)) (access : ManagerAccess) → written_access_at words ≡ Some access → SpellsAccess access words
 unfolding written_access_at
 written_access_found words access e =
     let read = begun _ _ _ e in
     subst (SpellsAccess access) (sym (word_found words read.0 read.1).0) (access_after_found read.0.0 read.0.1 access read.2)
 
-access_found : (words : List (List ℕ)) (access : Access) → access_at words ≡ Some access → SpellsAccess access words
+access_found : (words : List (List ℕ)) (access : ManagerAccess) → access_at words ≡ Some access → SpellsAccess access words
 access_found [] access e = subst (λ access. SpellsAccess access []) (same_Some _ _ e) refl
 access_found (word ∷ words) access e = written_access_found (word ∷ words) access e
 
@@ -124,7 +124,7 @@ octets_read : (words : List (List ℕ)) → access_at (codes "octets" ∷ words)
 unfolding written_access_at word_at
 octets_read words = refl
 
-access_only : (access : Access) (words : List (List ℕ)) → SpellsAccess access words → access_at words ≡ Some access
+access_only : (access : ManagerAccess) (words : List (List ℕ)) → SpellsAccess access words → access_at words ≡ Some access
 unfolding number_access_at octets_access_at
 access_only ReadOnly words spelled = ap access_at spelled
 access_only (Number least most) words spelled =

@@ -2,7 +2,7 @@
 use Rattle.std.proofs.Common.{◌≡◌, ℕ, ◌+◌, not, List, [], Option, Some, None, is_some, refl, ◌∙◌}
 use Rattle.std.specs.Prelude.{IsSome}
 use Rattle.dms_wire.specs.Message.{ObjectValue, VarBind}
-use Rattle.dms_device.specs.declared.access.Access.{Access}
+use Rattle.dms_device.specs.declared.access.ManagerAccess.{ManagerAccess}
 use Rattle.dms_text.specs.Reading.{word_at, ◌>>=◌}
 use Rattle.dms_codes.proofs.Options.{is_some_mapped}
 use Rattle.dms_text_forms.specs.Form.{fault_from}
@@ -26,21 +26,21 @@ object_wanted : (words : List (List ℕ)) → is_some (object_at words) ≡ not 
 unfolding object_at
 object_wanted words = by_word _ (word_at words)
   where
-    by_access : {B : Type 0} (access : Option Access) (make : Access → B) → is_some (access >>= (λ access. Some (make access))) ≡ not (is_some (access_cause access))
+    by_access : {B : Type 0} (access : Option ManagerAccess) (make : ManagerAccess → B) → is_some (access >>= (λ access. Some (make access))) ≡ not (is_some (access_cause access))
     by_access None make = refl
     by_access (Some access) make = refl
 
-    by_value : {B : Type 0} (value : Option (ObjectValue × List (List ℕ))) (make : ObjectValue → Access → B)
+    by_value : {B : Type 0} (value : Option (ObjectValue × List (List ℕ))) (make : ObjectValue → ManagerAccess → B)
         → is_some (value >>= (λ value. access_at value.1 >>= (λ access. Some (make value.0 access)))) ≡ not (is_some (value_cause value))
     by_value None make = refl
     by_value (Some value) make = by_access (access_at value.1) (make value.0)
 
-    by_name : {B : Type 0} (rest : List (List ℕ)) (name : Option (List ℕ)) (make : List ℕ → ObjectValue → Access → B)
+    by_name : {B : Type 0} (rest : List (List ℕ)) (name : Option (List ℕ)) (make : List ℕ → ObjectValue → ManagerAccess → B)
         → is_some (name >>= (λ name. value_at rest >>= (λ value. access_at value.1 >>= (λ access. Some (make name value.0 access))))) ≡ not (is_some (named_cause rest name))
     by_name rest None make = refl
     by_name rest (Some name) make = by_value (value_at rest) (make name)
 
-    by_word : {B : Type 0} (make : List ℕ → ObjectValue → Access → B) (found : Option (List ℕ × List (List ℕ)))
+    by_word : {B : Type 0} (make : List ℕ → ObjectValue → ManagerAccess → B) (found : Option (List ℕ × List (List ℕ)))
         → is_some (found >>= (λ found. name_of found.0 >>= (λ name. value_at found.1 >>= (λ value. access_at value.1 >>= (λ access. Some (make name value.0 access))))))
         ≡ not (is_some (object_cause found))
     by_word make None = refl

@@ -5,7 +5,7 @@ use Rattle.dms_wire_ber.specs.NameReading.{is_name, numbers_of}
 use Rattle.dms_wire_ber.proofs.CanonicalNames.{name_spelled}
 use Rattle.dms_wire_ber.proofs.Names.{name_only}
 use Rattle.dms_wire.specs.Message.{ObjectValue}
-use Rattle.dms_device.specs.declared.access.Access.{Access}
+use Rattle.dms_device.specs.declared.access.ManagerAccess.{ManagerAccess}
 use Rattle.dms_device.specs.declared.fault.ObjectFault.{ObjectFault}
 use Rattle.dms_device.specs.declared.fault.ObjectFault.TheVariants.{NoName, NoInteger, Unfit, OutOfMemory}
 use Rattle.dms_device.specs.Object.{DeviceObject, fits, can_be_sent, object_fault, IsFirstFault}
@@ -15,7 +15,7 @@ none_of : (a b c : Bool) → a ≡ true → b ≡ true → c ≡ true
 none_of a b c in_a in_b in_c = rw (in_a, in_b, in_c) refl
 
 -- the octets of a name, with a value that a message can have and that the access takes
-pub faultless : (numbers octets : List ℕ) (value : ObjectValue) (access : Access) → IsNameInLimits numbers → octets ≡ name_octets numbers
+pub faultless : (numbers octets : List ℕ) (value : ObjectValue) (access : ManagerAccess) → IsNameInLimits numbers → octets ≡ name_octets numbers
     → can_be_sent value ≡ true → fits access value ≡ true → object_fault octets value access ≡ None
 faultless numbers octets value access within is sent fit =
     none_of (is_name octets) (can_be_sent value) (fits access value)

@@ -12,7 +12,7 @@ use Rattle.dms_text.specs.Words.{words_of}
 use Rattle.dms_text_streams.specs.Conversation.{ok_line}
 use Rattle.dms_text_values.specs.ValueText.{value_text}
 use Rattle.dms_sign_state.specs.StateText.{text_of_state}
-use Rattle.dms_device.specs.declared.access.Access.{Access}
+use Rattle.dms_device.specs.declared.access.ManagerAccess.{ManagerAccess}
 use Rattle.dms_device.specs.Object.{DeviceObject, admits}
 use Rattle.dms_device.specs.Objects.{is_before, has_name, comes_after, rises, binding_of}
 use Rattle.dms_device.specs.Setting.{set_to, set_by_binding}
@@ -93,7 +93,7 @@ same_access b (x ∷ xs) name =
     ∙ ap (λ rest. cond (has_name name x) (Some x.access) rest) (same_access b xs name)
     ∙ sym (access_first name x xs)
   where
-    first_alike : (name : List ℕ) (y x : DeviceObject) (rest : Option Access) → IsLike y x → cond (has_name name y) (Some y.access) rest ≡ cond (has_name name x) (Some x.access) rest
+    first_alike : (name : List ℕ) (y x : DeviceObject) (rest : Option ManagerAccess) → IsLike y x → cond (has_name name y) (Some y.access) rest ≡ cond (has_name name x) (Some x.access) rest
     first_alike name y x rest like =
         ap (λ n. cond (pointwise nat_eq n name) (Some y.access) rest) like.name ∙ ap (λ access. cond (has_name name x) (Some access) rest) like.access
 

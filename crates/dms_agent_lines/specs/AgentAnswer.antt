@@ -5,7 +5,7 @@ use Rattle.std.specs.Prelude.{is_some, option_map}
 use Rattle.std.specs.List.{flat_map, find}
 use Rattle.dms_wire.specs.Message.{ObjectValue, VarBind}
 use Rattle.dms_codes.specs.declared.codes.Order.{Order}
-use Rattle.dms_device.specs.declared.access.Access.{Access}
+use Rattle.dms_device.specs.declared.access.ManagerAccess.{ManagerAccess}
 use Rattle.dms_device.specs.Object.{DeviceObject, admits, fits}
 use Rattle.dms_device.specs.Objects.{has_name, device_value}
 use Rattle.dms_device.specs.Publishing.{published, withdrawn}
@@ -91,11 +91,11 @@ fonts_text a = if is_bare a then ok_line else refused (codes "objects are publis
 -- ---- putting values back
 
 -- what a manager may write to the object of a name
-abbrev pub access_of : List DeviceObject → List ℕ → Option Access
+abbrev pub access_of : List DeviceObject → List ℕ → Option ManagerAccess
 access_of objects name = option_map (λ (object : DeviceObject). object.access) (find (has_name name) objects)
 
 -- why an object does not get a value, by what a manager may write to it
-abbrev pub value_refusal : Option Access → ObjectValue → Option (List ℕ)
+abbrev pub value_refusal : Option ManagerAccess → ObjectValue → Option (List ℕ)
 value_refusal None value = Some (codes "there is no object of this name")
 value_refusal (Some access) value =
     if admits access value then None else Some (codes "the object does not take this value")

@@ -1,13 +1,13 @@
 -- What a line asks of a sign and the objects beside it (this profile).
 use Rattle.std.specs.Prelude.{ℕ, List}
 use Rattle.dms_wire.specs.Message.{ObjectValue, VarBind}
-use Rattle.dms_device.specs.declared.access.Access.{Access}
+use Rattle.dms_device.specs.declared.access.ManagerAccess.{ManagerAccess}
 
 -- an object to be published
 pub record NewObject : Type 0 where
   pub name : List ℕ
   pub value : ObjectValue
-  pub access : Access
+  pub access : ManagerAccess
 
 pub data AgentCall : Type 0 where
   -- the sign and the objects receive these octets

@@ -1,7 +1,7 @@
 -- Why a line is no call of an agent (this profile).
 use Rattle.std.specs.Prelude.{ℕ, ◌+◌, List, [], ◌∷◌, codes, Option, Some, None, option_map}
 use Rattle.dms_wire.specs.Message.{ObjectValue, null, octet_string, object_identifier}
-use Rattle.dms_device.specs.declared.access.Access.{Access}
+use Rattle.dms_device.specs.declared.access.ManagerAccess.{ManagerAccess}
 use Rattle.dms_text.specs.Reading.{word_at}
 use Rattle.dms_text_forms.specs.Form.{fault_from}
 use Rattle.dms_text_causes.specs.LineCauses.{line_cause}
@@ -19,7 +19,7 @@ use Rattle.dms_agent_lines.specs.declared.keywords.AgentKeyword.TheVariants as k
 
 -- ---- NAME VALUE ACCESS: the first of these that is not there
 
-abbrev pub access_cause : Option Access → Option CallCause
+abbrev pub access_cause : Option ManagerAccess → Option CallCause
 access_cause None = Some causes.Access
 access_cause (Some access) = None
 

@@ -4,8 +4,8 @@ use Rattle.dms_wire.specs.Message.{VarBind}
 use Rattle.dms_text.specs.Words.{words_of}
 use Rattle.dms_text.specs.Octets.{SpellsOctets}
 use Rattle.dms_text_forms.specs.Fields.{SpellsTwoOctets, SpellsOne}
-use Rattle.dms_device.specs.declared.access.Access.{Access}
-use Rattle.dms_device.specs.declared.access.Access.TheVariants.{ReadOnly, Number, Octets}
+use Rattle.dms_device.specs.declared.access.ManagerAccess.{ManagerAccess}
+use Rattle.dms_device.specs.declared.access.ManagerAccess.TheVariants.{ReadOnly, Number, Octets}
 use Rattle.dms_agent_lines.specs.AgentCall.{AgentCall, NewObject, receive, publish, withdraw, show_fonts, tell}
 use Rattle.dms_agent_lines.specs.AgentCall.{put_back, save}
 use Rattle.dms_agent_state.specs.ObjectFields.{SpellsName, SpellsInteger}
@@ -21,7 +21,7 @@ pub record SpellsBounds {A : Type 0} (keyword : List ℕ) (Spelled : A → List 
   pub has_most : Spelled most most_word
 
 -- no words: the object is read alone
-abbrev pub SpellsAccess : Access → List (List ℕ) → Type 0
+abbrev pub SpellsAccess : ManagerAccess → List (List ℕ) → Type 0
 SpellsAccess ReadOnly words = words ≡ []
 SpellsAccess (Number least most) words = SpellsBounds (codes "number") SpellsInteger least most words
 SpellsAccess (Octets least most) words = SpellsBounds (codes "octets") SpellsTwoOctets least most words

@@ -6,8 +6,8 @@ use Rattle.dms_text.specs.Reading.{same_octets, word_at, is_end, ◌>>=◌}
 use Rattle.dms_text_forms.specs.FieldsReading.{if_last, two_octets_at, last_octets_at}
 use Rattle.dms_text_values.specs.NameReading.{name_of}
 use Rattle.dms_text_values.specs.ValueReading.{integer_at, value_at}
-use Rattle.dms_device.specs.declared.access.Access.{Access}
-use Rattle.dms_device.specs.declared.access.Access.TheVariants.{ReadOnly, Number, Octets}
+use Rattle.dms_device.specs.declared.access.ManagerAccess.{ManagerAccess}
+use Rattle.dms_device.specs.declared.access.ManagerAccess.TheVariants.{ReadOnly, Number, Octets}
 use Rattle.dms_agent_lines.specs.AgentCall.{AgentCall, NewObject, receive, publish, withdraw, show_fonts, tell}
 use Rattle.dms_agent_lines.specs.AgentCall.{put_back, save}
 use Rattle.dms_agent_lines.specs.declared.keywords.AgentKeyword.{AgentKeyword}
@@ -16,33 +16,33 @@ use Rattle.dms_agent_lines.specs.declared.keywords.AgentKeyword.TheVariants as k
 -- ---- ACCESS, to the end of the line
 
 -- an INTEGER from the first to the second
-unfoldable pub number_access_at : List (List ℕ) → Option Access
+unfoldable pub number_access_at : List (List ℕ) → Option ManagerAccess
 number_access_at words = do
   least ← integer_at words
   most ← integer_at least.1
   if_last (Number least.0 most.0) most.1
 
 -- octets of which there are the first to the second
-unfoldable pub octets_access_at : List (List ℕ) → Option Access
+unfoldable pub octets_access_at : List (List ℕ) → Option ManagerAccess
 octets_access_at words = do
   least ← two_octets_at words
   most ← two_octets_at least.1
   if_last (Octets least.0 most.0) most.1
 
 -- after the word that says which
-abbrev pub access_after : List ℕ → List (List ℕ) → Option Access
+abbrev pub access_after : List ℕ → List (List ℕ) → Option ManagerAccess
 access_after word words =
     if same_octets word (codes "number") then number_access_at words
     else if same_octets word (codes "octets") then octets_access_at words
     else None
 
-unfoldable pub written_access_at : List (List ℕ) → Option Access
+unfoldable pub written_access_at : List (List ℕ) → Option ManagerAccess
 written_access_at words = do
   found ← word_at words
   access_after found.0 found.1
 
 -- no words: the object is read alone
-abbrev pub access_at : List (List ℕ) → Option Access
+abbrev pub access_at : List (List ℕ) → Option ManagerAccess
 access_at words = if is_end words then Some ReadOnly else written_access_at words
 
 -- ---- lines

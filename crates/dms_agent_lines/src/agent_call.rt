@@ -1,6 +1,6 @@
 //! What a line asks of an agent.
 
-use dms_device::Access;
+use dms_device::ManagerAccess;
 use dms_text_values::{NameRead, ValueWords};
 use std::marker::Model;
 
@@ -28,7 +28,7 @@ pub(crate) enum AgentCall<'a> {
 pub(crate) struct ObjectWords<'a> {
     pub(crate) name: NameRead,
     pub(crate) value: ValueWords<'a>,
-    pub(crate) access: Access,
+    pub(crate) access: ManagerAccess,
 }
 
 impl<'a> Model for ObjectWords<'a> {

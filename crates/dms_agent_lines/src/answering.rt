@@ -23,7 +23,7 @@ use crate::cause::CallCause;
 use crate::reading::call;
 use dms_agent::{Agent, PublishFault};
 use dms_agent_state::saved;
-use dms_device::{Access, Device, Object, ObjectFault};
+use dms_device::{Device, ManagerAccess, ObjectFault, PublishedObject};
 use dms_mib_replies::Objects;
 use dms_sign_lines::{LONGEST_RECEIPT, put_receipt};
 use dms_text_causes::bad_line;
@@ -124,8 +124,8 @@ fn made(
     alloc: Global,
     name: &Oid<'_>,
     value: &Value<'_>,
-    access: Access,
-) -> Result<Object, ObjectFault>
+    access: ManagerAccess,
+) -> Result<PublishedObject, ObjectFault>
     requires sent { can_be_sent (object_value value.now) ≡ true }
     requires fit { fits access (object_value value.now) ≡ true }
     ensures made { IfOk result (λ object. object
@@ -140,11 +140,15 @@ fn made(
 {
     // the limits of a name are known where its numbers are looked at
     let _ = name.numbers();
-    Object::new(alloc, name.content(), value, access)
+    PublishedObject::new(alloc, name.content(), value, access)
 }
 
 /// Publishes an object whose name the sign has not, and gives the answer.
-fn published(agent: &mut Agent, object: Object, done: Vec<u8>) -> Result<Vec<u8>, AllocError>
+fn published(
+    agent: &mut Agent,
+    object: PublishedObject,
+    done: Vec<u8>,
+) -> Result<Vec<u8>, AllocError>
     requires { own_value agent.old object.name ≡ None }
     ensures text { IfOk result (λ text. text ≡ done) }
     ensures after { OnOk result
@@ -214,7 +218,7 @@ fn set_text(alloc: Global, device: &Device) -> Result<Vec<u8>, AllocError>
 
 /// Appends a line for each object that a manager set.
 #[tactic(auto, using(crate::proofs::SetLines::lines))]
-fn put_set_lines(alloc: Global, objects: &[Object], text: &mut Vec<u8>) -> io::Result<()>
+fn put_set_lines(alloc: Global, objects: &[PublishedObject], text: &mut Vec<u8>) -> io::Result<()>
     ensures { OnOk result (text.new.items ≡ text.old.items ++ set_lines objects.now) }
 {
     let mut rest = objects;
@@ -226,7 +230,7 @@ fn put_set_lines(alloc: Global, objects: &[Object], text: &mut Vec<u8>) -> io::R
 }
 
 /// Appends a line for an object that a manager set, and nothing for another.
-fn put_set_line(alloc: Global, object: &Object, text: &mut Vec<u8>) -> io::Result<()>
+fn put_set_line(alloc: Global, object: &PublishedObject, text: &mut Vec<u8>) -> io::Result<()>
     ensures { OnOk result (text.new.items ≡ text.old.items ++ set_line object.now) }
 {
     if !object.is_set() {
@@ -236,7 +240,7 @@ fn put_set_line(alloc: Global, object: &Object, text: &mut Vec<u8>) -> io::Resul
 }
 
 #[tactic(auto, using(crate::proofs::SetLines::parts))]
-fn put_set(alloc: Global, object: &Object, text: &mut Vec<u8>) -> io::Result<()>
+fn put_set(alloc: Global, object: &PublishedObject, text: &mut Vec<u8>) -> io::Result<()>
     ensures { OnOk result (text.new.items ≡ text.old.items ++ value_line object.now.name object.now.value) }
 {
     write!(text, "set {} ", object.name())?;
@@ -260,7 +264,7 @@ fn put_back(alloc: Global, agent: &mut Agent, binding: &SetWords<'_>) -> Result<
         return refused(alloc, "the object does not take this value");
     }
     let done = ok_line(alloc)?;
-    match made(alloc, &name, &value, Access::ReadOnly) {
+    match made(alloc, &name, &value, ManagerAccess::ReadOnly) {
         Ok(object) => {
             put_value_back(agent, object);
             Ok(done)
@@ -271,7 +275,7 @@ fn put_back(alloc: Global, agent: &mut Agent, binding: &SetWords<'_>) -> Result<
 
 /// What a manager may write to the object of a name, if there is one.
 #[tactic(auto, using(crate::proofs::Named::steps))]
-fn access_of(objects: &[Object], name: &Oid<'_>) -> Option<Access>
+fn access_of(objects: &[PublishedObject], name: &Oid<'_>) -> Option<ManagerAccess>
     ensures { result ≡ access_of objects.now name.now }
 {
     let mut rest = objects;
@@ -285,7 +289,7 @@ fn access_of(objects: &[Object], name: &Oid<'_>) -> Option<Access>
 }
 
 /// Puts back the value of an object to the published one that has its name.
-fn put_value_back(agent: &mut Agent, object: Object)
+fn put_value_back(agent: &mut Agent, object: PublishedObject)
     ensures { agent.new ≡ with_values agent.old (binding_of object ∷ []) }
 {
     agent.put_back(&[object]);

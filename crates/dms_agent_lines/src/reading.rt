@@ -19,7 +19,7 @@ ghost use Rattle.dms_agent_lines.specs.declared.keywords.AgentKeyword.TheVariant
 use crate::agent_call::{AgentCall, ObjectWords, SetWords};
 use crate::cause::CallCause;
 use crate::keywords::AgentKeyword;
-use dms_device::Access;
+use dms_device::ManagerAccess;
 use dms_text::{Words, are_same};
 use dms_text_forms::fields::two_octets;
 use dms_text_forms::{LineWords, WordName};
@@ -158,17 +158,17 @@ fn end(place: usize, words: Words<'_>) -> Result<(), CallCause>
 }
 
 /// What a manager may write, to the end of the line.
-fn access(words: Words<'_>) -> Option<Access>
+fn access(words: Words<'_>) -> Option<ManagerAccess>
     ensures { result ≡ access_at words.entry }
 {
     if words.is_empty() {
-        return Some(Access::ReadOnly);
+        return Some(ManagerAccess::ReadOnly);
     }
     written_access(words)
 }
 
 #[tactic(auto, unfolding(crate::specs::AgentReading::written_access_at))]
-fn written_access(words: Words<'_>) -> Option<Access>
+fn written_access(words: Words<'_>) -> Option<ManagerAccess>
     ensures { result ≡ written_access_at words.entry }
 {
     let (word, words) = words.next_word()?;
@@ -182,26 +182,26 @@ fn written_access(words: Words<'_>) -> Option<Access>
 }
 
 #[tactic(auto, unfolding(crate::specs::AgentReading::number_access_at))]
-fn number_access(words: Words<'_>) -> Option<Access>
+fn number_access(words: Words<'_>) -> Option<ManagerAccess>
     ensures { result ≡ number_access_at words.entry }
 {
     let (least, words) = integer(words)?;
     let (most, words) = integer(words)?;
     if words.is_empty() {
-        Some(Access::Number { least, most })
+        Some(ManagerAccess::Number { least, most })
     } else {
         None
     }
 }
 
 #[tactic(auto, unfolding(crate::specs::AgentReading::octets_access_at))]
-fn octets_access(words: Words<'_>) -> Option<Access>
+fn octets_access(words: Words<'_>) -> Option<ManagerAccess>
     ensures { result ≡ octets_access_at words.entry }
 {
     let (least, words) = two_octets(words)?;
     let (most, words) = two_octets(words)?;
     if words.is_empty() {
-        Some(Access::Octets { least, most })
+        Some(ManagerAccess::Octets { least, most })
     } else {
         None
     }

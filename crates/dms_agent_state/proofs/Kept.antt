@@ -10,8 +10,8 @@ use Rattle.dms_wire.specs.MessageOf.{message_of}
 use Rattle.dms_wire.specs.Limits.{IsValueInLimits, AreBindingsInLimits}
 use Rattle.dms_wire.proofs.LimitsLaws.{spelled_in_limits}
 use Rattle.dms_wire.proofs.MessageOfLaws.{read_is_spelled}
-use Rattle.dms_device.specs.declared.access.Access.{Access}
-use Rattle.dms_device.specs.declared.access.Access.TheVariants.{ReadOnly, Number, Octets}
+use Rattle.dms_device.specs.declared.access.ManagerAccess.{ManagerAccess}
+use Rattle.dms_device.specs.declared.access.ManagerAccess.TheVariants.{ReadOnly, Number, Octets}
 use Rattle.dms_device.specs.Object.{DeviceObject, admits, object_fault, new_object}
 use Rattle.dms_device.specs.Objects.{has_name, comes_after}
 use Rattle.dms_device.specs.Publishing.{published, withdrawn}
@@ -26,7 +26,7 @@ use Rattle.dms_agent_state.specs.Alike.{IsSettable, CanBeSaved, CanAllBeSaved}
 
 -- ---- objects that are made, published, withdrawn and told
 
-pub made_kept : (octets : List ℕ) (value : ObjectValue) (access : Access) → object_fault octets value access ≡ None → CanBeSaved (new_object octets value access)
+pub made_kept : (octets : List ℕ) (value : ObjectValue) (access : ManagerAccess) → object_fault octets value access ≡ None → CanBeSaved (new_object octets value access)
 made_kept octets value access none = record {
   name = name_within (numbers_of octets) octets (faultless octets value access none).name;
   settable = λ by. absurd cc;
@@ -82,7 +82,7 @@ bytes_below [] below = λ i. omega arith
 bytes_below (octet ∷ octets) below = bytes_more octet octets below.0 (bytes_below octets below.1)
 
 -- a value that an access takes is a number or octets
-settable_by : (access : Access) (value : ObjectValue) → admits access value ≡ true → IsValueInLimits value → IsSettable value
+settable_by : (access : ManagerAccess) (value : ObjectValue) → admits access value ≡ true → IsValueInLimits value → IsSettable value
 settable_by access (integer z) e within = within
 settable_by access (octet_string octets) e within = bytes_below octets within
 settable_by ReadOnly null e within = absurd cc

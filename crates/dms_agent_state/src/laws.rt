@@ -3,7 +3,7 @@
 ghost use Rattle.std.specs.Prelude.{◌≡◌, ℕ, List, ◌++◌, map, Ok, None};
 ghost use Rattle.dms_wire.specs.Message.{ObjectValue, VarBind};
 ghost use Rattle.dms_wire.specs.Limits.{AreBindingsInLimits};
-ghost use Rattle.dms_device.specs.declared.access.Access.{Access};
+ghost use Rattle.dms_device.specs.declared.access.ManagerAccess.{ManagerAccess};
 ghost use Rattle.dms_device.specs.Object.{DeviceObject, object_fault, new_object};
 ghost use Rattle.dms_device.specs.Publishing.{published, withdrawn};
 ghost use Rattle.dms_device.specs.Setting.{written};
@@ -63,8 +63,8 @@ pub fn values_are_put_back_in_turn()
 /// All objects can be saved, whatever comes to them: an object that is made can, and what is published, withdrawn, told
 /// and put back leaves it so.
 pub fn objects_can_be_saved()
-    ensures made { (octets : List ℕ) (value : ObjectValue) (access : Access) → object_fault octets value access ≡ None
-        → CanBeSaved (new_object octets value access) }
+    ensures made { (octets : List ℕ) (value : ObjectValue) (access : ManagerAccess)
+        → object_fault octets value access ≡ None → CanBeSaved (new_object octets value access) }
     ensures published { (objects : List DeviceObject) (object : DeviceObject) → CanAllBeSaved objects
         → CanBeSaved object → CanAllBeSaved (published objects object) }
     ensures withdrawn { (objects : List DeviceObject) (name : List ℕ) → CanAllBeSaved objects

@@ -6,7 +6,7 @@
 //! // when the same objects are published beside the sign of its part
 //! let sign = restored(alloc, config, state_parts(text.as_slice()).0)?;
 //! let mut agent = Agent::new(alloc, sign);
-//! agent.publish(Object::new(alloc, name.content(), &Value::Integer(7), access)?)?;
+//! agent.publish(PublishedObject::new(alloc, name.content(), &Value::Integer(7), access)?)?;
 //! put_objects(alloc, &mut agent, text.as_slice())?;
 //! assert!(rt; saved(alloc, &agent)?.as_slice() == text.as_slice());
 //! ```

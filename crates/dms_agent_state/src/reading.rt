@@ -11,14 +11,14 @@ ghost use Rattle.dms_agent_state.specs.ValueLines.{in_line, set_of, sets_at, lin
 
 use crate::fault::{SetCause, SetError, SetFault};
 use crate::parts::state_parts;
-use dms_device::{Access, Object};
+use dms_device::{ManagerAccess, PublishedObject};
 use dms_text::{Words, split_once};
 use dms_text_values::{NameRead, ValueWords, name, value};
 use std::alloc::Global;
 
 /// The values of objects that the text of a state says, in the order of its lines, each in an object that is read
 /// alone; or its first line that says none. What stands before the first line `end` is not looked at.
-pub fn saved_values(alloc: Global, text: &[u8]) -> Result<Vec<Object>, SetError>
+pub fn saved_values(alloc: Global, text: &[u8]) -> Result<Vec<PublishedObject>, SetError>
     ensures { Gives (λ values. map binding_of values.items) result (values_of text.now) }
 {
     let (sign, objects) = state_parts(text);
@@ -41,7 +41,7 @@ fn line_after(text: &[u8]) -> usize
 
 /// The values of lines, the first of which has this number.
 #[tactic(auto, using(crate::proofs::LinesRead::steps))]
-fn values(alloc: Global, first: usize, lines: &[u8]) -> Result<Vec<Object>, SetError>
+fn values(alloc: Global, first: usize, lines: &[u8]) -> Result<Vec<PublishedObject>, SetError>
     requires { first + length lines.now < 2 ^ 64 }
     ensures { Gives (λ values. map binding_of values.items) result (sets_at first (parts_of (byte "\n") lines.now)) }
 {
@@ -66,7 +66,7 @@ fn values(alloc: Global, first: usize, lines: &[u8]) -> Result<Vec<Object>, SetE
 
 /// The value of the line with this number.
 #[tactic(auto, unfolding(crate::specs::ValueLines::set_of))]
-fn set_value(alloc: Global, number: usize, line: &[u8]) -> Result<Object, SetError>
+fn set_value(alloc: Global, number: usize, line: &[u8]) -> Result<PublishedObject, SetError>
     ensures { Gives (λ value. binding_of value) result (in_line number (set_of line.now)) }
 {
     let Some(words) = Words::of(line).keyword(b"set") else {
@@ -94,14 +94,14 @@ fn fault(line: usize, cause: SetCause) -> SetError
 }
 
 /// A name and a value that were read, in an object: nothing is wrong with them, so that memory alone can be wanting.
-fn held(alloc: Global, name: &NameRead, value: &ValueWords<'_>) -> Result<Object, SetError>
+fn held(alloc: Global, name: &NameRead, value: &ValueWords<'_>) -> Result<PublishedObject, SetError>
     ensures held { IfOk result (λ object. binding_of object
         ≡ record { name = name.now; value = worded_value value.now }) }
     ensures memory { IfErr result (λ error. error ≡ Memory) }
 {
     let octets = value.octets(alloc)?;
     let value = value.over(octets.as_slice());
-    match Object::new(alloc, name.content(), &value, Access::ReadOnly) {
+    match PublishedObject::new(alloc, name.content(), &value, ManagerAccess::ReadOnly) {
         Ok(object) => Ok(object),
         Err(_) => Err(SetError::Memory),
     }

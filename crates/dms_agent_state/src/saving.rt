@@ -7,7 +7,7 @@ ghost use Rattle.dms_agent_state.specs.AgentText.{value_line, kept_line, kept_li
 
 use crate::words::{put_name, put_value};
 use dms_agent::Agent;
-use dms_device::Object;
+use dms_device::PublishedObject;
 use dms_sign::Sign;
 use dms_text_filling::put_text;
 use std::alloc::{AllocError, Global};
@@ -54,7 +54,7 @@ fn put_sign(buffer: &mut [u8], sign: &Sign) -> usize
 
 /// Puts a line for each object whose value a manager set.
 #[tactic(auto, using(crate::proofs::Listed::lists))]
-fn put_lines(buffer: &mut [u8], place: usize, objects: &[Object]) -> usize
+fn put_lines(buffer: &mut [u8], place: usize, objects: &[PublishedObject]) -> usize
     ensures { Puts (kept_lines objects.now) place buffer.old result buffer.new }
 {
     let mut end = place;
@@ -67,7 +67,7 @@ fn put_lines(buffer: &mut [u8], place: usize, objects: &[Object]) -> usize
 }
 
 /// Puts a line for an object whose value a manager set, and nothing for another.
-fn put_line(buffer: &mut [u8], place: usize, object: &Object) -> usize
+fn put_line(buffer: &mut [u8], place: usize, object: &PublishedObject) -> usize
     ensures { Puts (kept_line object.now) place buffer.old result buffer.new }
 {
     if object.is_by_manager() {
@@ -77,7 +77,7 @@ fn put_line(buffer: &mut [u8], place: usize, object: &Object) -> usize
     }
 }
 
-fn put_value_line(buffer: &mut [u8], place: usize, object: &Object) -> usize
+fn put_value_line(buffer: &mut [u8], place: usize, object: &PublishedObject) -> usize
     ensures { Puts (value_line object.now.name object.now.value) place buffer.old result buffer.new }
 {
     let place = put_text(buffer, place, "set ");

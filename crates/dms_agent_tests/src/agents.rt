@@ -1,7 +1,7 @@
 //! The bench sign with a text and a level beside it: what is read, walked and set of both.
 
 use dms_agent::{Agent, PublishFault};
-use dms_device::{Access, Object};
+use dms_device::{ManagerAccess, PublishedObject};
 use dms_sign::{Config, Receipt, Sign};
 use dms_sign_bench::{B, face, stock};
 use dms_wire::{Bind, Kind, MessageParts, Oid, Out, Value, read, write};
@@ -45,9 +45,9 @@ pub(crate) fn publish(
     alloc: Global,
     name: &[u8],
     value: &Value<'_>,
-    access: Access,
+    access: ManagerAccess,
 ) -> Result<(), PublishFault> {
-    match Object::new(alloc, name, value, access) {
+    match PublishedObject::new(alloc, name, value, access) {
         Ok(object) => agent.publish(object),
         Err(_) => Err(PublishFault::OutOfMemory),
     }
@@ -56,10 +56,16 @@ pub(crate) fn publish(
 /// The bench sign, beside which a description and a level from 0 to 15 are published.
 fn agent(alloc: Global) -> Result<Agent, &'static str> {
     let mut agent = Agent::new(alloc, bench_sign(alloc)?);
-    let levels = Access::Number { least: 0, most: 15 };
+    let levels = ManagerAccess::Number { least: 0, most: 15 };
     let level = publish(&mut agent, alloc, &LEVEL, &Value::Integer(7), levels);
     let text = Value::Octets(b"a sign");
-    let description = publish(&mut agent, alloc, &DESCRIPTION, &text, Access::ReadOnly);
+    let description = publish(
+        &mut agent,
+        alloc,
+        &DESCRIPTION,
+        &text,
+        ManagerAccess::ReadOnly,
+    );
     match (level, description) {
         (Ok(()), Ok(())) => Ok(agent),
         _ => Err("not published"),
@@ -162,7 +168,7 @@ fn a_level_is_set_in_its_range_by_the_writer(rt: HostRuntime) -> Result<(), Fail
 #[test]
 fn a_name_of_the_sign_is_not_published(rt: HostRuntime) -> Result<(), Fail> {
     let mut agent = agent(rt.alloc())?;
-    let read_only = Access::ReadOnly;
+    let read_only = ManagerAccess::ReadOnly;
     let found = publish(
         &mut agent,
         rt.alloc(),
@@ -199,11 +205,23 @@ fn fonts_are_read_once_they_are_shown(rt: HostRuntime) -> Result<(), Fail> {
 fn a_name_of_the_fonts_is_not_published(rt: HostRuntime) -> Result<(), Fail> {
     let mut agent = Agent::new(rt.alloc(), bench_sign(rt.alloc())?);
     let nine = Value::Integer(9);
-    let found = publish(&mut agent, rt.alloc(), &FONTS, &nine, Access::ReadOnly);
+    let found = publish(
+        &mut agent,
+        rt.alloc(),
+        &FONTS,
+        &nine,
+        ManagerAccess::ReadOnly,
+    );
     assert!(rt; found == Ok(()) && !agent.show_fonts());
     let name = Oid::of(&FONTS).ok_or("no name")?;
     assert!(rt; agent.own_value(&name).is_none() && agent.withdraw(&name) && agent.show_fonts());
-    let found = publish(&mut agent, rt.alloc(), &FONTS, &nine, Access::ReadOnly);
+    let found = publish(
+        &mut agent,
+        rt.alloc(),
+        &FONTS,
+        &nine,
+        ManagerAccess::ReadOnly,
+    );
     assert!(rt; found == Err(PublishFault::OfTheSign));
     assert!(rt; agent.own_value(&name) == Some(Value::Integer(2)));
     Ok(())

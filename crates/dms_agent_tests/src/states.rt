@@ -3,7 +3,7 @@
 use crate::agents::{DESCRIPTION, LEVEL, bench_sign, binding, exchange, publish};
 use dms_agent::Agent;
 use dms_agent_state::{SetError, put_objects, put_saved, saved, saved_values, state_parts};
-use dms_device::Access;
+use dms_device::ManagerAccess;
 use dms_mib_replies::Objects;
 use dms_wire::{Kind, Oid, Value};
 use std::alloc::Global;
@@ -21,13 +21,19 @@ set 1.3.6.1.4.1.1206.4.2.3.7.6.0 INTEGER 15
 /// The bench sign, beside which a description, a contact of at most 8 octets and a level from 0 to 15 are published.
 fn agent(alloc: Global) -> Result<Agent, &'static str> {
     let mut agent = Agent::new(alloc, bench_sign(alloc)?);
-    let levels = Access::Number { least: 0, most: 15 };
-    let texts = Access::Octets { least: 0, most: 8 };
+    let levels = ManagerAccess::Number { least: 0, most: 15 };
+    let texts = ManagerAccess::Octets { least: 0, most: 8 };
     let text = Value::Octets(b"a sign");
     for done in [
         publish(&mut agent, alloc, &LEVEL, &Value::Integer(7), levels),
         publish(&mut agent, alloc, &CONTACT, &Value::Octets(b""), texts),
-        publish(&mut agent, alloc, &DESCRIPTION, &text, Access::ReadOnly),
+        publish(
+            &mut agent,
+            alloc,
+            &DESCRIPTION,
+            &text,
+            ManagerAccess::ReadOnly,
+        ),
     ] {
         if done.is_err() {
             return Err("not published");
@@ -79,7 +85,7 @@ fn values_that_were_set_are_saved_and_put_back(rt: HostRuntime) -> Result<(), Fa
 #[test]
 fn what_is_published_anew_is_not_saved(rt: HostRuntime) -> Result<(), Fail> {
     let mut agent = set(rt.alloc())?;
-    let levels = Access::Number { least: 0, most: 15 };
+    let levels = ManagerAccess::Number { least: 0, most: 15 };
     let done = publish(&mut agent, rt.alloc(), &LEVEL, &Value::Integer(3), levels);
     assert!(rt; done.is_ok());
     let text = saved(rt.alloc(), &agent)?;

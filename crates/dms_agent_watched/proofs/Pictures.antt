@@ -20,7 +20,7 @@ use Rattle.dms_sign.specs.SetRequest.{SetCause, assigned}
 use Rattle.dms_sign.specs.Requests.{found_unless, as_decided, as_asked, with_remaining, commanded, commanded_if, set_unless, answer_by, answer_of_any_size}
 use Rattle.dms_sign.specs.Reply as sign
 use Rattle.dms_sign.specs.Events.{after_settling, counted_down, after_duration, after_silence, after_tick}
-use Rattle.dms_device.specs.declared.fault.Refusal.{Refusal}
+use Rattle.dms_device.specs.declared.fault.BindingFault.{BindingFault}
 use Rattle.dms_agent.specs.declared.agent.Agent.{Agent}
 use Rattle.dms_agent.specs.Received.{of_sign, device_set, agent_answered, dropped, on_message_if, agent_received}
 use Rattle.dms_agent_watched.specs.Watched.{Picture, picture_of, same_defaults, same_picture, WatchedSign, changes_after, watched, is_put_up_by_itself}
@@ -145,7 +145,7 @@ answer_stays : (s : SignState) (m : SnmpMessage) → (answer_of_any_size s m).ac
 unfolding answer_of_any_size
 answer_stays s m none quiet = kind_stays s m m.kind none quiet
 
-agent_set_stays : (a : Agent) (m : SnmpMessage) (named : Bool) (refusal : Option Refusal)
+agent_set_stays : (a : Agent) (m : SnmpMessage) (named : Bool) (refusal : Option BindingFault)
     → (cond named (device_set a m refusal) (of_sign a (sign.heard a.sign m))).accepted ≡ None
     → is_put_up_by_itself (cond named (device_set a m refusal) (of_sign a (sign.heard a.sign m))).after.sign.shown ≡ false
     → picture_of (cond named (device_set a m refusal) (of_sign a (sign.heard a.sign m))).after.sign.shown ≡ picture_of a.sign.shown

@@ -20,7 +20,7 @@ ghost use Rattle.dms_agent_watched.specs.Watched.{unchanged, watched, is_put_up_
 use arrayvec::ArrayVec;
 use dms_agent::{Agent, PublishFault};
 use dms_codes::MAX_TEXT;
-use dms_device::Object;
+use dms_device::PublishedObject;
 use dms_face::Defaults;
 use dms_sign::{Receipt, Sign};
 use dms_table::row::copy_of;
@@ -204,7 +204,7 @@ impl Watched {
     }
 
     /// Publishes an object beside the sign's, as `Agent::publish` does.
-    pub fn publish(&mut self, object: Object) -> Result<(), PublishFault>
+    pub fn publish(&mut self, object: PublishedObject) -> Result<(), PublishFault>
         ensures done { OnOk result (self.new
             ≡ record self.old { agent = record self.old.agent { device = published self.old.agent.device object } }) }
         ensures beside { OnOk result (own_value self.old.agent object.name ≡ None) }
@@ -228,7 +228,7 @@ impl Watched {
     }
 
     /// Puts values back that a manager set before, as `Agent::put_back` does.
-    pub fn put_back(&mut self, values: &[Object])
+    pub fn put_back(&mut self, values: &[PublishedObject])
         ensures { self.new ≡ record self.old {
           agent = record self.old.agent { device = written self.old.agent.device (map binding_of values.now) };
         } }

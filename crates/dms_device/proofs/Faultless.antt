@@ -6,8 +6,8 @@ use Rattle.dms_wire_ber.specs.NameReading.{is_name, numbers_of}
 use Rattle.dms_wire_ber.proofs.CanonicalNames.{name_spelled}
 use Rattle.dms_wire_ber.proofs.Names.{name_only, name_found}
 use Rattle.dms_wire.specs.Message.{ObjectValue}
-use Rattle.dms_device.specs.declared.access.Access.{Access}
-use Rattle.dms_device.specs.declared.access.Access.TheVariants as accesses
+use Rattle.dms_device.specs.declared.access.ManagerAccess.{ManagerAccess}
+use Rattle.dms_device.specs.declared.access.ManagerAccess.TheVariants as accesses
 use Rattle.dms_device.specs.declared.fault.ObjectFault.TheVariants.{NoName, NoInteger, Unfit}
 use Rattle.dms_device.specs.declared.held.HeldValue.{HeldValue}
 use Rattle.dms_device.specs.declared.held.HeldValue.TheVariants as kinds
@@ -21,7 +21,7 @@ pub name_of_numbers : (numbers : List ℕ) → IsNameInLimits numbers → IsName
 name_of_numbers numbers within = name_found (name_octets numbers) (name_only numbers (name_octets numbers) (name_spelled numbers within)).0
 
 -- what an object without a fault has
-pub record IsFaultless (octets : List ℕ) (value : ObjectValue) (access : Access) : Type 0 where
+pub record IsFaultless (octets : List ℕ) (value : ObjectValue) (access : ManagerAccess) : Type 0 where
   pub name : IsName (numbers_of octets) octets
   pub fit : fits access value ≡ true
 
@@ -33,13 +33,13 @@ tests true true false h = cc
 tests true false c h = cc
 tests false b c h = cc
 
-pub faultless : (octets : List ℕ) (value : ObjectValue) (access : Access) → object_fault octets value access ≡ None
+pub faultless : (octets : List ℕ) (value : ObjectValue) (access : ManagerAccess) → object_fault octets value access ≡ None
     → IsFaultless octets value access
 faultless octets value access h =
     let parts = tests (is_name octets) (can_be_sent value) (fits access value) h in
     record { name = name_found octets parts.0; fit = parts.1 }
 
-pub held_for : (access : Access) (held : HeldValue) → fits access (held_value held) ≡ true → HasRoom (room_of access) held
+pub held_for : (access : ManagerAccess) (held : HeldValue) → fits access (held_value held) ≡ true → HasRoom (room_of access) held
     → IsHeldFor access held
 held_for accesses.ReadOnly held h room = tt
 held_for (accesses.Number least most) (kinds.Integer z) h room = tt

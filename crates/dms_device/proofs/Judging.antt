@@ -7,7 +7,7 @@ use Rattle.dms_wire.specs.Message.{VarBind}
 use Rattle.dms_wire.specs.declared.error_status.ErrorStatus.{ErrorStatus}
 use Rattle.dms_wire.specs.declared.error_status.ErrorStatus.TheVariants.{NoSuchName, BadValue, GenErr}
 use Rattle.dms_sign_access.specs.MetNames.{is_among}
-use Rattle.dms_device.specs.declared.access.Access.{Access}
+use Rattle.dms_device.specs.declared.access.ManagerAccess.{ManagerAccess}
 use Rattle.dms_device.specs.Object.{DeviceObject, admits}
 use Rattle.dms_device.specs.Objects.{has_name, rises}
 use Rattle.dms_device.specs.Setting.{is_written, refusal_at, refused_or, refusal_after, refusal_of}
@@ -16,12 +16,12 @@ use Rattle.dms_device.proofs.Found.{HasNameAt, found_there, none_found}
 -- ---- one binding
 
 -- the object of a binding's name, and what may be written to it
-pub record IsObjectOf (xs : List DeviceObject) (b : VarBind) (access : Access) : Type 0 where
+pub record IsObjectOf (xs : List DeviceObject) (b : VarBind) (access : ManagerAccess) : Type 0 where
   pub object : DeviceObject
   pub found : find (has_name b.name) xs ≡ Some object
   pub access_is : access ≡ object.access
 
-pub object_of : (xs : List DeviceObject) (b : VarBind) (access : Access) (k : ℕ) (x : DeviceObject) → rises xs ≡ true → k < length xs
+pub object_of : (xs : List DeviceObject) (b : VarBind) (access : ManagerAccess) (k : ℕ) (x : DeviceObject) → rises xs ≡ true → k < length xs
     → HasNameAt b.name xs k → x ≡ get_or xs k x → access ≡ x.access → IsObjectOf xs b access
 object_of xs b access k x r lt found at is = record {
   object = x;
@@ -34,21 +34,21 @@ pub no_object : (xs : List DeviceObject) (may_write : Bool) (before : List VarBi
 no_object xs true before b none = rw (none_found (has_name b.name) xs none) refl
 no_object xs false before b none = refl
 
-pub not_to_be_set : (xs : List DeviceObject) (may_write : Bool) (before : List VarBind) (b : VarBind) (access : Access) → IsObjectOf xs b access
+pub not_to_be_set : (xs : List DeviceObject) (may_write : Bool) (before : List VarBind) (b : VarBind) (access : ManagerAccess) → IsObjectOf xs b access
     → is_written access ≡ false → Some NoSuchName ≡ refusal_at xs may_write before b
 not_to_be_set xs true before b access is h = rw (is.found, ← is.access_is, h) refl
 not_to_be_set xs false before b access is h = refl
 
-pub not_admitted : (xs : List DeviceObject) (may_write : Bool) (before : List VarBind) (b : VarBind) (access : Access) → IsObjectOf xs b access
+pub not_admitted : (xs : List DeviceObject) (may_write : Bool) (before : List VarBind) (b : VarBind) (access : ManagerAccess) → IsObjectOf xs b access
     → may_write ≡ true → is_written access ≡ true → admits access b.value ≡ false → Some BadValue ≡ refusal_at xs may_write before b
 not_admitted xs may_write before b access is may h g = rw (may, is.found, ← is.access_is, h, g) refl
 
-pub given_before : (xs : List DeviceObject) (may_write : Bool) (before : List VarBind) (b : VarBind) (access : Access) → IsObjectOf xs b access
+pub given_before : (xs : List DeviceObject) (may_write : Bool) (before : List VarBind) (b : VarBind) (access : ManagerAccess) → IsObjectOf xs b access
     → may_write ≡ true → is_written access ≡ true → admits access b.value ≡ true → is_among b.name before ≡ true
     → Some GenErr ≡ refusal_at xs may_write before b
 given_before xs may_write before b access is may h g m = rw (may, is.found, ← is.access_is, h, g, m) refl
 
-pub not_refused : (xs : List DeviceObject) (may_write : Bool) (before : List VarBind) (b : VarBind) (access : Access) → IsObjectOf xs b access
+pub not_refused : (xs : List DeviceObject) (may_write : Bool) (before : List VarBind) (b : VarBind) (access : ManagerAccess) → IsObjectOf xs b access
     → may_write ≡ true → is_written access ≡ true → admits access b.value ≡ true → is_among b.name before ≡ false
     → None ≡ refusal_at xs may_write before b
 not_refused xs may_write before b access is may h g m = rw (may, is.found, ← is.access_is, h, g, m) refl

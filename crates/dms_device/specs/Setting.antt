@@ -7,9 +7,9 @@ use Rattle.dms_wire.specs.Message.{ObjectValue, VarBind}
 use Rattle.dms_wire.specs.declared.error_status.ErrorStatus.{ErrorStatus}
 use Rattle.dms_wire.specs.declared.error_status.ErrorStatus.TheVariants.{NoSuchName, BadValue, GenErr}
 use Rattle.dms_sign_access.specs.MetNames.{is_among}
-use Rattle.dms_device.specs.declared.access.Access.{Access}
-use Rattle.dms_device.specs.declared.access.Access.TheVariants.{ReadOnly, Number, Octets}
-use Rattle.dms_device.specs.declared.fault.Refusal.{Refusal}
+use Rattle.dms_device.specs.declared.access.ManagerAccess.{ManagerAccess}
+use Rattle.dms_device.specs.declared.access.ManagerAccess.TheVariants.{ReadOnly, Number, Octets}
+use Rattle.dms_device.specs.declared.fault.BindingFault.{BindingFault}
 use Rattle.dms_device.specs.Object.{DeviceObject, admits}
 use Rattle.dms_device.specs.Objects.{has_name, device_value}
 
@@ -26,7 +26,7 @@ are_all_named objects (binding ∷ more) = list_all (is_named objects) (binding 
 
 -- ---- what keeps a Set from writing
 
-abbrev pub is_written : Access → Bool
+abbrev pub is_written : ManagerAccess → Bool
 is_written ReadOnly = false
 is_written (Number least most) = true
 is_written (Octets least most) = true
@@ -52,11 +52,11 @@ refusal_at objects may_write before binding =
     else None
 
 -- a binding's refusal with its index, or what is found of those after it
-abbrev pub refused_or : ℕ → Option ErrorStatus → Option Refusal → Option Refusal
+abbrev pub refused_or : ℕ → Option ErrorStatus → Option BindingFault → Option BindingFault
 refused_or index (Some status) later = Some (record { index = index; status = status })
 refused_or index None later = later
 
-abbrev pub refusal_after : List DeviceObject → Bool → List VarBind → List VarBind → Option Refusal
+abbrev pub refusal_after : List DeviceObject → Bool → List VarBind → List VarBind → Option BindingFault
 refusal_after objects may_write before [] = None
 refusal_after objects may_write before (binding ∷ more) =
     refused_or (length before + 1) (refusal_at objects may_write before binding)
@@ -64,7 +64,7 @@ refusal_after objects may_write before (binding ∷ more) =
 
 -- why a Set is refused: the first binding that is, its index from 1 and an error status; each is judged on the objects
 -- before the Set
-abbrev pub refusal_of : List DeviceObject → Bool → List VarBind → Option Refusal
+abbrev pub refusal_of : List DeviceObject → Bool → List VarBind → Option BindingFault
 refusal_of objects may_write bindings = refusal_after objects may_write [] bindings
 
 -- ---- what a Set writes
@@ -82,6 +82,6 @@ written objects [] = objects
 written objects (binding ∷ more) = written (map (set_by_binding binding) objects) more
 
 -- all values at once, or none
-abbrev pub written_unless : List DeviceObject → List VarBind → Option Refusal → List DeviceObject
+abbrev pub written_unless : List DeviceObject → List VarBind → Option BindingFault → List DeviceObject
 written_unless objects bindings None = written objects bindings
 written_unless objects bindings (Some refusal) = objects

@@ -3,9 +3,9 @@ use Rattle.std.specs.Prelude.{ℕ, ◌≤◌, Option, Some, None, Result, Ok, Er
 use Rattle.dms_wire.specs.Message.{ObjectValue, integer, octet_string, null, object_identifier}
 use Rattle.dms_wire.specs.Message.{ip_address, counter, gauge, time_ticks, opaque}
 use Rattle.dms_wire.specs.declared.error_status.ErrorStatus.{ErrorStatus}
-use Rattle.dms_device.specs.declared.access.Access.{Access}
-use Rattle.dms_device.specs.declared.access.Access.TheVariants as accesses
-use Rattle.dms_device.specs.declared.fault.Refusal.{Refusal}
+use Rattle.dms_device.specs.declared.access.ManagerAccess.{ManagerAccess}
+use Rattle.dms_device.specs.declared.access.ManagerAccess.TheVariants as accesses
+use Rattle.dms_device.specs.declared.fault.BindingFault.{BindingFault}
 use Rattle.dms_device.specs.declared.held.HeldValue.{HeldValue}
 use Rattle.dms_device.specs.declared.held.HeldValue.TheVariants as kinds
 
@@ -21,7 +21,7 @@ held_value (kinds.Ticks n) = time_ticks n
 held_value (kinds.Opaque s) = opaque s.items
 
 -- how many octets a manager may write
-abbrev pub room_of : Access → ℕ
+abbrev pub room_of : ManagerAccess → ℕ
 room_of accesses.ReadOnly = 0
 room_of (accesses.Number least most) = 0
 room_of (accesses.Octets least most) = most
@@ -32,14 +32,14 @@ HasRoom room (kinds.Octets s) = room ≤ vec_capacity s
 HasRoom room _ = ⊤
 
 -- a value that may be written has its type, and room for the most octets
-abbrev pub IsHeldFor : Access → HeldValue → Type 0
+abbrev pub IsHeldFor : ManagerAccess → HeldValue → Type 0
 IsHeldFor accesses.ReadOnly value = ⊤
 IsHeldFor (accesses.Number least most) (kinds.Integer z) = ⊤
 IsHeldFor (accesses.Octets least most) (kinds.Octets s) = most ≤ vec_capacity s
 IsHeldFor _ _ = ⊥
 
 -- what a Set says: why it is refused, where it is
-abbrev pub refusal_in : Result (Unit {0}) Refusal → Option Refusal
+abbrev pub refusal_in : Result (Unit {0}) BindingFault → Option BindingFault
 refusal_in (Ok _) = None
 refusal_in (Err refusal) = Some refusal
 

@@ -10,7 +10,7 @@ use dms_wire::Value;
 
 /// What a manager may write to an object.
 #[derive(Clone, Copy, Debug, PartialEq, Eq)]
-pub enum Access {
+pub enum ManagerAccess {
     /// Nothing.
     ReadOnly,
     /// An INTEGER from `least` to `most`.
@@ -29,16 +29,16 @@ pub enum Access {
     },
 }
 
-impl Access {
+impl ManagerAccess {
     /// Whether a manager may write a value.
     pub fn admits(&self, value: &Value<'_>) -> bool
         ensures { result ≡ admits self.now (object_value value.now) }
     {
         match (self, value) {
-            (Access::Number { least, most }, Value::Integer(number)) => {
+            (ManagerAccess::Number { least, most }, Value::Integer(number)) => {
                 *least <= *number && *number <= *most
             }
-            (Access::Octets { least, most }, Value::Octets(octets)) => {
+            (ManagerAccess::Octets { least, most }, Value::Octets(octets)) => {
                 usize::from(*least) <= octets.len() && octets.len() <= usize::from(*most)
             }
             _ => false,
@@ -50,7 +50,7 @@ impl Access {
         ensures { result ≡ fits self.now (object_value value.now) }
     {
         match self {
-            Access::ReadOnly => true,
+            ManagerAccess::ReadOnly => true,
             _ => self.admits(value),
         }
     }
@@ -59,7 +59,7 @@ impl Access {
     pub fn is_written(&self) -> bool
         ensures { result ≡ is_written self.now }
     {
-        !matches!(self, Access::ReadOnly)
+        !matches!(self, ManagerAccess::ReadOnly)
     }
 
     /// How many octets a manager may write.
@@ -67,7 +67,7 @@ impl Access {
         ensures { result ≡ room_of self.now }
     {
         match self {
-            Access::Octets { most, .. } => usize::from(*most),
+            ManagerAccess::Octets { most, .. } => usize::from(*most),
             _ => 0,
         }
     }

@@ -11,8 +11,8 @@ ghost use Rattle.dms_device.specs.Setting.{are_all_named, refusal_of, written, w
 ghost use Rattle.dms_device.specs.Taken.{set_bindings, told, told_first};
 ghost use Rattle.dms_device.specs.View.{refusal_in};
 
-use crate::fault::Refusal;
-use crate::object::Object;
+use crate::fault::BindingFault;
+use crate::object::PublishedObject;
 use crate::places::{
     NO_PLACES, place_after, place_of, place_set, put_object, take_object, tell_object, tell_objects,
 };
@@ -26,7 +26,7 @@ use std::marker::Model;
 /// their names.
 #[derive(Drop)]
 pub struct Device {
-    objects: Vec<Object>,
+    objects: Vec<PublishedObject>,
 }
 
 impl Model for Device {
@@ -83,7 +83,7 @@ impl Device {
 
     /// Publishes an object, in place of the one that has its name: then also what a manager set is gone, and no memory
     /// is needed. Where there is none for an object of a new name, nothing changes.
-    pub fn publish(&mut self, object: Object) -> Result<(), AllocError>
+    pub fn publish(&mut self, object: PublishedObject) -> Result<(), AllocError>
         ensures done { OnOk result (self.new ≡ published self.old object) }
         ensures kept { OnErr result (self.new ≡ self.old) }
         ensures memory { OnErr result (list_any (has_name object.name) self.old ≡ false) }
@@ -100,7 +100,7 @@ impl Device {
     }
 
     /// Does a manager's Set, or says why it is refused: then nothing changes. It takes no memory.
-    pub fn set(&mut self, may_write: bool, binds: &Binds<'_>) -> Result<(), Refusal>
+    pub fn set(&mut self, may_write: bool, binds: &Binds<'_>) -> Result<(), BindingFault>
         requires { length binds.now ≤ most_bindings }
         ensures refusal { refusal_in result ≡ refusal_of self.old may_write binds.now }
         ensures written { self.new ≡ written_unless self.old binds.now (refusal_of self.old may_write binds.now) }
@@ -112,7 +112,11 @@ impl Device {
 
     /// Does a manager's Set as `set` does it, where its names are all those of objects that are here, and there is one.
     /// Any other Set is not the device's, and nothing changes. Each name is looked up once.
-    pub fn set_own(&mut self, may_write: bool, binds: &Binds<'_>) -> Option<Result<(), Refusal>>
+    pub fn set_own(
+        &mut self,
+        may_write: bool,
+        binds: &Binds<'_>,
+    ) -> Option<Result<(), BindingFault>>
         requires { length binds.now ≤ most_bindings }
         ensures own { is_some result ≡ are_all_named self.old binds.now }
         ensures refusal { IfSome result (λ done. refusal_in done ≡ refusal_of self.old may_write binds.now) }
@@ -130,7 +134,7 @@ impl Device {
 
     /// Puts values back that a manager set before: each object has the value of the last of these with its name that
     /// it takes, as one that a manager set and of which firmware was not told. Others are left out. It takes no memory.
-    pub fn put_back(&mut self, values: &[Object])
+    pub fn put_back(&mut self, values: &[PublishedObject])
         ensures { self.new ≡ written self.old (map binding_of values.now) }
     {
         put_values(&mut self.objects, values);
@@ -167,7 +171,7 @@ impl Device {
     }
 
     /// The objects, in the order of their names.
-    pub fn objects(&self) -> &[Object]
+    pub fn objects(&self) -> &[PublishedObject]
         ensures { result.now ≡ self.now }
     {
         self.objects.as_slice()

@@ -17,7 +17,7 @@ pub enum ObjectFault {
 
 /// Why a Set is refused: the index of a binding, from 1, and what is wrong with it.
 #[derive(Clone, Copy, Debug, PartialEq, Eq)]
-pub struct Refusal {
+pub struct BindingFault {
     /// The index of the binding, from 1.
     pub index: u32,
     /// noSuchName, badValue or genErr.

@@ -4,8 +4,8 @@
 //!
 //! ```
 //! let mut device = Device::new(alloc);
-//! let level = Access::Number { least: 0, most: 15 };
-//! device.publish(Object::new(alloc, name.content(), &Value::Integer(7), level)?)?;
+//! let level = ManagerAccess::Number { least: 0, most: 15 };
+//! device.publish(PublishedObject::new(alloc, name.content(), &Value::Integer(7), level)?)?;
 //! assert!(rt; device.value(&name) == Some(Value::Integer(7)));
 //! device.set(true, &message.binds)?;
 //! ```
@@ -20,7 +20,7 @@ mod object;
 mod places;
 mod setting;
 
-pub use access::Access;
+pub use access::ManagerAccess;
 pub use device::Device;
-pub use fault::{ObjectFault, Refusal};
-pub use object::Object;
+pub use fault::{BindingFault, ObjectFault};
+pub use object::PublishedObject;

@@ -8,7 +8,7 @@ ghost use Rattle.dms_device.specs.Setting.{set_to};
 ghost use Rattle.dms_device.specs.Objects.{has_name, comes_after};
 ghost use Rattle.dms_device.specs.Taken.{told};
 
-use crate::access::Access;
+use crate::access::ManagerAccess;
 use crate::fault::ObjectFault;
 use crate::held::{HeldName, HeldValue, hold};
 use crate::names::is_before;
@@ -19,17 +19,17 @@ use std::marker::Model;
 
 /// An object: its name, what it reads, and what a manager may write to it. It has room for all of that.
 #[derive(Drop)]
-pub struct Object {
+pub struct PublishedObject {
     name: HeldName,
     value: HeldValue,
-    access: Access,
+    access: ManagerAccess,
     /// A manager set it, and firmware was not told yet.
     is_set: bool,
     /// Its value is one that a manager set.
     by_manager: bool,
 }
 
-impl Model for Object {
+impl Model for PublishedObject {
     ghost use Rattle.dms_device.specs.Object.{DeviceObject};
     ghost use Rattle.dms_device.specs.View.{held_value, IsHeldFor};
 
@@ -46,15 +46,15 @@ impl Model for Object {
     ghost invariant = { λ a. IsHeldFor a.access a.value };
 }
 
-impl Object {
+impl PublishedObject {
     /// The object with this name, of which these are the content octets (X.690, 8.19), or the first thing that is
     /// wrong; it runs out of memory only where nothing is.
     pub fn new(
         alloc: Global,
         name: &[u8],
         value: &Value<'_>,
-        access: Access,
-    ) -> Result<Object, ObjectFault>
+        access: ManagerAccess,
+    ) -> Result<PublishedObject, ObjectFault>
         ensures made { IfOk result (λ object. object ≡ new_object name.now (object_value value.now) access) }
         ensures faultless { OnOk result (object_fault name.now (object_value value.now) access ≡ None) }
         ensures fault { IfErr result (IsFirstFault (object_fault name.now (object_value value.now) access)) }
@@ -62,7 +62,7 @@ impl Object {
         if let Some(fault) = fault_of(name, value, &access) {
             return Err(fault);
         }
-        match Object::held(alloc, name, value, access) {
+        match PublishedObject::held(alloc, name, value, access) {
             Ok(object) => Ok(object),
             Err(_) => Err(ObjectFault::OutOfMemory),
         }
@@ -72,14 +72,14 @@ impl Object {
         alloc: Global,
         name: &[u8],
         value: &Value<'_>,
-        access: Access,
-    ) -> Result<Object, AllocError>
+        access: ManagerAccess,
+    ) -> Result<PublishedObject, AllocError>
         requires { object_fault name.now (object_value value.now) access ≡ None }
         ensures { IfOk result (λ object. object ≡ new_object name.now (object_value value.now) access) }
     {
         let name = HeldName::held(alloc, name)?;
         let value = HeldValue::held(alloc, value, access.room())?;
-        Ok(Object {
+        Ok(PublishedObject {
             name,
             value,
             access,
@@ -103,7 +103,7 @@ impl Object {
     }
 
     /// What a manager may write to it.
-    pub fn access(&self) -> Access
+    pub fn access(&self) -> ManagerAccess
         ensures { result ≡ self.now.access }
     {
         self.access
@@ -156,7 +156,7 @@ impl Object {
 }
 
 /// The first thing that is wrong with an object.
-fn fault_of(name: &[u8], value: &Value<'_>, access: &Access) -> Option<ObjectFault>
+fn fault_of(name: &[u8], value: &Value<'_>, access: &ManagerAccess) -> Option<ObjectFault>
     ensures { result ≡ object_fault name.now (object_value value.now) access.now }
 {
     if !is_name(name) {
@@ -182,7 +182,7 @@ fn can_be_sent(value: &Value<'_>) -> bool
 }
 
 /// Assigns a value that a manager may write.
-fn assign(held: &mut HeldValue, access: &Access, value: &Value<'_>)
+fn assign(held: &mut HeldValue, access: &ManagerAccess, value: &Value<'_>)
     requires admitted { admits access.now (object_value value.now) ≡ true }
     requires kind { IsHeldFor access.now held.old }
     ensures value { held_value held.new ≡ object_value value.now }

@@ -8,7 +8,7 @@ ghost use Rattle.dms_device.specs.Publishing.{published, withdrawn};
 ghost use Rattle.dms_device.specs.Setting.{set_by_binding};
 ghost use Rattle.dms_device.specs.Taken.{was_set, told, told_first};
 
-use crate::object::Object;
+use crate::object::PublishedObject;
 use dms_wire::{Bind, Oid};
 use std::alloc::AllocError;
 
@@ -22,7 +22,7 @@ pub(crate) type Places = [u32; PLACES];
 pub(crate) const NO_PLACES: Places = [0; PLACES];
 
 /// The place of the first object that comes after a name, or how many there are.
-pub(crate) fn place_after(objects: &[Object], name: &Oid<'_>) -> usize
+pub(crate) fn place_after(objects: &[PublishedObject], name: &Oid<'_>) -> usize
     requires { rises objects.now ≡ true }
     ensures place { result ≡ position_or_len (comes_after name.now) objects.now }
     ensures few { result ≤ length objects.now }
@@ -42,7 +42,7 @@ pub(crate) fn place_after(objects: &[Object], name: &Oid<'_>) -> usize
 }
 
 /// The place of the object that has a name, or else the place where it would stand.
-pub(crate) fn place_of(objects: &[Object], name: &Oid<'_>) -> Result<usize, usize>
+pub(crate) fn place_of(objects: &[PublishedObject], name: &Oid<'_>) -> Result<usize, usize>
     requires { rises objects.now ≡ true }
     ensures within { IfOk result (λ place. place < length objects.now) }
     ensures found { IfOk result (HoldsAt (λ object. has_name name.now object ≡ true) objects.now) }
@@ -63,7 +63,11 @@ pub(crate) fn place_of(objects: &[Object], name: &Oid<'_>) -> Result<usize, usiz
 }
 
 /// The same, where the object may well stand at a place: there it is looked for first.
-pub(crate) fn place_near(objects: &[Object], name: &Oid<'_>, near: usize) -> Result<usize, usize>
+pub(crate) fn place_near(
+    objects: &[PublishedObject],
+    name: &Oid<'_>,
+    near: usize,
+) -> Result<usize, usize>
     requires { rises objects.now ≡ true }
     ensures within { IfOk result (λ place. place < length objects.now) }
     ensures found { IfOk result (HoldsAt (λ object. has_name name.now object ≡ true) objects.now) }
@@ -79,7 +83,10 @@ pub(crate) fn place_near(objects: &[Object], name: &Oid<'_>, near: usize) -> Res
 }
 
 /// Puts an object into its place, in place of the one that has its name.
-pub(crate) fn put_object(objects: &mut Vec<Object>, object: Object) -> Result<(), AllocError>
+pub(crate) fn put_object(
+    objects: &mut Vec<PublishedObject>,
+    object: PublishedObject,
+) -> Result<(), AllocError>
     requires { rises objects.old.items ≡ true }
     ensures done { OnOk result (objects.new.items ≡ published objects.old.items object) }
     ensures kept { OnErr result (objects.new.items ≡ objects.old.items) }
@@ -99,7 +106,7 @@ pub(crate) fn put_object(objects: &mut Vec<Object>, object: Object) -> Result<()
 }
 
 /// Takes the object of a name away, where there is one.
-pub(crate) fn take_object(objects: &mut Vec<Object>, name: &Oid<'_>) -> bool
+pub(crate) fn take_object(objects: &mut Vec<PublishedObject>, name: &Oid<'_>) -> bool
     requires { rises objects.old.items ≡ true }
     ensures done { objects.new.items ≡ withdrawn objects.old.items name.now }
     ensures found { result ≡ list_any (has_name name.now) objects.old.items }
@@ -115,7 +122,7 @@ pub(crate) fn take_object(objects: &mut Vec<Object>, name: &Oid<'_>) -> bool
 }
 
 /// Sets the object of a binding's name to its value, where it takes it. The object may well stand at a place.
-pub(crate) fn set_object(objects: &mut Vec<Object>, binding: &Bind<'_>, near: usize)
+pub(crate) fn set_object(objects: &mut Vec<PublishedObject>, binding: &Bind<'_>, near: usize)
     requires { rises objects.old.items ≡ true }
     ensures done { objects.new.items ≡ map (set_by_binding (var_bind binding.now)) objects.old.items }
     ensures rises { rises objects.new.items ≡ true }
@@ -127,7 +134,7 @@ pub(crate) fn set_object(objects: &mut Vec<Object>, binding: &Bind<'_>, near: us
 }
 
 /// The place of the first object that was set, or how many there are.
-pub(crate) fn place_set(objects: &[Object]) -> usize
+pub(crate) fn place_set(objects: &[PublishedObject]) -> usize
     ensures place { result ≡ position_or_len was_set objects.now }
     ensures few { result ≤ length objects.now }
 {
@@ -140,7 +147,7 @@ pub(crate) fn place_set(objects: &[Object]) -> usize
 }
 
 /// Notes that firmware was told of the first object that was set, where there is one.
-pub(crate) fn tell_object(objects: &mut Vec<Object>)
+pub(crate) fn tell_object(objects: &mut Vec<PublishedObject>)
     requires { rises objects.old.items ≡ true }
     ensures done { objects.new.items ≡ told_first objects.old.items }
     ensures rises { rises objects.new.items ≡ true }
@@ -154,7 +161,7 @@ pub(crate) fn tell_object(objects: &mut Vec<Object>)
 
 /// Notes that firmware was told of all objects.
 #[tactic(auto, using(crate::proofs::Telling::all_told))]
-pub(crate) fn tell_objects(objects: &mut Vec<Object>)
+pub(crate) fn tell_objects(objects: &mut Vec<PublishedObject>)
     requires { rises objects.old.items ≡ true }
     ensures done { objects.new.items ≡ map told objects.old.items }
     ensures rises { rises objects.new.items ≡ true }
@@ -162,13 +169,13 @@ pub(crate) fn tell_objects(objects: &mut Vec<Object>)
     tell_all_of(objects);
 }
 
-fn tell_all_of(objects: &mut Vec<Object>)
+fn tell_all_of(objects: &mut Vec<PublishedObject>)
     ensures { objects.new.items ≡ map told objects.old.items }
 {
     tell_each(objects.as_mut_slice());
 }
 
-fn tell_each(objects: &mut [Object])
+fn tell_each(objects: &mut [PublishedObject])
     ensures { objects.new ≡ map told objects.old }
 {
     for object in objects.iter_mut() {

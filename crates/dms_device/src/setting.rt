@@ -10,14 +10,18 @@ ghost use Rattle.dms_device.specs.Setting.{is_named, are_all_named, refusal_at, 
 ghost use Rattle.dms_device.specs.Setting.{set_by_binding, written};
 ghost use Rattle.dms_device.specs.View.{refusal_in, status_in};
 
-use crate::fault::Refusal;
-use crate::object::Object;
+use crate::fault::BindingFault;
+use crate::object::PublishedObject;
 use crate::places::{PLACES, Places, place_of, set_object};
 use dms_sign_access::{Slots, mark_name, was_given};
 use dms_wire::{Bind, Binds, ErrorStatus};
 
 /// Why a Set is refused, where it is.
-pub(crate) fn judged(objects: &[Object], may_write: bool, binds: &Binds<'_>) -> Result<(), Refusal>
+pub(crate) fn judged(
+    objects: &[PublishedObject],
+    may_write: bool,
+    binds: &Binds<'_>,
+) -> Result<(), BindingFault>
     requires rises { rises objects.now ≡ true }
     requires few { length binds.now ≤ most_bindings }
     ensures { refusal_in result ≡ refusal_of objects.now may_write binds.now }
@@ -29,7 +33,7 @@ pub(crate) fn judged(objects: &[Object], may_write: bool, binds: &Binds<'_>) -> 
         let checked = judged_at(objects, may_write, binds, index, &slots, &binding);
         index += 1;
         if let Err(status) = checked {
-            return Err(Refusal { index, status });
+            return Err(BindingFault { index, status });
         }
         mark_name(&mut slots, &binding.name);
     }
@@ -39,11 +43,11 @@ pub(crate) fn judged(objects: &[Object], may_write: bool, binds: &Binds<'_>) -> 
 /// Why a Set is refused, where it is; nothing, where its names are not all those of objects, or it has none. `places`
 /// has where the objects stand, as long as no binding is refused.
 pub(crate) fn judged_own(
-    objects: &[Object],
+    objects: &[PublishedObject],
     may_write: bool,
     binds: &Binds<'_>,
     places: &mut Places,
-) -> Option<Result<(), Refusal>>
+) -> Option<Result<(), BindingFault>>
     requires rises { rises objects.now ≡ true }
     requires few { length binds.now ≤ most_bindings }
     ensures own { is_some result ≡ are_all_named objects.now binds.now }
@@ -61,7 +65,7 @@ pub(crate) fn judged_own(
         index += 1;
         if let Err(status) = checked {
             return if are_named(objects, rest) {
-                Some(Err(Refusal { index, status }))
+                Some(Err(BindingFault { index, status }))
             } else {
                 None
             };
@@ -72,7 +76,7 @@ pub(crate) fn judged_own(
 }
 
 /// Whether each name is that of an object.
-fn are_named(objects: &[Object], binds: Binds<'_>) -> bool
+fn are_named(objects: &[PublishedObject], binds: Binds<'_>) -> bool
     requires { rises objects.now ≡ true }
     ensures { result ≡ list_all (is_named objects.now) binds.entry }
 {
@@ -88,7 +92,7 @@ fn are_named(objects: &[Object], binds: Binds<'_>) -> bool
 
 /// The first thing that is wrong with the binding after the first `index` bindings.
 fn judged_at(
-    objects: &[Object],
+    objects: &[PublishedObject],
     may_write: bool,
     before: &Binds<'_>,
     index: u32,
@@ -107,7 +111,7 @@ fn judged_at(
 
 /// The same, where the object of the binding's name stands at a place.
 fn judged_there(
-    objects: &[Object],
+    objects: &[PublishedObject],
     place: usize,
     may_write: bool,
     before: &Binds<'_>,
@@ -138,7 +142,7 @@ fn judged_there(
 }
 
 /// Sets each binding's object to its value. The objects may well stand at these places.
-pub(crate) fn set_objects(objects: &mut Vec<Object>, binds: &Binds<'_>, places: &Places)
+pub(crate) fn set_objects(objects: &mut Vec<PublishedObject>, binds: &Binds<'_>, places: &Places)
     requires { rises objects.old.items ≡ true }
     ensures done { objects.new.items ≡ written objects.old.items binds.now }
     ensures rises { rises objects.new.items ≡ true }
@@ -153,7 +157,7 @@ pub(crate) fn set_objects(objects: &mut Vec<Object>, binds: &Binds<'_>, places: 
 
 /// Sets each object to the value of the one of these that has its name, one after the other, where it takes it.
 #[tactic(auto, using(crate::proofs::PutBack::values))]
-pub(crate) fn put_values(objects: &mut Vec<Object>, values: &[Object])
+pub(crate) fn put_values(objects: &mut Vec<PublishedObject>, values: &[PublishedObject])
     requires { rises objects.old.items ≡ true }
     ensures done { objects.new.items ≡ written objects.old.items (map binding_of values.now) }
     ensures rises { rises objects.new.items ≡ true }
@@ -166,7 +170,7 @@ pub(crate) fn put_values(objects: &mut Vec<Object>, values: &[Object])
 }
 
 /// Sets the object of this one's name to its value, where it takes it.
-fn put_value(objects: &mut Vec<Object>, value: &Object)
+fn put_value(objects: &mut Vec<PublishedObject>, value: &PublishedObject)
     requires { rises objects.old.items ≡ true }
     ensures done { objects.new.items ≡ map (set_by_binding (binding_of value.now)) objects.old.items }
     ensures rises { rises objects.new.items ≡ true }

@@ -1,6 +1,6 @@
 //! Objects that are published, read, walked, set and told; and what is refused.
 
-use dms_device::{Access, Device, Object, ObjectFault, Refusal};
+use dms_device::{BindingFault, Device, ManagerAccess, ObjectFault, PublishedObject};
 use dms_mib_replies::Objects;
 use dms_wire::laws::few_bindings;
 use dms_wire::{Bind, ErrorStatus, Kind, MessageParts, Oid, Out, Value, read, write};
@@ -18,10 +18,10 @@ static CONTACT: [u8; 8] = [43, 6, 1, 2, 1, 1, 4, 0];
 static LEVEL: [u8; 13] = [43, 6, 1, 4, 1, 137, 54, 4, 2, 3, 7, 6, 0];
 
 /// A level from 0 to 15.
-const LEVELS: Access = Access::Number { least: 0, most: 15 };
+const LEVELS: ManagerAccess = ManagerAccess::Number { least: 0, most: 15 };
 
 /// A text of at most 8 octets.
-const TEXTS: Access = Access::Octets { least: 0, most: 8 };
+const TEXTS: ManagerAccess = ManagerAccess::Octets { least: 0, most: 8 };
 
 fn named(content: &[u8]) -> Result<Oid<'_>, &'static str> {
     name_of(content).ok_or("no name")
@@ -32,9 +32,9 @@ fn publish(
     alloc: Global,
     name: &[u8],
     value: &Value<'_>,
-    access: Access,
+    access: ManagerAccess,
 ) -> Result<(), ObjectFault> {
-    let object = Object::new(alloc, name, value, access)?;
+    let object = PublishedObject::new(alloc, name, value, access)?;
     match device.publish(object) {
         Ok(()) => Ok(()),
         Err(_) => Err(ObjectFault::OutOfMemory),
@@ -47,7 +47,13 @@ fn device(alloc: Global) -> Result<Device, ObjectFault> {
     publish(&mut device, alloc, &LEVEL, &Value::Integer(7), LEVELS)?;
     publish(&mut device, alloc, &CONTACT, &Value::Octets(b"noc"), TEXTS)?;
     let text = Value::Octets(b"a sign");
-    publish(&mut device, alloc, &DESCRIPTION, &text, Access::ReadOnly)?;
+    publish(
+        &mut device,
+        alloc,
+        &DESCRIPTION,
+        &text,
+        ManagerAccess::ReadOnly,
+    )?;
     Ok(device)
 }
 
@@ -79,7 +85,7 @@ fn set(
     device: &mut Device,
     may_write: bool,
     binds: &[Bind<'_>],
-) -> Result<Result<(), Refusal>, &'static str> {
+) -> Result<Result<(), BindingFault>, &'static str> {
     let mut request = Out::new();
     put_request(&mut request, binds)?;
     match read(request.as_slice()) {
@@ -96,7 +102,7 @@ fn set_own(
     device: &mut Device,
     may_write: bool,
     binds: &[Bind<'_>],
-) -> Result<Option<Result<(), Refusal>>, &'static str> {
+) -> Result<Option<Result<(), BindingFault>>, &'static str> {
     let mut request = Out::new();
     put_request(&mut request, binds)?;
     match read(request.as_slice()) {
@@ -174,7 +180,7 @@ fn a_refused_set_changes_nothing(rt: HostRuntime) -> Result<(), Fail> {
     ] {
         let binding = bind(name, Value::Integer(number))?;
         let found = set(&mut device, may_write, &[binding])?;
-        assert_eq!(rt; found, Err(Refusal { index: 1, status }));
+        assert_eq!(rt; found, Err(BindingFault { index: 1, status }));
     }
     let twice = [
         bind(&LEVEL, Value::Integer(3))?,
@@ -183,7 +189,7 @@ fn a_refused_set_changes_nothing(rt: HostRuntime) -> Result<(), Fail> {
     let status = ErrorStatus::GenErr;
     assert_eq!(rt;
         set(&mut device, true, &twice)?,
-        Err(Refusal { index: 2, status })
+        Err(BindingFault { index: 2, status })
     );
     assert!(rt; device.value(&named(&LEVEL)?) == Some(Value::Integer(7)));
     assert!(rt; device.first_set().is_none());
@@ -249,7 +255,7 @@ fn a_refused_set_of_its_own_names_changes_nothing(rt: HostRuntime) -> Result<(),
             bind(name, Value::Integer(number))?,
         ];
         let found = set_own(&mut device, may_write, &both)?;
-        assert_eq!(rt; found, Some(Err(Refusal { index, status })));
+        assert_eq!(rt; found, Some(Err(BindingFault { index, status })));
         assert!(rt; is_untouched(&device)?);
     }
     Ok(())
@@ -302,7 +308,7 @@ fn an_object_without_sense_is_refused(rt: HostRuntime) -> Result<(), Fail> {
         ),
         (CONTACT.as_slice(), long, TEXTS, ObjectFault::Unfit),
     ] {
-        match Object::new(rt.alloc(), name, &value, access) {
+        match PublishedObject::new(rt.alloc(), name, &value, access) {
             Ok(_) => return Err("an object")?,
             Err(found) => assert_eq!(rt; found, fault),
         }
@@ -325,12 +331,12 @@ fn each_type_of_value_is_read(rt: HostRuntime) -> Result<(), Fail> {
         Value::Ticks(9),
         Value::Opaque(b"def"),
     ] {
-        let object = match Object::new(alloc, &CONTACT, &value, Access::ReadOnly) {
+        let object = match PublishedObject::new(alloc, &CONTACT, &value, ManagerAccess::ReadOnly) {
             Ok(object) => object,
             Err(_) => return Err("no object")?,
         };
         assert!(rt; object.value() == value && object.name() == named(&CONTACT)?);
-        assert!(rt; object.access() == Access::ReadOnly);
+        assert!(rt; object.access() == ManagerAccess::ReadOnly);
     }
     Ok(())
 }

@@ -2,12 +2,12 @@
 
 use crate::sign::{sign_of, step};
 use dms_agent::Agent;
-use dms_device::{Access, Object};
+use dms_device::{ManagerAccess, PublishedObject};
 use dms_wire::{MAX_DATAGRAM, Oid, Out, Value};
 use std::alloc::Global;
 
 /// What a manager may write to each object.
-const LEVELS: Access = Access::Number {
+const LEVELS: ManagerAccess = ManagerAccess::Number {
     least: 0,
     most: 255,
 };
@@ -15,7 +15,7 @@ const LEVELS: Access = Access::Number {
 /// Publishes an object that reads this number. The octets are its name's content. It answers whether that was done.
 pub(crate) fn publish(alloc: Global, agent: &mut Agent, name: &[u8], number: u8) -> bool {
     let value = Value::Integer(i64::from(number));
-    match Object::new(alloc, name, &value, LEVELS) {
+    match PublishedObject::new(alloc, name, &value, LEVELS) {
         Ok(object) => agent.publish(object).is_ok(),
         Err(_) => false,
     }

@@ -11,7 +11,7 @@ use arrayvec::ArrayVec;
 use dms_agent::Agent;
 use dms_centre::{Centre, Ended};
 use dms_codes::Order;
-use dms_device::Object;
+use dms_device::PublishedObject;
 use dms_face::{Cell, check};
 use dms_face_pages::{Page, pages};
 use dms_multi::Lead;
@@ -236,7 +236,7 @@ fn objects_noted(before: u64, agent: &Agent) -> u64 {
 }
 
 /// With an object's name, its value, and whether a manager set it.
-fn object_noted(before: u64, object: &Object) -> u64 {
+fn object_noted(before: u64, object: &PublishedObject) -> u64 {
     let sum = octets_noted(before, object.name().content());
     noted(
         value_noted(sum, &object.value()),

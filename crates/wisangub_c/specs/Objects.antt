@@ -3,7 +3,7 @@ use Rattle.std.specs.Prelude.{ℕ, ◌==◌, ◌&&◌, Bool, false, if◌then◌
 use Rattle.std.specs.Prelude.{Option, Some, None, is_some, is_none}
 use Rattle.dms_wire_ber.specs.ObjectIdentifier.{name_octets}
 use Rattle.dms_wire.specs.Message.{ObjectValue, VarBind}
-use Rattle.dms_device.specs.declared.access.Access.{Access}
+use Rattle.dms_device.specs.declared.access.ManagerAccess.{ManagerAccess}
 use Rattle.dms_device.specs.Object.{DeviceObject, object_fault, new_object}
 use Rattle.dms_device.specs.Objects.{device_value}
 use Rattle.dms_device.specs.Publishing.{published, withdrawn}
@@ -27,7 +27,7 @@ abbrev pub is_free : Agent → List ℕ → Bool
 is_free a octets = is_free_name a (name_given octets)
 
 -- the object with this name, value and access, where nothing is wrong with it
-abbrev pub object_given : List ℕ → Option ObjectValue → Option Access → Option DeviceObject
+abbrev pub object_given : List ℕ → Option ObjectValue → Option ManagerAccess → Option DeviceObject
 object_given octets (Some value) (Some access) =
     if is_none (object_fault octets value access) then Some (new_object octets value access) else None
 object_given octets (Some value) None = None

@@ -14,7 +14,7 @@ ghost use Rattle.wisangub_c.specs.Objects.{taken_octets, taken_parts, after_take
 
 use dms_agent::{Agent, PublishFault};
 use dms_agent_watched::Watched;
-use dms_device::{Access, Device, Object, ObjectFault};
+use dms_device::{Device, ManagerAccess, ObjectFault, PublishedObject};
 use dms_mib_replies::Objects;
 use dms_wire::{Bind, Value};
 use std::alloc::Global;
@@ -47,8 +47,8 @@ fn made(
     alloc: Global,
     name: &[u8],
     value: Option<Value<'_>>,
-    access: Option<Access>,
-) -> Result<Object, NoObject>
+    access: Option<ManagerAccess>,
+) -> Result<PublishedObject, NoObject>
     ensures made { IfOk result (λ object.
         object_given name.now (option_map object_value value.entry) access ≡ Some object) }
     ensures wrong { IfErr result (λ fault. fault ≡ NoObject.Wrong
@@ -62,7 +62,7 @@ fn made(
     let Some(access) = access else {
         return Err(NoObject::Wrong);
     };
-    match Object::new(alloc, name, &value, access) {
+    match PublishedObject::new(alloc, name, &value, access) {
         Ok(object) => Ok(object),
         Err(ObjectFault::OutOfMemory) => Err(NoObject::Memory),
         Err(_) => Err(NoObject::Wrong),
@@ -70,7 +70,7 @@ fn made(
 }
 
 /// Publishes an object, unless its name is the sign's.
-fn published(sign: &mut Watched, object: Object) -> u32
+fn published(sign: &mut Watched, object: PublishedObject) -> u32
     ensures answer { result ≡ unless_memory result no_memory
         (if is_some (own_value sign.old.agent object.name) then at_fault else done) }
     ensures after { sign.new ≡ record sign.old {
@@ -92,7 +92,7 @@ fn publish(
     sign: &mut Watched,
     name: &[u8],
     value: Option<Value<'_>>,
-    access: Option<Access>,
+    access: Option<ManagerAccess>,
 ) -> u32
     ensures answer { result ≡ unless_memory result no_memory (publish_answer sign.old.agent name.now
         (object_given name.now (option_map object_value value.entry) access)) }

@@ -5,8 +5,8 @@ use Rattle.dms_wire_ber.specs.NameReading.{is_name, numbers_of}
 use Rattle.dms_wire_ber.specs.ObjectIdentifier.{name_octets}
 use Rattle.dms_wire.specs.Message.{ObjectValue, integer, octet_string, null, object_identifier}
 use Rattle.dms_wire.specs.Message.{ip_address, counter, gauge, time_ticks, opaque}
-use Rattle.dms_device.specs.declared.access.Access.{Access}
-use Rattle.dms_device.specs.declared.access.Access.TheVariants.{ReadOnly, Number, Octets}
+use Rattle.dms_device.specs.declared.access.ManagerAccess.{ManagerAccess}
+use Rattle.dms_device.specs.declared.access.ManagerAccess.TheVariants.{ReadOnly, Number, Octets}
 use Rattle.wisangub_c_values.specs.declared.object_values.ValueParts.{ValueParts}
 use Rattle.wisangub_c_values.specs.declared.object_values.AccessParts.{AccessParts}
 
@@ -59,13 +59,13 @@ value_given parts octets =
 abbrev pub size_given : ℤ → Option ℕ
 size_given number = natural_below (2 ^ 16) number
 
-abbrev pub sizes_given : Option ℕ → Option ℕ → Option Access
+abbrev pub sizes_given : Option ℕ → Option ℕ → Option ManagerAccess
 sizes_given (Some least) (Some most) = Some (Octets least most)
 sizes_given (Some least) None = None
 sizes_given None most = None
 
 -- what a manager may write: at 0 nothing, at 1 a number, at 2 octets
-abbrev pub access_given : AccessParts → Option Access
+abbrev pub access_given : AccessParts → Option ManagerAccess
 access_given parts =
     if parts.kind == 0 then Some ReadOnly
     else if parts.kind == 1 then Some (Number parts.least parts.most)

@@ -6,7 +6,7 @@ ghost use Rattle.wisangub_c_values.specs.ObjectValues.{natural_given, name_given
 ghost use Rattle.wisangub_c_values.specs.ObjectValues.{octets_given, number_given, value_given, size_given};
 ghost use Rattle.wisangub_c_values.specs.ObjectValues.{access_given, kind_of, number_of, octets_of, parts_of};
 
-use dms_device::Access;
+use dms_device::ManagerAccess;
 use dms_wire::{Oid, Value};
 use dms_wire_ber::name_of;
 
@@ -104,16 +104,16 @@ fn size_given(number: i64) -> Option<u16>
 }
 
 /// What a manager may write.
-pub fn access_given(parts: &AccessParts) -> Option<Access>
+pub fn access_given(parts: &AccessParts) -> Option<ManagerAccess>
     ensures { result ≡ access_given parts.now }
 {
     match parts.kind {
-        0 => Some(Access::ReadOnly),
-        1 => Some(Access::Number {
+        0 => Some(ManagerAccess::ReadOnly),
+        1 => Some(ManagerAccess::Number {
             least: parts.least,
             most: parts.most,
         }),
-        2 => Some(Access::Octets {
+        2 => Some(ManagerAccess::Octets {
             least: size_given(parts.least)?,
             most: size_given(parts.most)?,
         }),

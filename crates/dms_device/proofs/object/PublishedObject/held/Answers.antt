@@ -3,7 +3,7 @@ use Rattle.dms_wire.specs.View.{object_value}
 use Rattle.dms_device.specs.Object.{fits}
 use Rattle.dms_device.specs.View.{HasRoom}
 use Rattle.dms_device.proofs.Faultless.{faultless, held_for}
-use Rattle.dms_device.proofs.object.Object.held.Goals as goal
+use Rattle.dms_device.proofs.object.PublishedObject.held.Goals as goal
 
 pub held-requires : goal.held-requires
 held-requires c = (faultless c.args.name.now (object_value c.args.value.now) c.args.access c.requires).name
