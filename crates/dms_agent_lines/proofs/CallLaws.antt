@@ -24,8 +24,8 @@ use Rattle.dms_agent_lines.specs.AgentReading.{number_access_at, octets_access_a
 use Rattle.dms_agent_lines.specs.AgentForm.{words_cause, call_cause, bad_line_text}
 use Rattle.dms_agent_lines.specs.AgentAnswer.{answer_text, after_line, call_text, after_call, text_without, after_without, text_if, after_if}
 use Rattle.dms_agent_state.specs.ObjectFields.{SpellsName}
-use Rattle.dms_agent_lines.specs.declared.cause.CallCause.{CallCause}
-use Rattle.dms_agent_lines.specs.declared.cause.CallCause.TheVariants as causes
+use Rattle.dms_agent_lines.specs.declared.cause.AgentCallCause.{AgentCallCause}
+use Rattle.dms_agent_lines.specs.declared.cause.AgentCallCause.TheVariants as causes
 use Rattle.dms_agent_lines.specs.declared.keywords.AgentKeyword.{AgentKeyword}
 use Rattle.dms_agent_lines.specs.declared.keywords.AgentKeyword.TheVariants as key
 use Rattle.dms_agent_state.proofs.ObjectWordLaws.{name_found, name_only, name_some, integer_found, integer_only}
@@ -269,14 +269,14 @@ not_own line e = by_word (word_at (words_of line)) e
     by_word None e = (refl, refl)
     by_word (Some found) e = (ap (λ keyword. keyword >>= (λ keyword. call_after keyword found.1)) e, ap (cause_after causes.Keyword words_cause found.1) e)
 
-own_text : (a : Agent) (line : List ℕ) (cause : CallCause) → (cause ≡ causes.Keyword → ⊥) → text_without a line cause ≡ bad_line_text cause
+own_text : (a : Agent) (line : List ℕ) (cause : AgentCallCause) → (cause ≡ causes.Keyword → ⊥) → text_without a line cause ≡ bad_line_text cause
 own_text a line causes.Keyword other = absurd (other refl)
 own_text a line causes.Name other = refl
 own_text a line causes.Value other = refl
 own_text a line causes.Access other = refl
 own_text a line (causes.Word fault) other = refl
 
-own_after : (a : Agent) (line : List ℕ) (cause : CallCause) → (cause ≡ causes.Keyword → ⊥) → after_without a line cause ≡ a
+own_after : (a : Agent) (line : List ℕ) (cause : AgentCallCause) → (cause ≡ causes.Keyword → ⊥) → after_without a line cause ≡ a
 own_after a line causes.Keyword other = absurd (other refl)
 own_after a line causes.Name other = refl
 own_after a line causes.Value other = refl
@@ -301,10 +301,10 @@ text_of_the_sign a line e = let is = not_own line e in text_by a line None is.0 
 pub after_the_sign : (a : Agent) (line : List ℕ) → keyword_in line ≡ None → after_line a line ≡ record a { sign = sign.after_line a.sign line }
 after_the_sign a line e = let is = not_own line e in after_by a line None is.0 ∙ ap (after_if a line None) is.1
 
-pub text_of_bad_line : (a : Agent) (line : List ℕ) (cause : CallCause) → SpellsNoAgentCall line → call_cause line ≡ Some cause → (cause ≡ causes.Keyword → ⊥)
+pub text_of_bad_line : (a : Agent) (line : List ℕ) (cause : AgentCallCause) → SpellsNoAgentCall line → call_cause line ≡ Some cause → (cause ≡ causes.Keyword → ⊥)
     → answer_text a line ≡ bad_line_text cause
 text_of_bad_line a line cause none is other = text_by a line None (none_read line none) ∙ ap (text_if a line None) is ∙ own_text a line cause other
 
-pub after_bad_line : (a : Agent) (line : List ℕ) (cause : CallCause) → SpellsNoAgentCall line → call_cause line ≡ Some cause → (cause ≡ causes.Keyword → ⊥)
+pub after_bad_line : (a : Agent) (line : List ℕ) (cause : AgentCallCause) → SpellsNoAgentCall line → call_cause line ≡ Some cause → (cause ≡ causes.Keyword → ⊥)
     → after_line a line ≡ a
 after_bad_line a line cause none is other = after_by a line None (none_read line none) ∙ ap (after_if a line None) is ∙ own_after a line cause other

@@ -15,7 +15,7 @@ use Rattle.dms_agent_lines.specs.AgentCall.{AgentCall, receive, publish, withdra
 use Rattle.dms_agent_lines.specs.AgentLine.{SpellsAgentCall, SpellsNoAgentCall}
 use Rattle.dms_agent_lines.specs.AgentReading.{access_at, object_at, withdraw_at, binding_at, keyword_of, call_after, call_of}
 use Rattle.dms_agent_lines.specs.AgentForm.{access_cause, value_cause, named_cause, object_cause, last_name_cause, withdraw_cause, value_words, last_value_cause, last_named_cause, binding_cause, words_cause, call_cause}
-use Rattle.dms_agent_lines.specs.declared.cause.CallCause.TheVariants as causes
+use Rattle.dms_agent_lines.specs.declared.cause.AgentCallCause.TheVariants as causes
 use Rattle.dms_agent_lines.specs.declared.keywords.AgentKeyword.{AgentKeyword}
 use Rattle.dms_agent_lines.specs.declared.keywords.AgentKeyword.TheVariants as key
 use Rattle.dms_agent_lines.proofs.CallLaws.{call_only, none_read}

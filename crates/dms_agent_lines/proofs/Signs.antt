@@ -19,13 +19,13 @@ use Rattle.dms_sign_state.specs.StateText.{text_of_state}
 use Rattle.dms_sign_lines.specs.SignCall.{datagram, save as save_sign}
 use Rattle.dms_sign_lines.specs.SignReading as sign_reading
 use Rattle.dms_sign_lines.specs.SignForm as sign_form
-use Rattle.dms_sign_lines.specs.declared.cause.CallCause.TheVariants as sign_causes
+use Rattle.dms_sign_lines.specs.declared.cause.SignCallCause.TheVariants as sign_causes
 use Rattle.dms_agent_lines.specs.AgentCall.{receive, save}
 use Rattle.dms_agent_lines.specs.AgentForm.{words_cause, call_cause}
 use Rattle.dms_agent_lines.specs.AgentReading.{keyword_of, keyword_in, call_after, call_of}
 use Rattle.dms_agent_lines.specs.AgentAnswer.{received_text, text_if, after_if, answer_text, after_line}
 use Rattle.dms_agent_lines.specs.Alone.{IsOfSign}
-use Rattle.dms_agent_lines.specs.declared.cause.CallCause.TheVariants as causes
+use Rattle.dms_agent_lines.specs.declared.cause.AgentCallCause.TheVariants as causes
 use Rattle.dms_agent_lines.specs.declared.keywords.AgentKeyword.{AgentKeyword}
 use Rattle.dms_agent_lines.specs.declared.keywords.AgentKeyword.TheVariants as key
 use Rattle.dms_agent_lines.proofs.CallLaws.{keyword_found}

@@ -22,8 +22,8 @@ use Rattle.dms_agent_lines.specs.AgentCall.{AgentCall, NewObject, receive, publi
 use Rattle.dms_agent_lines.specs.AgentCall.{put_back, save}
 use Rattle.dms_agent_lines.specs.AgentForm.{call_cause, bad_line_text}
 use Rattle.dms_agent_lines.specs.AgentReading.{call_of}
-use Rattle.dms_agent_lines.specs.declared.cause.CallCause.{CallCause}
-use Rattle.dms_agent_lines.specs.declared.cause.CallCause.TheVariants as causes
+use Rattle.dms_agent_lines.specs.declared.cause.AgentCallCause.{AgentCallCause}
+use Rattle.dms_agent_lines.specs.declared.cause.AgentCallCause.TheVariants as causes
 
 -- ---- parts of answers
 
@@ -137,23 +137,23 @@ after_call a save = a
 -- ---- lines that are no call
 
 -- one that begins with none of these words is the sign's; of another it is told why it is no call
-abbrev pub text_without : Agent → List ℕ → CallCause → List ℕ
+abbrev pub text_without : Agent → List ℕ → AgentCallCause → List ℕ
 text_without a line causes.Keyword = sign.answer_text a.sign line
 text_without a line cause = bad_line_text cause
 
-abbrev pub after_without : Agent → List ℕ → CallCause → Agent
+abbrev pub after_without : Agent → List ℕ → AgentCallCause → Agent
 after_without a line causes.Keyword = record a { sign = sign.after_line a.sign line }
 after_without a line cause = a
 
 -- ---- lines
 
 -- a line is a call, or has a cause (`each_line_is_a_call_or_has_a_cause`): the last case never comes
-abbrev pub text_if : Agent → List ℕ → Option AgentCall → Option CallCause → List ℕ
+abbrev pub text_if : Agent → List ℕ → Option AgentCall → Option AgentCallCause → List ℕ
 text_if a line (Some call) cause = call_text a call
 text_if a line None (Some cause) = text_without a line cause
 text_if a line None None = bad_line
 
-abbrev pub after_if : Agent → List ℕ → Option AgentCall → Option CallCause → Agent
+abbrev pub after_if : Agent → List ℕ → Option AgentCall → Option AgentCallCause → Agent
 after_if a line (Some call) cause = after_call a call
 after_if a line None (Some cause) = after_without a line cause
 after_if a line None None = a

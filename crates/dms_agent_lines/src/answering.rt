@@ -19,7 +19,7 @@ ghost use Rattle.dms_agent_lines.specs.AgentAnswer.{fonts_text, refused, set_lin
 ghost use Rattle.dms_agent_lines.specs.AgentAnswer.{access_of, put_text, after_put};
 
 use crate::agent_call::{AgentCall, ObjectWords, SetWords};
-use crate::cause::CallCause;
+use crate::cause::AgentCallCause;
 use crate::reading::call;
 use dms_agent::{Agent, PublishFault};
 use dms_agent_state::saved;
@@ -56,7 +56,7 @@ pub fn answer(alloc: Global, agent: &mut Agent, line: &[u8]) -> Result<Vec<u8>, 
 {
     match call(alloc, line)? {
         Ok(call) => carry_out(alloc, agent, &call),
-        Err(CallCause::Keyword) => dms_sign_lines::answer(alloc, agent.sign_mut(), line),
+        Err(AgentCallCause::Keyword) => dms_sign_lines::answer(alloc, agent.sign_mut(), line),
         Err(cause) => bad_line(alloc, cause),
     }
 }

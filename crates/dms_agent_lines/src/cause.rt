@@ -5,7 +5,7 @@ use std::fmt;
 
 /// Why a line is no call.
 #[derive(Clone, Copy, Debug, PartialEq, Eq)]
-pub enum CallCause {
+pub enum AgentCallCause {
     /// It begins with no word of a call: it is the sign's.
     Keyword,
     /// No name of an object stands where one is wanted.
@@ -18,7 +18,7 @@ pub enum CallCause {
     Word(WordFault),
 }
 
-impl fmt::Display for CallCause {
+impl fmt::Display for AgentCallCause {
     ghost use Rattle.std.specs.Prelude.{Some};
     ghost use Rattle.dms_agent_lines.specs.AgentForm.{call_cause_text};
 
@@ -26,15 +26,17 @@ impl fmt::Display for CallCause {
 
     fn fmt<W: fmt::Write>(&self, f: &mut fmt::Formatter<W>) -> fmt::Result {
         match self {
-            CallCause::Keyword => f.write_str("no call begins with this word"),
-            CallCause::Name => f.write_str("word 2: the name of an object is wanted, as 1.3.6.1"),
-            CallCause::Value => f.write_str("word 3: a value is wanted, as INTEGER 7"),
-            CallCause::Access => {
+            AgentCallCause::Keyword => f.write_str("no call begins with this word"),
+            AgentCallCause::Name => f.write_str(
+                "word 2: the name of an object is wanted, as 1.3.6.1",
+            ),
+            AgentCallCause::Value => f.write_str("word 3: a value is wanted, as INTEGER 7"),
+            AgentCallCause::Access => {
                 f.write_str(
                     "after the value an access is wanted, as number 0 7, or the end of the line",
                 )
             }
-            CallCause::Word(fault) => write!(f, "{fault}"),
+            AgentCallCause::Word(fault) => write!(f, "{fault}"),
         }
     }
 }

@@ -19,8 +19,8 @@ ghost use Rattle.dms_agent_lines.specs.AgentReading.{keyword_in};
 ghost use Rattle.dms_agent_lines.specs.AgentAnswer.{answer_text, after_line, after_lines, call_text, after_call};
 ghost use Rattle.dms_agent_lines.specs.AgentAnswer.{put_refusal};
 ghost use Rattle.dms_agent_lines.specs.Alone.{IsOfSign};
-ghost use Rattle.dms_agent_lines.specs.declared.cause.CallCause.{CallCause};
-ghost use Rattle.dms_agent_lines.specs.declared.cause.CallCause.TheVariants.{Keyword};
+ghost use Rattle.dms_agent_lines.specs.declared.cause.AgentCallCause.{AgentCallCause};
+ghost use Rattle.dms_agent_lines.specs.declared.cause.AgentCallCause.TheVariants.{Keyword};
 
 use dms_agent::Agent;
 
@@ -48,9 +48,9 @@ pub fn answers_are_those_of_calls()
         → answer_text a line ≡ sign.answer_text a.sign line }
     ensures beside { (a : Agent) (line : List ℕ) → keyword_in line ≡ None
         → after_line a line ≡ record a { sign = sign.after_line a.sign line } }
-    ensures bad_line { (a : Agent) (line : List ℕ) (cause : CallCause) → SpellsNoAgentCall line
+    ensures bad_line { (a : Agent) (line : List ℕ) (cause : AgentCallCause) → SpellsNoAgentCall line
         → call_cause line ≡ Some cause → (cause ≡ Keyword → ⊥) → answer_text a line ≡ bad_line_text cause }
-    ensures unchanged { (a : Agent) (line : List ℕ) (cause : CallCause) → SpellsNoAgentCall line
+    ensures unchanged { (a : Agent) (line : List ℕ) (cause : AgentCallCause) → SpellsNoAgentCall line
         → call_cause line ≡ Some cause → (cause ≡ Keyword → ⊥) → after_line a line ≡ a }
 {}
 

@@ -13,11 +13,11 @@ ghost use Rattle.dms_agent_lines.specs.AgentReading.{number_access_at, octets_ac
 ghost use Rattle.dms_agent_lines.specs.AgentReading.{object_at, withdraw_at, binding_at};
 ghost use Rattle.dms_text_values.specs.View.{worded_value};
 ghost use Rattle.dms_agent_lines.specs.CallView.{call_model};
-ghost use Rattle.dms_agent_lines.specs.declared.cause.CallCause.TheVariants.{Word};
+ghost use Rattle.dms_agent_lines.specs.declared.cause.AgentCallCause.TheVariants.{Word};
 ghost use Rattle.dms_agent_lines.specs.declared.keywords.AgentKeyword.TheVariants.{Datagram};
 
 use crate::agent_call::{AgentCall, ObjectWords, SetWords};
-use crate::cause::CallCause;
+use crate::cause::AgentCallCause;
 use crate::keywords::AgentKeyword;
 use dms_device::ManagerAccess;
 use dms_text::{Words, are_same};
@@ -32,16 +32,16 @@ use std::alloc::{AllocError, Global};
 pub(crate) fn call(
     alloc: Global,
     line: &[u8],
-) -> Result<Result<AgentCall<'_>, CallCause>, AllocError>
+) -> Result<Result<AgentCall<'_>, AgentCallCause>, AllocError>
     ensures read { IfOk result (λ read. option_map call_model (result_ok read) ≡ call_of line.now) }
     ensures cause { IfOk result (λ read. result_err read ≡ call_cause line.now) }
     ensures spelled { OnErr result (IsSome (call_of line.now)) }
 {
     let Some((word, words)) = Words::of(line).next_word() else {
-        return Ok(Err(CallCause::Keyword));
+        return Ok(Err(AgentCallCause::Keyword));
     };
     let Some(keyword) = AgentKeyword::of(word) else {
-        return Ok(Err(CallCause::Keyword));
+        return Ok(Err(AgentCallCause::Keyword));
     };
     match keyword {
         AgentKeyword::Datagram => datagram(alloc, words),
@@ -73,7 +73,10 @@ pub(crate) fn call(
 }
 
 /// The octets of a datagram, and nothing after them.
-fn datagram(alloc: Global, words: Words<'_>) -> Result<Result<AgentCall<'_>, CallCause>, AllocError>
+fn datagram(
+    alloc: Global,
+    words: Words<'_>,
+) -> Result<Result<AgentCall<'_>, AgentCallCause>, AllocError>
     ensures read { IfOk result (λ read. option_map call_model (result_ok read)
         ≡ option_map receive (last_octets_at words.entry)) }
     ensures cause { IfOk result (λ read. result_err read ≡ words_cause Datagram words.entry) }
@@ -82,22 +85,22 @@ fn datagram(alloc: Global, words: Words<'_>) -> Result<Result<AgentCall<'_>, Cal
     let words = LineWords { place: 2, words };
     match words.last_octets(alloc, WordName::Datagram)? {
         Ok(octets) => Ok(Ok(AgentCall::Receive(octets))),
-        Err(fault) => Ok(Err(CallCause::Word(fault))),
+        Err(fault) => Ok(Err(AgentCallCause::Word(fault))),
     }
 }
 
 /// An object: its name, its value and its access, or the first of these that is not there.
 #[tactic(auto, unfolding(crate::specs::AgentReading::object_at))]
-fn object(words: Words<'_>) -> Result<ObjectWords<'_>, CallCause>
+fn object(words: Words<'_>) -> Result<ObjectWords<'_>, AgentCallCause>
     ensures read { result_ok result ≡ object_at words.entry }
     ensures cause { result_err result ≡ object_cause (word_at words.entry) }
 {
-    let (word, words) = words.next_word().ok_or(CallCause::Name)?;
-    let name = name(word).ok_or(CallCause::Name)?;
+    let (word, words) = words.next_word().ok_or(AgentCallCause::Name)?;
+    let name = name(word).ok_or(AgentCallCause::Name)?;
     let Some((value, words)) = value(words) else {
-        return Err(CallCause::Value);
+        return Err(AgentCallCause::Value);
     };
-    let access = access(words).ok_or(CallCause::Access)?;
+    let access = access(words).ok_or(AgentCallCause::Access)?;
     Ok(ObjectWords {
         name,
         value,
@@ -107,27 +110,27 @@ fn object(words: Words<'_>) -> Result<ObjectWords<'_>, CallCause>
 
 /// A name, and nothing after it.
 #[tactic(auto, unfolding(crate::specs::AgentReading::withdraw_at))]
-fn withdrawn(words: Words<'_>) -> Result<NameRead, CallCause>
+fn withdrawn(words: Words<'_>) -> Result<NameRead, AgentCallCause>
     ensures read { result_ok result ≡ withdraw_at words.entry }
     ensures cause { result_err result ≡ withdraw_cause (word_at words.entry) }
 {
-    let (word, words) = words.next_word().ok_or(CallCause::Name)?;
-    let name = name(word).ok_or(CallCause::Name)?;
+    let (word, words) = words.next_word().ok_or(AgentCallCause::Name)?;
+    let name = name(word).ok_or(AgentCallCause::Name)?;
     end(3, words)?;
     Ok(name)
 }
 
 /// A name and a value, and nothing after them.
 #[tactic(auto, unfolding(crate::specs::AgentReading::binding_at))]
-fn binding(words: Words<'_>) -> Result<SetWords<'_>, CallCause>
+fn binding(words: Words<'_>) -> Result<SetWords<'_>, AgentCallCause>
     ensures read { result_ok result ≡ binding_at words.entry }
     ensures cause { result_err result ≡ binding_cause (word_at words.entry) }
 {
-    let (word, words) = words.next_word().ok_or(CallCause::Name)?;
-    let name = name(word).ok_or(CallCause::Name)?;
+    let (word, words) = words.next_word().ok_or(AgentCallCause::Name)?;
+    let name = name(word).ok_or(AgentCallCause::Name)?;
     let (value, words) = match value(words) {
         Some(found) => found,
-        None => return Err(CallCause::Value),
+        None => return Err(AgentCallCause::Value),
     };
     end(place_after(&value), words)?;
     Ok(SetWords { name, value })
@@ -146,14 +149,14 @@ fn place_after(value: &ValueWords<'_>) -> usize
 }
 
 /// No words are left; the first that is would stand in this place.
-fn end(place: usize, words: Words<'_>) -> Result<(), CallCause>
+fn end(place: usize, words: Words<'_>) -> Result<(), AgentCallCause>
     ensures ended { IfOk result (λ _. is_end words.entry ≡ true) }
     ensures more { IfErr result (λ _. is_end words.entry ≡ false) }
     ensures cause { result_err result ≡ option_map Word (fault_from place [] words.entry) }
 {
     match (LineWords { place, words }).end() {
         Ok(()) => Ok(()),
-        Err(fault) => Err(CallCause::Word(fault)),
+        Err(fault) => Err(AgentCallCause::Word(fault)),
     }
 }
 

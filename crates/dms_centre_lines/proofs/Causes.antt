@@ -14,7 +14,7 @@ use Rattle.dms_centre_lines.specs.Calls.{CentreCall, command, datagram, tick, re
 use Rattle.dms_centre_lines.specs.SpelledCalls.{SpellsCentreCall, SpellsNoCall}
 use Rattle.dms_centre_lines.specs.CallReading.{keyword_of, last_alone_at, status_after, call_after, call_of}
 use Rattle.dms_centre_lines.specs.CallForm.{last_cause, status_cause, words_cause, call_cause}
-use Rattle.dms_centre_lines.specs.declared.cause.CallCause.TheVariants as causes
+use Rattle.dms_centre_lines.specs.declared.cause.CentreCallCause.TheVariants as causes
 use Rattle.dms_centre_lines.specs.declared.keyword.CentreKeyword.{CentreKeyword}
 use Rattle.dms_centre_lines.specs.declared.keyword.CentreKeyword.TheVariants as key
 use Rattle.dms_centre_lines.proofs.CallLaws.{call_only, none_read}

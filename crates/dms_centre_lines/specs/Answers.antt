@@ -19,7 +19,7 @@ use Rattle.dms_centre_lines.specs.BadValue.{value_text, bad_value}
 use Rattle.dms_centre_lines.specs.Calls.{CentreCall, command, datagram, tick, restart, status, status_last, save}
 use Rattle.dms_centre_lines.specs.CallForm.{call_cause, bad_line_text}
 use Rattle.dms_centre_lines.specs.CallReading.{call_of}
-use Rattle.dms_centre_lines.specs.declared.cause.CallCause.{CallCause}
+use Rattle.dms_centre_lines.specs.declared.cause.CentreCallCause.{CentreCallCause}
 
 -- ---- lines
 
@@ -81,7 +81,7 @@ call_text state status_last = last_lines state
 call_text state save = text_of_state state ++ ok_line
 
 -- the answer to a call, or why a line is none; one of the two there always is (`each_line_is_a_call_or_has_a_cause`)
-abbrev pub call_answer : CentreState → Option CentreCall → Option CallCause → List ℕ
+abbrev pub call_answer : CentreState → Option CentreCall → Option CentreCallCause → List ℕ
 call_answer state (Some call) cause = call_text state call
 call_answer state None (Some cause) = bad_line_text cause
 call_answer state None None = bad_line

@@ -11,7 +11,7 @@ use std::fmt;
 
 /// A value of a command that has a range of its own.
 #[derive(Clone, Copy)]
-pub(crate) enum Value {
+pub(crate) enum CommandValue {
     /// The row's type of memory.
     Memory,
     /// The row's number.
@@ -28,7 +28,7 @@ pub(crate) enum Value {
     Run,
 }
 
-impl fmt::Display for Value {
+impl fmt::Display for CommandValue {
     ghost use Rattle.std.specs.Prelude.{Some};
     ghost use Rattle.dms_centre_lines.specs.BadValue.{value_text};
 
@@ -36,19 +36,19 @@ impl fmt::Display for Value {
 
     fn fmt<W: fmt::Write>(&self, f: &mut fmt::Formatter<W>) -> fmt::Result {
         f.write_str(match self {
-            Value::Memory => "MEMORY",
-            Value::Number => "NUMBER",
-            Value::Text => "TEXT",
-            Value::Owner => "OWNER",
-            Value::Beacon => "BEACON",
-            Value::Pixel => "PIXEL",
-            Value::Run => "RUN",
+            CommandValue::Memory => "MEMORY",
+            CommandValue::Number => "NUMBER",
+            CommandValue::Text => "TEXT",
+            CommandValue::Owner => "OWNER",
+            CommandValue::Beacon => "BEACON",
+            CommandValue::Pixel => "PIXEL",
+            CommandValue::Run => "RUN",
         })
     }
 }
 
 /// The first value of a command that is out of its range, where one is.
-pub(crate) fn bad_value(command: &Command<'_>) -> Value
+pub(crate) fn bad_value(command: &Command<'_>) -> CommandValue
     ensures { result ≡ bad_value (command_model command.now) }
 {
     match *command {
@@ -62,21 +62,21 @@ pub(crate) fn bad_value(command: &Command<'_>) -> Value
             ..
         } => {
             if memory != CHANGEABLE && memory != VOLATILE {
-                Value::Memory
+                CommandValue::Memory
             } else if number == 0 {
-                Value::Number
+                CommandValue::Number
             } else if text.len() > MAX_TEXT {
-                Value::Text
+                CommandValue::Text
             } else if owner.len() > MAX_OWNER {
-                Value::Owner
+                CommandValue::Owner
             } else if beacon > 1 {
-                Value::Beacon
+                CommandValue::Beacon
             } else if pixel > 1 {
-                Value::Pixel
+                CommandValue::Pixel
             } else {
-                Value::Run
+                CommandValue::Run
             }
         }
-        Command::Blank { .. } | Command::Activate(_) => Value::Number,
+        Command::Blank { .. } | Command::Activate(_) => CommandValue::Number,
     }
 }

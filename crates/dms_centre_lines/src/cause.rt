@@ -5,7 +5,7 @@ use std::fmt;
 
 /// Why a line is no call.
 #[derive(Clone, Copy, Debug, PartialEq, Eq)]
-pub enum CallCause {
+pub enum CentreCallCause {
     /// It begins with no word of a call.
     Keyword,
     /// Another word than `last` stands after `status`.
@@ -14,7 +14,7 @@ pub enum CallCause {
     Word(WordFault),
 }
 
-impl fmt::Display for CallCause {
+impl fmt::Display for CentreCallCause {
     ghost use Rattle.std.specs.Prelude.{Some};
     ghost use Rattle.dms_centre_lines.specs.CallForm.{call_cause_text};
 
@@ -22,11 +22,11 @@ impl fmt::Display for CallCause {
 
     fn fmt<W: fmt::Write>(&self, f: &mut fmt::Formatter<W>) -> fmt::Result {
         match self {
-            CallCause::Keyword => f.write_str("no call begins with this word"),
-            CallCause::Last => {
+            CentreCallCause::Keyword => f.write_str("no call begins with this word"),
+            CentreCallCause::Last => {
                 f.write_str("word 2: the word last, or the end of the line, is wanted")
             }
-            CallCause::Word(fault) => write!(f, "{fault}"),
+            CentreCallCause::Word(fault) => write!(f, "{fault}"),
         }
     }
 }

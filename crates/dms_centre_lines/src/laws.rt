@@ -8,7 +8,7 @@ ghost use Rattle.dms_centre_lines.specs.CallForm.{call_cause, bad_line_text};
 ghost use Rattle.dms_centre_lines.specs.Calls.{CentreCall};
 ghost use Rattle.dms_centre_lines.specs.CallReading.{call_of};
 ghost use Rattle.dms_centre_lines.specs.SpelledCalls.{SpellsCentreCall, SpellsNoCall};
-ghost use Rattle.dms_centre_lines.specs.declared.cause.CallCause.{CallCause};
+ghost use Rattle.dms_centre_lines.specs.declared.cause.CentreCallCause.{CentreCallCause};
 
 /// The call that is read of a line is spelled by it, and a call that a line spells is read of it.
 pub fn calls_are_read_where_they_are_spelled()
@@ -41,7 +41,7 @@ pub fn answers_are_those_of_calls()
     ensures after { (state : CentreState) (line : List ℕ) (call : CentreCall)
         → SpellsCentreCall state.settings.order call line
         → after_line state line ≡ after_call state (Some call) }
-    ensures bad_line { (state : CentreState) (line : List ℕ) (cause : CallCause)
+    ensures bad_line { (state : CentreState) (line : List ℕ) (cause : CentreCallCause)
         → SpellsNoCall state.settings.order line → call_cause line ≡ Some cause
         → answer_text state line ≡ bad_line_text cause }
     ensures unchanged { (state : CentreState) (line : List ℕ) → SpellsNoCall state.settings.order line

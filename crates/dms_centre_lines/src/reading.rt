@@ -9,7 +9,7 @@ ghost use Rattle.dms_centre_lines.specs.CallReading.{status_after, call_after, c
 ghost use Rattle.dms_centre_lines.specs.CodeView.{call_model};
 ghost use Rattle.dms_centre_lines.specs.declared.keyword.CentreKeyword.TheVariants as keys;
 
-use crate::cause::CallCause;
+use crate::cause::CentreCallCause;
 use crate::keyword::CentreKeyword;
 use dms_centre_text::{CommandWord, OwnedCommand, command_after};
 use dms_codes::Order;
@@ -43,17 +43,17 @@ pub(crate) fn call(
     alloc: Global,
     order: Order,
     line: &[u8],
-) -> Result<Result<CentreCall, CallCause>, AllocError>
+) -> Result<Result<CentreCall, CentreCallCause>, AllocError>
     ensures read { IfOk result (λ read. option_map call_model (result_ok read) ≡ call_of order line.now) }
     ensures cause { IfOk result (λ read. result_err read ≡ call_cause line.now) }
     ensures spelled { OnErr result (has_octets (call_of order line.now) ≡ true) }
 {
     let Some((word, words)) = Words::of(line).next_word() else {
-        return Ok(Err(CallCause::Keyword));
+        return Ok(Err(CentreCallCause::Keyword));
     };
     match CentreKeyword::of(word) {
         Some(keyword) => call_after(alloc, order, keyword, words),
-        None => Ok(Err(CallCause::Keyword)),
+        None => Ok(Err(CentreCallCause::Keyword)),
     }
 }
 
@@ -63,7 +63,7 @@ fn call_after(
     order: Order,
     keyword: CentreKeyword,
     words: Words<'_>,
-) -> Result<Result<CentreCall, CallCause>, AllocError>
+) -> Result<Result<CentreCall, CentreCallCause>, AllocError>
     ensures read { IfOk result (λ read. option_map call_model (result_ok read)
         ≡ call_after order keyword words.entry) }
     ensures cause { IfOk result (λ read. result_err read ≡ words_cause keyword words.entry) }
@@ -86,7 +86,7 @@ fn command(
     order: Order,
     asked: CommandWord,
     words: Words<'_>,
-) -> Result<Result<CentreCall, CallCause>, AllocError>
+) -> Result<Result<CentreCall, CentreCallCause>, AllocError>
     ensures read { IfOk result (λ read. option_map call_model (result_ok read)
         ≡ call_after order (keys.Command asked) words.entry) }
     ensures cause { IfOk result (λ read. result_err read ≡ words_cause (keys.Command asked) words.entry) }
@@ -94,13 +94,16 @@ fn command(
 {
     match command_after(alloc, order, asked, LineWords { place: 2, words })? {
         Ok(asked) => Ok(Ok(CentreCall::Command(asked))),
-        Err(fault) => Ok(Err(CallCause::Word(fault))),
+        Err(fault) => Ok(Err(CentreCallCause::Word(fault))),
     }
 }
 
 /// The octets of a datagram, and nothing after them.
 #[tactic(auto, using(crate::proofs::CallMemory::octets_kept))]
-fn datagram(alloc: Global, words: Words<'_>) -> Result<Result<CentreCall, CallCause>, AllocError>
+fn datagram(
+    alloc: Global,
+    words: Words<'_>,
+) -> Result<Result<CentreCall, CentreCallCause>, AllocError>
     ensures read { IfOk result (λ read. option_map call_model (result_ok read)
         ≡ option_map datagram (last_octets_at words.entry)) }
     ensures cause { IfOk result (λ read. result_err read ≡ words_cause keys.Datagram words.entry) }
@@ -109,13 +112,13 @@ fn datagram(alloc: Global, words: Words<'_>) -> Result<Result<CentreCall, CallCa
     let words = LineWords { place: 2, words };
     match words.last_octets(alloc, WordName::Datagram)? {
         Ok(octets) => Ok(Ok(CentreCall::Datagram(octets))),
-        Err(fault) => Ok(Err(CallCause::Word(fault))),
+        Err(fault) => Ok(Err(CentreCallCause::Word(fault))),
     }
 }
 
 /// What stands after `status`: nothing, or `last` alone.
 #[tactic(auto, unfolding(crate::specs::CallReading::last_alone_at))]
-fn status(words: Words<'_>) -> Result<CentreCall, CallCause>
+fn status(words: Words<'_>) -> Result<CentreCall, CentreCallCause>
     ensures read { option_map call_model (result_ok result) ≡ status_after words.entry }
     ensures cause { result_err result ≡ status_cause words.entry }
 {
@@ -123,21 +126,21 @@ fn status(words: Words<'_>) -> Result<CentreCall, CallCause>
         return Ok(CentreCall::Status);
     }
     let Some(words) = words.keyword(b"last") else {
-        return Err(CallCause::Last);
+        return Err(CentreCallCause::Last);
     };
     match (LineWords { place: 3, words }).end() {
         Ok(()) => Ok(CentreCall::StatusLast),
-        Err(fault) => Err(CallCause::Word(fault)),
+        Err(fault) => Err(CentreCallCause::Word(fault)),
     }
 }
 
 /// The call, where no words are left.
-fn alone(words: Words<'_>, call: CentreCall) -> Result<CentreCall, CallCause>
+fn alone(words: Words<'_>, call: CentreCall) -> Result<CentreCall, CentreCallCause>
     ensures call { result_ok result ≡ if_last call words.entry }
     ensures cause { result_err result ≡ word_cause [] words.entry }
 {
     match (LineWords { place: 2, words }).end() {
         Ok(()) => Ok(call),
-        Err(fault) => Err(CallCause::Word(fault)),
+        Err(fault) => Err(CentreCallCause::Word(fault)),
     }
 }

@@ -9,7 +9,7 @@ ghost use Rattle.dms_centre_lines.specs.BadValue.{value_text};
 ghost use Rattle.dms_centre.specs.CodeView.{sent_in};
 ghost use Rattle.dms_centre_lines.specs.Answers.{refused_line, sent_line, longest_sent};
 
-use crate::bad_value::{Value, bad_value};
+use crate::bad_value::{CommandValue, bad_value};
 use dms_centre::{Command, CommandFault};
 use dms_text_streams::{put, put_digits};
 use dms_wire::{MAX_DATAGRAM, Out};
@@ -45,7 +45,7 @@ fn not_taken(alloc: Global, fault: CommandFault) -> Result<Vec<u8>, AllocError>
     }
 }
 
-fn out_of_range(alloc: Global, value: Value) -> Result<Vec<u8>, AllocError>
+fn out_of_range(alloc: Global, value: CommandValue) -> Result<Vec<u8>, AllocError>
     ensures { IfOk result (λ text. text.items
         ≡ ended (codes "refused " ++ (command_fault_text BadCommand ++ (codes ": " ++ value_text value)))) }
 {

@@ -14,7 +14,7 @@ use Rattle.dms_sign_lines.specs.SignLine.{SpellsCallWords, SpellsSignCall, Spell
 use Rattle.dms_sign_lines.specs.SignReading.{keyword_of, call_after, call_of}
 use Rattle.dms_sign_lines.specs.SignForm.{call_cause, bad_line_text}
 use Rattle.dms_sign_lines.specs.Answer.{answer_text, after_line, call_text, after_call, text_if, after_if}
-use Rattle.dms_sign_lines.specs.declared.cause.CallCause.{CallCause}
+use Rattle.dms_sign_lines.specs.declared.cause.SignCallCause.{SignCallCause}
 use Rattle.dms_sign_lines.specs.declared.keyword.SignKeyword.{SignKeyword}
 use Rattle.dms_sign_lines.specs.declared.keyword.SignKeyword.TheVariants as key
 
@@ -109,7 +109,7 @@ text_of_call s line call spelled = ap (λ found. text_if s found (call_cause lin
 pub after_the_call : (s : SignState) (line : List ℕ) (call : SignCall) → SpellsSignCall call line → after_line s line ≡ after_call s call
 after_the_call s line call spelled = ap (after_if s) (call_only line call spelled)
 
-pub text_of_bad_line : (s : SignState) (line : List ℕ) (cause : CallCause) → SpellsNoSignCall line → call_cause line ≡ Some cause
+pub text_of_bad_line : (s : SignState) (line : List ℕ) (cause : SignCallCause) → SpellsNoSignCall line → call_cause line ≡ Some cause
     → answer_text s line ≡ bad_line_text cause
 text_of_bad_line s line cause none is = ap (λ found. text_if s found (call_cause line)) (none_read line none) ∙ ap (text_if s None) is
 

@@ -10,7 +10,7 @@ use Rattle.dms_sign_lines.specs.SignCall.{SignCall, datagram, tick, ticks, heard
 use Rattle.dms_sign_lines.specs.SignLine.{SpellsSignCall, SpellsNoSignCall}
 use Rattle.dms_sign_lines.specs.SignReading.{keyword_of, call_after, call_of}
 use Rattle.dms_sign_lines.specs.SignForm.{form_after, call_cause}
-use Rattle.dms_sign_lines.specs.declared.cause.CallCause.TheVariants as causes
+use Rattle.dms_sign_lines.specs.declared.cause.SignCallCause.TheVariants as causes
 use Rattle.dms_sign_lines.specs.declared.keyword.SignKeyword.{SignKeyword}
 use Rattle.dms_sign_lines.specs.declared.keyword.SignKeyword.TheVariants as key
 use Rattle.dms_sign_lines.proofs.CallLaws.{call_only, none_read}

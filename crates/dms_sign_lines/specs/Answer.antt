@@ -22,7 +22,7 @@ use Rattle.dms_sign_lines.specs.SignCall.{SignCall, datagram, tick, ticks, heard
 use Rattle.dms_sign_lines.specs.SignCall.{show, state, save}
 use Rattle.dms_sign_lines.specs.SignForm.{call_cause, bad_line_text}
 use Rattle.dms_sign_lines.specs.SignReading.{call_of}
-use Rattle.dms_sign_lines.specs.declared.cause.CallCause.{CallCause}
+use Rattle.dms_sign_lines.specs.declared.cause.SignCallCause.{SignCallCause}
 
 -- ---- what comes of a datagram
 
@@ -90,7 +90,7 @@ after_call s save = s
 -- ---- lines
 
 -- the answer to a call, or why a line is none; one of the two there always is (`each_line_is_a_call_or_has_a_cause`)
-abbrev pub text_if : SignState → Option SignCall → Option CallCause → List ℕ
+abbrev pub text_if : SignState → Option SignCall → Option SignCallCause → List ℕ
 text_if s (Some call) cause = call_text s call
 text_if s None (Some cause) = bad_line_text cause
 text_if s None None = bad_line

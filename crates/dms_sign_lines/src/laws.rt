@@ -13,7 +13,7 @@ ghost use Rattle.dms_sign.specs.Promises.{is_get};
 ghost use Rattle.dms_sign_lines.specs.SignCall.{SignCall, datagram, ticks};
 ghost use Rattle.dms_sign_lines.specs.SignForm.{call_cause, bad_line_text};
 ghost use Rattle.dms_sign_lines.specs.SignLine.{SpellsSignCall, SpellsNoSignCall};
-ghost use Rattle.dms_sign_lines.specs.declared.cause.CallCause.{CallCause};
+ghost use Rattle.dms_sign_lines.specs.declared.cause.SignCallCause.{SignCallCause};
 ghost use Rattle.dms_sign_lines.specs.Answer.{answer_text, after_line, call_text, after_call, shown_pages};
 ghost use Rattle.dms_sign_lines.specs.GoodTexts.{ShowsGoodTexts};
 
@@ -38,7 +38,7 @@ pub fn answers_are_those_of_calls()
         → answer_text s line ≡ call_text s call }
     ensures after { (s : SignState) (line : List ℕ) (call : SignCall) → SpellsSignCall call line
         → after_line s line ≡ after_call s call }
-    ensures bad_line { (s : SignState) (line : List ℕ) (cause : CallCause) → SpellsNoSignCall line
+    ensures bad_line { (s : SignState) (line : List ℕ) (cause : SignCallCause) → SpellsNoSignCall line
         → call_cause line ≡ Some cause → answer_text s line ≡ bad_line_text cause }
     ensures unchanged { (s : SignState) (line : List ℕ) → SpellsNoSignCall line → after_line s line ≡ s }
 {}

@@ -8,7 +8,7 @@ ghost use Rattle.dms_sign_lines.specs.SignReading.{call_after, call_of, keyword_
 ghost use Rattle.dms_sign_lines.specs.declared.keyword.SignKeyword.TheVariants.{Datagram};
 ghost use Rattle.dms_sign_lines.specs.CallView.{call_model};
 
-use crate::cause::CallCause;
+use crate::cause::SignCallCause;
 use crate::keyword::SignKeyword;
 use dms_text::Words;
 use dms_text_causes::alone;
@@ -41,21 +41,24 @@ pub(crate) enum SignCall {
 /// The call that a line spells, or why it spells none. Memory is asked for by a datagram alone, and not where its line
 /// is at fault.
 #[tactic(auto, unfolding(crate::specs::SignReading::call_of, crate::specs::SignReading::keyword_in))]
-pub(crate) fn call(alloc: Global, line: &[u8]) -> Result<Result<SignCall, CallCause>, AllocError>
+pub(crate) fn call(
+    alloc: Global,
+    line: &[u8],
+) -> Result<Result<SignCall, SignCallCause>, AllocError>
     ensures read { IfOk result (λ read. option_map call_model (result_ok read) ≡ call_of line.now) }
     ensures cause { IfOk result (λ read. result_err read ≡ call_cause line.now) }
     ensures memory { OnErr result (keyword_in line.now ≡ Some Datagram) }
     ensures spelled { OnErr result (IsSome (call_of line.now)) }
 {
     let Some((word, words)) = Words::of(line).next_word() else {
-        return Ok(Err(CallCause::Keyword));
+        return Ok(Err(SignCallCause::Keyword));
     };
     let Some(keyword) = SignKeyword::of(word) else {
-        return Ok(Err(CallCause::Keyword));
+        return Ok(Err(SignCallCause::Keyword));
     };
     match call_after(alloc, keyword, LineWords { place: 2, words })? {
         Ok(call) => Ok(Ok(call)),
-        Err(fault) => Ok(Err(CallCause::Word(fault))),
+        Err(fault) => Ok(Err(SignCallCause::Word(fault))),
     }
 }
 
