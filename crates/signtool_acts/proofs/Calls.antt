@@ -20,7 +20,7 @@ use Rattle.dms_sign.specs.State.{SignState}
 use Rattle.signtool_print.specs.Printed.{Answer, answer, Prints, PrintsOrMemory}
 use Rattle.signtool_print.specs.declared.statuses.ExitStatus.{ExitStatus}
 use Rattle.signtool_print.specs.declared.statuses.ExitStatus.TheVariants.{Done, Refused, Misused}
-use Rattle.signtool_acts.specs.declared.refusal.Refusal.{Refusal}
+use Rattle.signtool_acts.specs.declared.refusal.InputRefusal.{InputRefusal}
 use Rattle.signtool_acts.specs.RefusalText.{fault_line}
 use Rattle.signtool_acts.specs.Refused.{with_fault, is_write}
 use Rattle.signtool_acts.specs.CallAnswers.{IsWanted, IsRefused, IsInputFault, IsScriptFault, OfSign, OfDigits, OfScript, answer_to}
@@ -40,7 +40,7 @@ input_fault_of input faults.Read line long write = tt
 input_fault_of input faults.Memory line long write = tt
 input_fault_of input faults.Write line long write = write refl
 
-pub input_fault : (input : Option (List ℕ)) (result : Result Setup Refusal)
+pub input_fault : (input : Option (List ℕ)) (result : Result Setup InputRefusal)
     → ((number : ℕ) → with_fault result ≡ Err (faults.Line number) → IfSome input (λ octets. IsRefusedLine (all_numbered (lines octets)) number))
     → (with_fault result ≡ Err faults.TooLong → IfSome input (λ octets. longest_input < length octets))
     → (with_fault result ≢ Err faults.Write) → IfErr result (λ refusal. IsInputFault input refusal.fault)

@@ -18,7 +18,7 @@ use Rattle.dms_sign_text.specs.declared.reading_fault.ReplayFault.TheVariants as
 use Rattle.dms_sign_text.specs.declared.setup.Setup.{Setup}
 use Rattle.dms_replay.specs.RefusedScript.{IsRefusedIn}
 use Rattle.dms_replay.specs.Replayed.{NoScript}
-use Rattle.signtool_acts.specs.declared.refusal.Refusal.{Refusal}
+use Rattle.signtool_acts.specs.declared.refusal.InputRefusal.{InputRefusal}
 use Rattle.signtool_acts.specs.Refused.{names_line, says_empty}
 use Rattle.signtool_acts.specs.Unseen.{unseen_in}
 
@@ -80,14 +80,14 @@ same_emptiness (y ∷ octets) (x ∷ text) rest whole same = some x text ∙ sym
 same_emptiness (y ∷ octets) [] rest whole same =
     absurd (some_lines (y ∷ octets) (omega arith) (position (λ (o : ℕ). o == 10) (y ∷ octets)) refl same)
 
-empty_if_taken : (slice text : List ℕ) (old new : Option (List ℕ)) (refusal : Refusal) → slice ≡ text → TakesDescription old text new
+empty_if_taken : (slice text : List ℕ) (old new : Option (List ℕ)) (refusal : InputRefusal) → slice ≡ text → TakesDescription old text new
     → refusal.is_empty ≡ says_empty refusal.fault slice → IfSome old (λ octets. refusal.is_empty ≡ says_empty refusal.fault octets)
 empty_if_taken slice text None new refusal lent taken holds = tt
 empty_if_taken slice text (Some octets) None refusal lent taken holds = absurd taken
 empty_if_taken slice text (Some octets) (Some rest) refusal lent taken holds =
     holds ∙ ap (says_empty refusal.fault) lent ∙ ap (λ b. names_line refusal.fault && b) (same_emptiness octets text rest taken.0 taken.1)
 
-pub empty_of_text : (slice text : List ℕ) (old new : Option (List ℕ)) (result : Result Setup Refusal) → slice ≡ text → TakesDescription old text new
+pub empty_of_text : (slice text : List ℕ) (old new : Option (List ℕ)) (result : Result Setup InputRefusal) → slice ≡ text → TakesDescription old text new
     → IfErr result (λ refusal. refusal.is_empty ≡ says_empty refusal.fault slice)
     → IfErr result (λ refusal. IfSome old (λ octets. refusal.is_empty ≡ says_empty refusal.fault octets))
 empty_of_text slice text old new (Ok setup) lent taken holds = tt
@@ -95,14 +95,14 @@ empty_of_text slice text old new (Err refusal) lent taken holds = empty_if_taken
 
 -- ---- what nobody sees in the line: the lines of what is taken are those up to and with the first `end`
 
-unseen_if_taken : (slice text : List ℕ) (old new : Option (List ℕ)) (refusal : Refusal) → slice ≡ text → TakesDescription old text new
+unseen_if_taken : (slice text : List ℕ) (old new : Option (List ℕ)) (refusal : InputRefusal) → slice ≡ text → TakesDescription old text new
     → refusal.unseen ≡ unseen_in refusal.fault (lines slice) → IfSome old (λ octets. refusal.unseen ≡ unseen_in refusal.fault (lines_through_end (lines octets)))
 unseen_if_taken slice text None new refusal lent taken holds = tt
 unseen_if_taken slice text (Some octets) None refusal lent taken holds = absurd taken
 unseen_if_taken slice text (Some octets) (Some rest) refusal lent taken holds =
     holds ∙ ap (λ t. unseen_in refusal.fault (lines t)) lent ∙ ap (λ l. unseen_in refusal.fault l) taken.1
 
-pub unseen_of_text : (slice text : List ℕ) (old new : Option (List ℕ)) (result : Result Setup Refusal) → slice ≡ text → TakesDescription old text new
+pub unseen_of_text : (slice text : List ℕ) (old new : Option (List ℕ)) (result : Result Setup InputRefusal) → slice ≡ text → TakesDescription old text new
     → IfErr result (λ refusal. refusal.unseen ≡ unseen_in refusal.fault (lines slice))
     → IfErr result (λ refusal. IfSome old (λ octets. refusal.unseen ≡ unseen_in refusal.fault (lines_through_end (lines octets))))
 unseen_of_text slice text old new (Ok setup) lent taken holds = tt

@@ -5,7 +5,7 @@ use Rattle.dms_sign_text.specs.declared.reading_fault.ReplayFault.{ReplayFault}
 use Rattle.dms_sign_text.specs.declared.reading_fault.ReplayFault.TheVariants as faults
 use Rattle.dms_replay.specs.Reasons.{script_cause_text}
 use Rattle.dms_replay.specs.declared.reasons.ScriptCause.{ScriptCause}
-use Rattle.signtool_acts.specs.declared.refusal.Refusal.{Refusal}
+use Rattle.signtool_acts.specs.declared.refusal.InputRefusal.{InputRefusal}
 use Rattle.signtool_acts.specs.declared.unseen.Unseen.{Unseen}
 use Rattle.signtool_acts.specs.Unseen.{unseen_text}
 
@@ -38,5 +38,5 @@ empty_line false = []
 empty_line true = codes "the standard input is empty: < FILE gives it one\n"
 
 -- what is said of the line
-abbrev pub said : Refusal → List ℕ
+abbrev pub said : InputRefusal → List ℕ
 said refusal = cause_line refusal.fault refusal.cause refusal.unseen ++ empty_line refusal.is_empty

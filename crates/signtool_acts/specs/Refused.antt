@@ -8,19 +8,19 @@ use Rattle.dms_sign_text.specs.declared.reading_fault.ReplayFault.TheVariants as
 use Rattle.dms_replay.specs.Reasons.{IsCauseOf}
 use Rattle.dms_replay.specs.declared.reasons.ScriptCause.{ScriptCause}
 use Rattle.dms_replay.specs.declared.reasons.ScriptCause.TheVariants as script
-use Rattle.signtool_acts.specs.declared.refusal.Refusal.{Refusal}
+use Rattle.signtool_acts.specs.declared.refusal.InputRefusal.{InputRefusal}
 
 -- a fault, and nothing beside it
-abbrev pub fault_alone : ReplayFault → Refusal
+abbrev pub fault_alone : ReplayFault → InputRefusal
 fault_alone fault = record { fault = fault; cause = None; unseen = None; is_empty = false }
 
 -- what is answered, of a refusal the fault alone
-abbrev pub with_fault : {A : Type 0} → Result A Refusal → Result A ReplayFault
+abbrev pub with_fault : {A : Type 0} → Result A InputRefusal → Result A ReplayFault
 with_fault (Ok answer) = Ok answer
 with_fault (Err refusal) = Err refusal.fault
 
 -- of a fault that names no line nothing more is said
-abbrev pub SaysMoreOfLines : Refusal → Type 0
+abbrev pub SaysMoreOfLines : InputRefusal → Type 0
 SaysMoreOfLines refusal = (IsLine refusal.fault → ⊥) → refusal ≡ fault_alone refusal.fault
 
 abbrev pub names_line : ReplayFault → Bool

@@ -30,7 +30,7 @@ ghost use Rattle.signtool_acts.specs.CallAnswers.{OfSign, OfDigits, OfScript};
 
 use crate::centre::live_centre;
 use crate::inputs::{described_before, described_whole, replayed};
-use crate::refusal::Refusal;
+use crate::refusal::InputRefusal;
 use crate::restored::{RestoreRefusal, restored_before};
 use crate::restored_centre::{CentreRefusal, centre_restored_before};
 use dms_agent::Agent;
@@ -218,9 +218,9 @@ fn live_setup<S: Source>(
     alloc: Global,
     wanted: SignWanted,
     input: &mut Input<S>,
-) -> Result<Setup, Refusal> {
+) -> Result<Setup, InputRefusal> {
     match wanted {
-        SignWanted::Bench => bench(alloc).map_err(Refusal::from),
+        SignWanted::Bench => bench(alloc).map_err(InputRefusal::from),
         SignWanted::Described => described_before(alloc, input),
     }
 }
@@ -272,7 +272,7 @@ fn talk_fault_line(alloc: Global, fault: ConversationFault) -> Result<Vec<u8>, A
 }
 
 /// The sign that a call is about, and the number of its centre's first request.
-fn setup<R: Read>(alloc: Global, wanted: SignWanted, reader: &mut R) -> Result<Setup, Refusal>
+fn setup<R: Read>(alloc: Global, wanted: SignWanted, reader: &mut R) -> Result<Setup, InputRefusal>
     ensures sign { IfOk result (IsWanted wanted (R.remaining reader.old)) }
     ensures fault { IfErr result (λ refusal. IsRefused wanted (R.remaining reader.old) refusal.fault) }
 {
@@ -283,7 +283,7 @@ fn setup<R: Read>(alloc: Global, wanted: SignWanted, reader: &mut R) -> Result<S
 }
 
 /// The bench sign.
-fn bench_setup(alloc: Global) -> Result<Setup, Refusal>
+fn bench_setup(alloc: Global) -> Result<Setup, InputRefusal>
     ensures sign { IfOk result (λ setup. (it : Description) × SpellsSign (kept_lines bench_text) it × IsMade it setup) }
     ensures memory { IfErr result (λ refusal. refusal.fault ≡ faults.Memory) }
 {
@@ -291,7 +291,7 @@ fn bench_setup(alloc: Global) -> Result<Setup, Refusal>
 }
 
 /// The sign that the whole input describes.
-fn described_setup<R: Read>(alloc: Global, reader: &mut R) -> Result<Setup, Refusal>
+fn described_setup<R: Read>(alloc: Global, reader: &mut R) -> Result<Setup, InputRefusal>
     ensures sign { IfOk result (λ setup. IfSome (R.remaining reader.old) (λ octets.
         (it : Description) × SpellsDescription octets it × IsMade it setup)) }
     ensures fault { IfErr result (λ refusal. IsInputFault (R.remaining reader.old) refusal.fault) }
@@ -334,7 +334,7 @@ fn report_script<R: Read, W: Sink>(
     alloc: Global,
     reader: &mut R,
     writer: &mut W,
-) -> Result<(), Refusal>
+) -> Result<(), InputRefusal>
     ensures report { OnOk result (IfSome (R.remaining reader.old) (λ octets.
         Replayed octets (W.contents writer.old) (W.contents writer.new))) }
     ensures prefix { with_fault result ≡ Err faults.Write → IfSome (R.remaining reader.old) (λ octets.

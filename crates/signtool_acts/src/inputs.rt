@@ -19,7 +19,7 @@ ghost use Rattle.signtool_acts.specs.Refused.{IsScriptCause};
 ghost use Rattle.signtool_acts.specs.Unseen.{unseen_in};
 ghost use Rattle.dms_text_streams.specs.DescriptionText.{lines_through_end};
 
-use crate::refusal::Refusal;
+use crate::refusal::InputRefusal;
 use crate::unseen::unseen_in;
 use dms_replay::{ScriptCause, replay};
 use dms_sign_text::{DescriptionFault, ReplayFault, Setup, description, text_before, whole_input};
@@ -27,7 +27,7 @@ use dms_text_streams::{Input, Sink, Source};
 use std::alloc::Global;
 
 /// The sign that the whole input describes.
-pub fn described_whole<R: Source>(alloc: Global, reader: &mut R) -> Result<Setup, Refusal>
+pub fn described_whole<R: Source>(alloc: Global, reader: &mut R) -> Result<Setup, InputRefusal>
     ensures sign { IfOk result (λ setup. IfSome (R.remaining reader.old) (λ octets.
         (it : Description) × SpellsDescription octets it × IsMade it setup)) }
     ensures line { (number : ℕ) → with_fault result ≡ Err (faults.Line number)
@@ -50,12 +50,15 @@ pub fn described_whole<R: Source>(alloc: Global, reader: &mut R) -> Result<Setup
 {
     match whole_input(alloc, reader) {
         Ok(octets) => described_text(alloc, octets.as_slice()),
-        Err(fault) => Err(Refusal::from(fault)),
+        Err(fault) => Err(InputRefusal::from(fault)),
     }
 }
 
 /// The sign that the input describes before a conversation.
-pub fn described_before<S: Source>(alloc: Global, input: &mut Input<S>) -> Result<Setup, Refusal>
+pub fn described_before<S: Source>(
+    alloc: Global,
+    input: &mut Input<S>,
+) -> Result<Setup, InputRefusal>
     ensures sign { IfOk result (λ setup. Describes (left S.remaining input.old) setup (left S.remaining input.new)) }
     ensures line { (number : ℕ) → with_fault result ≡ Err (faults.Line number)
         → NotDescribed (left S.remaining input.old) }
@@ -77,7 +80,7 @@ pub fn described_before<S: Source>(alloc: Global, input: &mut Input<S>) -> Resul
 {
     match text_before(alloc, input) {
         Ok(text) => described_text(alloc, text.as_slice()),
-        Err(fault) => Err(Refusal::from(fault)),
+        Err(fault) => Err(InputRefusal::from(fault)),
     }
 }
 
@@ -86,7 +89,7 @@ pub fn replayed<R: Source, W: Sink>(
     alloc: Global,
     reader: &mut R,
     writer: &mut W,
-) -> Result<(), Refusal>
+) -> Result<(), InputRefusal>
     ensures report { OnOk result (IfSome (R.remaining reader.old) (λ octets.
         Replayed octets (W.contents writer.old) (W.contents writer.new))) }
     ensures prefix { with_fault result ≡ Err faults.Write → IfSome (R.remaining reader.old) (λ octets.
@@ -117,12 +120,12 @@ pub fn replayed<R: Source, W: Sink>(
 {
     match whole_input(alloc, reader) {
         Ok(octets) => replayed_text(alloc, octets.as_slice(), writer),
-        Err(fault) => Err(Refusal::from(fault)),
+        Err(fault) => Err(InputRefusal::from(fault)),
     }
 }
 
 /// The sign that a text describes.
-fn described_text(alloc: Global, octets: &[u8]) -> Result<Setup, Refusal>
+fn described_text(alloc: Global, octets: &[u8]) -> Result<Setup, InputRefusal>
     ensures sign { IfOk result (λ setup. (it : Description) × SpellsSign (kept_lines octets.now) it × IsMade it setup) }
     ensures line { (number : ℕ) → with_fault result ≡ Err (faults.Line number) → (it : Description)
         → SpellsSign (kept_lines octets.now) it → ⊥ }
@@ -139,13 +142,13 @@ fn described_text(alloc: Global, octets: &[u8]) -> Result<Setup, Refusal>
 {
     match description(alloc, octets) {
         Ok(setup) => Ok(setup),
-        Err(DescriptionFault::Line(number)) => Err(Refusal {
+        Err(DescriptionFault::Line(number)) => Err(InputRefusal {
             fault: ReplayFault::Line(number),
             cause: description_cause(alloc, octets, number),
             unseen: unseen_in(ReplayFault::Line(number), octets),
             is_empty: octets.is_empty(),
         }),
-        Err(DescriptionFault::Memory) => Err(Refusal::from(ReplayFault::Memory)),
+        Err(DescriptionFault::Memory) => Err(InputRefusal::from(ReplayFault::Memory)),
     }
 }
 
@@ -160,7 +163,7 @@ fn description_cause(alloc: Global, octets: &[u8], number: usize) -> Option<Scri
 }
 
 /// Writes the report of the script that a text is.
-fn replayed_text<W: Sink>(alloc: Global, octets: &[u8], writer: &mut W) -> Result<(), Refusal>
+fn replayed_text<W: Sink>(alloc: Global, octets: &[u8], writer: &mut W) -> Result<(), InputRefusal>
     requires { length octets.now ≤ longest_input }
     ensures report { OnOk result (Replayed octets.now (W.contents writer.old) (W.contents writer.new)) }
     ensures prefix { with_fault result ≡ Err faults.Write
@@ -189,7 +192,7 @@ fn replayed_text<W: Sink>(alloc: Global, octets: &[u8], writer: &mut W) -> Resul
 }
 
 /// The refusal of a script with this fault.
-fn script_refusal(alloc: Global, octets: &[u8], fault: ReplayFault) -> Refusal
+fn script_refusal(alloc: Global, octets: &[u8], fault: ReplayFault) -> InputRefusal
     requires { length octets.now ≤ longest_input }
     ensures fault { result.fault ≡ fault }
     ensures cause { IfSome result.cause (IsScriptCause octets.now fault) }
@@ -198,13 +201,13 @@ fn script_refusal(alloc: Global, octets: &[u8], fault: ReplayFault) -> Refusal
     ensures more { SaysMoreOfLines result }
 {
     match fault {
-        ReplayFault::Line(number) => Refusal {
+        ReplayFault::Line(number) => InputRefusal {
             fault,
             cause: script_cause(alloc, octets, number),
             unseen: unseen_in(fault, octets),
             is_empty: octets.is_empty(),
         },
-        _ => Refusal::from(fault),
+        _ => InputRefusal::from(fault),
     }
 }
 

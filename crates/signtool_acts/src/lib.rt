@@ -24,7 +24,7 @@ pub use act::act_saying;
 pub use centre::live_centre;
 pub use dms_text_streams::Counted;
 pub use inputs::{described_before, described_whole, replayed};
-pub use refusal::Refusal;
+pub use refusal::InputRefusal;
 pub use restored::{RestoreRefusal, restored_before};
 pub use restored_centre::{CentreRefusal, centre_restored_before};
 pub use signtool_print::ExitStatus;

@@ -15,7 +15,7 @@ use std::io::Write;
 
 /// Why an input is refused.
 #[derive(Clone, Copy, Debug, PartialEq, Eq)]
-pub struct Refusal {
+pub struct InputRefusal {
     /// Its fault.
     pub fault: ReplayFault,
     /// Why the line that the fault names is refused.
@@ -26,14 +26,14 @@ pub struct Refusal {
     pub is_empty: bool,
 }
 
-impl From<ReplayFault> for Refusal {
+impl From<ReplayFault> for InputRefusal {
     ghost use Rattle.std.specs.Prelude.{◌≡◌};
     ghost use Rattle.signtool_acts.specs.Refused.{fault_alone};
 
     ghost from_gives = { λ fault made. made ≡ fault_alone fault };
 
-    fn from(fault: ReplayFault) -> Refusal {
-        Refusal {
+    fn from(fault: ReplayFault) -> InputRefusal {
+        InputRefusal {
             fault,
             cause: None,
             unseen: None,
@@ -42,7 +42,7 @@ impl From<ReplayFault> for Refusal {
     }
 }
 
-impl Refusal {
+impl InputRefusal {
     ghost use Rattle.std.specs.Prelude.{OnOk};
     ghost use Rattle.std.specs.Io.KnownBytes.{Appends};
     ghost use Rattle.signtool_print.specs.Printed.{answer, PrintsOrMemory};

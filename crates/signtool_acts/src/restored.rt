@@ -12,7 +12,7 @@ ghost use Rattle.signtool_print.specs.declared.statuses.ExitStatus.TheVariants.{
 ghost use Rattle.signtool_acts.specs.RestoredBefore.{PutBefore, IsRefusedState, state_line, state_said};
 ghost use Rattle.signtool_acts.specs.declared.restored.RestoreRefusal.TheVariants as refusals;
 
-use crate::refusal::Refusal;
+use crate::refusal::InputRefusal;
 use dms_sign::Sign;
 use dms_sign_restored::{StateRefusal, put_state};
 use dms_sign_text::ReplayFault;
@@ -76,7 +76,7 @@ impl RestoreRefusal {
     {
         match self {
             RestoreRefusal::Input(fault) => {
-                Refusal::from(ReplayFault::from(*fault)).refuse(alloc, writer, errors)
+                InputRefusal::from(ReplayFault::from(*fault)).refuse(alloc, writer, errors)
             }
             RestoreRefusal::State(refusal) => {
                 let _ = say_state(refusal, errors);

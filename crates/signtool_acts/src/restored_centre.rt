@@ -11,7 +11,7 @@ ghost use Rattle.signtool_acts.specs.RestoredCentre.{CentreBefore, IsRefusedCent
 ghost use Rattle.signtool_acts.specs.declared.restored_centre.CentreRefusal.TheVariants as refusals;
 
 use crate::centre::settings_of;
-use crate::refusal::Refusal;
+use crate::refusal::InputRefusal;
 use crate::restored::print_line;
 use dms_centre_lines::LiveCentre;
 use dms_centre_restored::{RestoreFault, StateRefusal, restored};
@@ -79,7 +79,7 @@ impl CentreRefusal {
     {
         match self {
             CentreRefusal::Input(fault) => {
-                Refusal::from(ReplayFault::from(*fault)).refuse(alloc, writer, errors)
+                InputRefusal::from(ReplayFault::from(*fault)).refuse(alloc, writer, errors)
             }
             CentreRefusal::State(refusal) => {
                 let _ = say_state(refusal, errors);

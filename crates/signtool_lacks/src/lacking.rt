@@ -5,7 +5,7 @@ ghost use Rattle.dms_codes.specs.Limits.{longest_text};
 ghost use Rattle.dms_face.specs.declared.multi_fault.MultiFaultCode.TheVariants.{TextTooBig};
 ghost use Rattle.signtool_lacks.specs.LackText.{excess_text, plural_ending, text_of_excess};
 ghost use Rattle.signtool_lacks.specs.LackText.{LacksFor, IsOfItem, IsRoom};
-ghost use Rattle.signtool_lacks.specs.declared.lacking.Lack.TheVariants.{Octets};
+ghost use Rattle.signtool_lacks.specs.declared.lacking.FaceLack.TheVariants.{Octets};
 
 use dms_codes::MAX_TEXT;
 use dms_face::{Face, Font, Glyph, MultiFault, MultiFaultCode, check};
@@ -24,7 +24,7 @@ const STEPS: [u16; 8] = [128, 64, 32, 16, 8, 4, 2, 1];
 
 /// What a sign lacks for a text that it refuses.
 #[derive(Clone, Copy)]
-pub enum Lack {
+pub enum FaceLack {
     /// A picture of a character.
     Character { character: u16, font: u8 },
     /// A font of this number.
@@ -37,7 +37,7 @@ pub enum Lack {
     Octets(usize),
 }
 
-impl fmt::Display for Lack {
+impl fmt::Display for FaceLack {
     ghost use Rattle.std.specs.Prelude.{Some};
     ghost use Rattle.signtool_lacks.specs.LackText.{lack_text};
 
@@ -45,19 +45,19 @@ impl fmt::Display for Lack {
 
     fn fmt<W: fmt::Write>(&self, f: &mut fmt::Formatter<W>) -> fmt::Result {
         match self {
-            Lack::Character { character, font } => {
+            FaceLack::Character { character, font } => {
                 write!(f, "character {character}{}", OutsideFont { font: *font })
             }
-            Lack::Font(font) => write!(f, "the sign has no font {font}"),
-            Lack::Columns(count) => {
+            FaceLack::Font(font) => write!(f, "the sign has no font {font}"),
+            FaceLack::Columns(count) => {
                 let excess = too_much("wider than the matrix", usize::from(*count), "column");
                 write!(f, "{excess}")
             }
-            Lack::Rows(count) => {
+            FaceLack::Rows(count) => {
                 let excess = too_much("higher than the matrix", usize::from(*count), "row");
                 write!(f, "{excess}")
             }
-            Lack::Octets(count) => {
+            FaceLack::Octets(count) => {
                 let excess = too_much("longer than a text may be", *count, "octet");
                 write!(f, "{excess}")
             }
@@ -116,7 +116,7 @@ fn plural_ending(count: usize) -> &'static str
 
 /// What a face lacks for a text with this fault, where that is a character, a font or room. `None` where no matrix has
 /// the room, and where there is no memory to look.
-pub fn what_lacks(alloc: Global, face: &Face, text: &[u8], fault: MultiFault) -> Option<Lack>
+pub fn what_lacks(alloc: Global, face: &Face, text: &[u8], fault: MultiFault) -> Option<FaceLack>
     ensures kind { IfSome result (LacksFor fault.code text.now) }
     ensures octets { fault.code ≡ TextTooBig → longest_text < length text.now
         → result ≡ Some (Octets (length text.now - longest_text)) }
@@ -127,14 +127,14 @@ pub fn what_lacks(alloc: Global, face: &Face, text: &[u8], fault: MultiFault) ->
         }
         MultiFaultCode::TextTooBig => match text.len().saturating_sub(MAX_TEXT) {
             0 => missing_room(alloc, face, text, fault.place),
-            count => Some(Lack::Octets(count)),
+            count => Some(FaceLack::Octets(count)),
         },
         _ => None,
     }
 }
 
 /// The character that begins at this octet and the font that it is looked for in, or the font that is asked for there.
-fn missing_item(face: &Face, text: &[u8], place: usize) -> Option<Lack>
+fn missing_item(face: &Face, text: &[u8], place: usize) -> Option<FaceLack>
     ensures { IfSome result IsOfItem }
 {
     let mut font = face.defaults().font;
@@ -142,8 +142,11 @@ fn missing_item(face: &Face, text: &[u8], place: usize) -> Option<Lack>
         let spot = spot.ok()?;
         let is_there = spot.first == place;
         match spot.item {
-            Item::Char(character) if is_there => return Some(Lack::Character { character, font }),
-            Item::Font(Some((number, _))) if is_there => return Some(Lack::Font(number)),
+            Item::Char(character) if is_there => return Some(FaceLack::Character {
+                character,
+                font,
+            }),
+            Item::Font(Some((number, _))) if is_there => return Some(FaceLack::Font(number)),
             Item::Font(Some((number, _))) => font = number,
             Item::Font(None) => font = face.defaults().font,
             _ => {}
@@ -154,18 +157,18 @@ fn missing_item(face: &Face, text: &[u8], place: usize) -> Option<Lack>
 
 /// The columns or the rows that a matrix has to have more, for the item at this octet and those after it on its line or
 /// its page.
-fn missing_room(alloc: Global, face: &Face, text: &[u8], place: usize) -> Option<Lack>
+fn missing_room(alloc: Global, face: &Face, text: &[u8], place: usize) -> Option<FaceLack>
     ensures { IfSome result IsRoom }
 {
     let past = place.saturating_add(1);
     if takes(alloc, face, (face.width(), HIGHEST), text, past).ok()? {
         let count = more_rows(alloc, face, text, end_of_page(text, place)).ok()?;
         let is_of_a_matrix = face.height().saturating_add(count) <= HIGHEST;
-        is_of_a_matrix.then_some(Lack::Rows(count))
+        is_of_a_matrix.then_some(FaceLack::Rows(count))
     } else {
         let count = more_columns(alloc, face, text, end_of_line(text, place)).ok()?;
         let is_of_a_matrix = face.width().saturating_add(count) <= WIDEST;
-        is_of_a_matrix.then_some(Lack::Columns(count))
+        is_of_a_matrix.then_some(FaceLack::Columns(count))
     }
 }
 

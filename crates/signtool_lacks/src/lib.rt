@@ -9,4 +9,4 @@
 
 mod lacking;
 
-pub use lacking::{Lack, what_lacks};
+pub use lacking::{FaceLack, what_lacks};

@@ -47,7 +47,7 @@ pub(crate) fn write_object(
 
 /// Writes an instance, if there is one, between two texts.
 fn write_instance(
-    instance: Option<Instance>,
+    instance: Option<NamedInstance>,
     around: (&str, &str),
     out: &mut Vec<u8>,
 ) -> io::Result<()>
@@ -74,14 +74,14 @@ fn numbers_of(alloc: Global, name: &Oid<'_>) -> Result<Vec<u32>, AllocError>
 
 /// An object by its name, and an instance of it.
 #[derive(Clone, Copy)]
-enum Instance {
+enum NamedInstance {
     /// The only one.
     Only(&'static str),
     /// That of a row of the message table.
     Row(&'static str, u32, u32),
 }
 
-impl fmt::Display for Instance {
+impl fmt::Display for NamedInstance {
     ghost use Rattle.std.specs.Prelude.{Some};
     ghost use Rattle.signtool_print.specs.InstanceNames.{instance_text};
 
@@ -89,14 +89,14 @@ impl fmt::Display for Instance {
 
     fn fmt<W: fmt::Write>(&self, f: &mut fmt::Formatter<W>) -> fmt::Result {
         match self {
-            Instance::Only(object) => write!(f, "{object}.0"),
-            Instance::Row(column, memory, number) => write!(f, "{column}.{memory}.{number}"),
+            NamedInstance::Only(object) => write!(f, "{object}.0"),
+            NamedInstance::Row(column, memory, number) => write!(f, "{column}.{memory}.{number}"),
         }
     }
 }
 
 /// The instance that has these numbers below `dms`, if one has.
-fn instance_below(below: &[u32]) -> Option<Instance>
+fn instance_below(below: &[u32]) -> Option<NamedInstance>
     ensures { option_map instance_text result ≡ instance_below below.now }
 {
     match below {
@@ -111,21 +111,21 @@ fn instance_below(below: &[u32]) -> Option<Instance>
 }
 
 /// The only instance of an object of this name.
-fn only_instance(instance: u32, object: Option<&'static str>) -> Option<Instance>
+fn only_instance(instance: u32, object: Option<&'static str>) -> Option<NamedInstance>
     ensures { option_map instance_text result ≡ only_text instance (option_map (λ name. name.now) object.entry) }
 {
     match object {
-        Some(object) if instance == 0 => Some(Instance::Only(object)),
+        Some(object) if instance == 0 => Some(NamedInstance::Only(object)),
         _ => None,
     }
 }
 
 /// That of a row of the message table, of a column of this name.
-fn row_instance(memory: u32, number: u32, column: Option<&'static str>) -> Option<Instance>
+fn row_instance(memory: u32, number: u32, column: Option<&'static str>) -> Option<NamedInstance>
     ensures { option_map instance_text result ≡ row_text memory number (option_map (λ name. name.now) column.entry) }
 {
     match column {
-        Some(column) => Some(Instance::Row(column, memory, number)),
+        Some(column) => Some(NamedInstance::Row(column, memory, number)),
         None => None,
     }
 }

@@ -18,7 +18,7 @@ ghost use Rattle.wisangub_c_causes.specs.declared.text_causes.TextRefusal.{TextR
 ghost use Rattle.wisangub_c.specs.Answers.{done, nothing_sent, too_small, no_memory, unless_memory, put_first, size_of};
 
 use std::alloc::Global;
-use wisangub_c_causes::{Cause, TextCause, tell_command, tell_description, tell_text};
+use wisangub_c_causes::{CauseNumbers, TextCause, tell_command, tell_description, tell_text};
 use wisangub_c_places::SignHandle;
 
 /// Why a description is refused: the line and the first cause in numbers, and the cause in words. Nothing, where it is
@@ -27,7 +27,7 @@ use wisangub_c_places::SignHandle;
 pub extern "C" fn wisangub_description_cause_at(
     alloc: Global,
     text: &[u8],
-    cause: &mut Cause,
+    cause: &mut CauseNumbers,
     words: &mut [u8],
     size: &mut usize,
 ) -> u32
@@ -80,7 +80,7 @@ pub extern "C" fn wisangub_sign_text_cause_at(
 pub extern "C" fn wisangub_command_cause_at(
     alloc: Global,
     line: &[u8],
-    cause: &mut Cause,
+    cause: &mut CauseNumbers,
     words: &mut [u8],
     size: &mut usize,
 ) -> u32

@@ -1,7 +1,7 @@
 -- A cause in numbers, as it is given to C (this profile).
 use Rattle.std.specs.Prelude.{ℕ}
 use Rattle.wisangub_c_causes.specs.declared.cause.Bounds.{Bounds}
-use Rattle.wisangub_c_causes.specs.declared.cause.Cause.{Cause}
+use Rattle.wisangub_c_causes.specs.declared.cause.CauseNumbers.{CauseNumbers}
 
 -- no range is wanted
 abbrev pub no_bounds : Bounds
@@ -11,7 +11,7 @@ abbrev pub from_to : ℕ → ℕ → Bounds
 from_to least most = record { least = least; most = most }
 
 -- a line that is at fault as a whole
-abbrev pub of_line : ℕ → ℕ → Cause
+abbrev pub of_line : ℕ → ℕ → CauseNumbers
 of_line line kind = record {
   line = line;
   word = 0;

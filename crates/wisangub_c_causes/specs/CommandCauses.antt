@@ -9,7 +9,7 @@ use Rattle.dms_centre_text.specs.declared.cause.CommandCause.{CommandCause}
 use Rattle.dms_centre_text.specs.declared.cause.CommandCause.TheVariants as causes
 use Rattle.dms_centre_text.specs.declared.command_word.CommandWord.{CommandWord}
 use Rattle.dms_centre_text.specs.declared.command_word.CommandWord.TheVariants as key
-use Rattle.wisangub_c_causes.specs.declared.cause.Cause.{Cause}
+use Rattle.wisangub_c_causes.specs.declared.cause.CauseNumbers.{CauseNumbers}
 use Rattle.wisangub_c_causes.specs.WordCauses.{of_word}
 use Rattle.wisangub_c_causes.specs.LineCauses.{of_first_word}
 
@@ -23,6 +23,6 @@ abbrev pub whole_form : CommandWord → List Wanted
 whole_form word = wanted.Keyword (keyword_of word) ∷ form_after word
 
 -- why a line is no command: it is the first line
-abbrev pub command_cause_numbers : CommandCause → Cause
+abbrev pub command_cause_numbers : CommandCause → CauseNumbers
 command_cause_numbers causes.Keyword = of_first_word 1
 command_cause_numbers (causes.Word fault) = of_word 1 fault

@@ -4,7 +4,7 @@ use Rattle.dms_face_font.specs.declared.fault.FontFaultKind.{FontFaultKind}
 use Rattle.dms_face_font.specs.declared.fault.FontFaultKind.TheVariants as fonts
 use Rattle.dms_sign_text_causes.specs.declared.cause.LineCause.{LineCause}
 use Rattle.dms_sign_text_causes.specs.declared.cause.LineCause.TheVariants as causes
-use Rattle.wisangub_c_causes.specs.declared.cause.Cause.{Cause}
+use Rattle.wisangub_c_causes.specs.declared.cause.CauseNumbers.{CauseNumbers}
 use Rattle.wisangub_c_causes.specs.Causes.{of_line}
 use Rattle.wisangub_c_causes.specs.WordCauses.{of_word}
 use Rattle.wisangub_c_causes.specs.SignCauses.{of_sign}
@@ -17,11 +17,11 @@ glyph_kind fonts.TooMany = 11
 glyph_kind kind = 0
 
 -- the line begins with no word that may stand there
-abbrev pub of_first_word : ℕ → Cause
+abbrev pub of_first_word : ℕ → CauseNumbers
 of_first_word line = record (of_line line 6) { word = 1 }
 
 -- why a description is refused at this line
-abbrev pub description_cause : ℕ → LineCause → Cause
+abbrev pub description_cause : ℕ → LineCause → CauseNumbers
 description_cause line (causes.Word fault) = of_word line fault
 description_cause line causes.NoEnd = of_line line 5
 description_cause line causes.Keyword = of_first_word line

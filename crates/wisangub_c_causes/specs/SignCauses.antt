@@ -10,7 +10,7 @@ use Rattle.dms_sign_text_causes.specs.declared.row_causes.RowCause.TheVariants a
 use Rattle.dms_sign_text_causes.specs.declared.sign_causes.SignCause.{SignCause}
 use Rattle.dms_sign_text_causes.specs.declared.sign_causes.SignCause.TheVariants as sign
 use Rattle.wisangub_c_causes.specs.declared.cause.Bounds.{Bounds}
-use Rattle.wisangub_c_causes.specs.declared.cause.Cause.{Cause}
+use Rattle.wisangub_c_causes.specs.declared.cause.CauseNumbers.{CauseNumbers}
 use Rattle.wisangub_c_causes.specs.Causes.{no_bounds, from_to}
 
 -- ---- a permanent row
@@ -105,7 +105,7 @@ fault_code None = 0
 fault_code (Some fault) = number_of_code fault.code
 
 -- the line ends a sign that can not be made
-abbrev pub of_sign : ℕ → SignCause → Cause
+abbrev pub of_sign : ℕ → SignCause → CauseNumbers
 of_sign line cause = record {
   line = line;
   word = 0;

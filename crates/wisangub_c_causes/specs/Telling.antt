@@ -10,7 +10,7 @@ use Rattle.dms_sign_text.specs.Causes.{first_cause}
 use Rattle.dms_sign_text_causes.specs.Texts.{cause_text}
 use Rattle.dms_centre_text.specs.CommandForm.{command_cause, command_cause_text}
 use Rattle.signtool_lacks.specs.LackText.{LacksFor}
-use Rattle.signtool_lacks.specs.declared.lacking.Lack.TheVariants.{Octets}
+use Rattle.signtool_lacks.specs.declared.lacking.FaceLack.TheVariants.{Octets}
 use Rattle.wisangub_c_causes.specs.declared.text_causes.TextRefusal.{TextRefusal}
 use Rattle.wisangub_c_values.specs.Answers.{nothing_sent, given_answer, given_buffer}
 

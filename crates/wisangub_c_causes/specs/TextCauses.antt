@@ -4,8 +4,8 @@ use Rattle.dms_face.specs.FaultCode.{number_of_code}
 use Rattle.dms_face.specs.FaultTexts.{multi_fault_text}
 use Rattle.dms_face.specs.declared.multi_fault.MultiFault.{MultiFault}
 use Rattle.signtool_lacks.specs.LackText.{lack_text}
-use Rattle.signtool_lacks.specs.declared.lacking.Lack.{Lack}
-use Rattle.signtool_lacks.specs.declared.lacking.Lack.TheVariants.{Character, Font, Columns, Rows, Octets}
+use Rattle.signtool_lacks.specs.declared.lacking.FaceLack.{FaceLack}
+use Rattle.signtool_lacks.specs.declared.lacking.FaceLack.TheVariants.{Character, Font, Columns, Rows, Octets}
 use Rattle.wisangub_c_causes.specs.declared.text_causes.TextCause.{TextCause}
 use Rattle.wisangub_c_causes.specs.declared.text_causes.TextRefusal.{TextRefusal}
 
@@ -14,7 +14,7 @@ fault_in why = why.fault
 
 -- ---- what is lacking
 
-abbrev pub lack_number : Option Lack → ℕ
+abbrev pub lack_number : Option FaceLack → ℕ
 lack_number None = 0
 lack_number (Some (Character character font)) = 1
 lack_number (Some (Font font)) = 2
@@ -22,17 +22,17 @@ lack_number (Some (Columns count)) = 3
 lack_number (Some (Rows count)) = 4
 lack_number (Some (Octets count)) = 5
 
-abbrev pub lack_count : Option Lack → ℕ
+abbrev pub lack_count : Option FaceLack → ℕ
 lack_count (Some (Columns count)) = count
 lack_count (Some (Rows count)) = count
 lack_count (Some (Octets count)) = count
 lack_count lack = 0
 
-abbrev pub lack_character : Option Lack → ℕ
+abbrev pub lack_character : Option FaceLack → ℕ
 lack_character (Some (Character character font)) = character
 lack_character lack = 0
 
-abbrev pub lack_font : Option Lack → ℕ
+abbrev pub lack_font : Option FaceLack → ℕ
 lack_font (Some (Character character font)) = font
 lack_font (Some (Font font)) = font
 lack_font lack = 0
@@ -50,7 +50,7 @@ text_cause why = record {
 }
 
 -- what is wrong, and what is lacking where that is known
-abbrev pub words_of_lack : MultiFault → Option Lack → List ℕ
+abbrev pub words_of_lack : MultiFault → Option FaceLack → List ℕ
 words_of_lack fault None = multi_fault_text fault
 words_of_lack fault (Some lack) = multi_fault_text fault ++ (codes ": " ++ lack_text lack)
 

@@ -6,7 +6,7 @@ use Rattle.dms_text_forms.specs.declared.fault.WordFault.{WordFault}
 use Rattle.dms_text_forms.specs.declared.fault.WordFaultKind.{WordFaultKind}
 use Rattle.dms_text_forms.specs.declared.fault.WordFaultKind.TheVariants as kinds
 use Rattle.wisangub_c_causes.specs.declared.cause.Bounds.{Bounds}
-use Rattle.wisangub_c_causes.specs.declared.cause.Cause.{Cause}
+use Rattle.wisangub_c_causes.specs.declared.cause.CauseNumbers.{CauseNumbers}
 use Rattle.wisangub_c_causes.specs.Causes.{no_bounds, from_to}
 
 abbrev pub word_kind : WordFaultKind → ℕ
@@ -41,7 +41,7 @@ wanted_bounds (Some wanted.FourOctets) = from_to 0 4294967295
 wanted_bounds word = no_bounds
 
 -- a word of this line is at fault
-abbrev pub of_word : ℕ → WordFault → Cause
+abbrev pub of_word : ℕ → WordFault → CauseNumbers
 of_word line fault = record {
   line = line;
   word = fault.place;

@@ -6,7 +6,7 @@ ghost use Rattle.wisangub_c_causes.specs.Causes.{of_line};
 /// Why a description, a text or a command is refused. A number that says nothing of a cause is 0.
 #[repr(C)]
 #[derive(Clone, Copy)]
-pub struct Cause {
+pub struct CauseNumbers {
     /// The line of a description, from 1.
     pub line: usize,
     /// The word of the line, from 1.
@@ -37,10 +37,10 @@ pub struct Bounds {
 }
 
 /// A line that is at fault as a whole.
-pub(crate) fn of_line(line: usize, kind: u8) -> Cause
+pub(crate) fn of_line(line: usize, kind: u8) -> CauseNumbers
     ensures { result ≡ of_line line kind }
 {
-    Cause {
+    CauseNumbers {
         line,
         word: 0,
         row: 0,

@@ -7,7 +7,7 @@ ghost use Rattle.dms_centre_text.specs.declared.cause.CommandCause.TheVariants a
 ghost use Rattle.dms_centre_text.specs.CommandForm.{command_cause};
 ghost use Rattle.wisangub_c_causes.specs.CommandCauses.{whole_form, command_cause_numbers};
 
-use crate::cause::Cause;
+use crate::cause::CauseNumbers;
 use crate::line_causes::of_first_word;
 use crate::word_causes::of_word;
 use dms_centre_text::{CommandCause, CommandWord};
@@ -64,7 +64,7 @@ fn fault_of(keyword: CommandWord, line: &[u8]) -> Option<CommandCause>
 }
 
 /// Why a line is no command, in numbers: it is the first line.
-pub fn command_cause_numbers(cause: CommandCause) -> Cause
+pub fn command_cause_numbers(cause: CommandCause) -> CauseNumbers
     ensures { result ≡ command_cause_numbers cause }
 {
     match cause {

@@ -16,6 +16,6 @@ mod telling;
 mod text_causes;
 mod word_causes;
 
-pub use cause::Cause;
+pub use cause::CauseNumbers;
 pub use telling::{tell_command, tell_description, tell_text};
 pub use text_causes::TextCause;

@@ -3,7 +3,7 @@
 ghost use Rattle.std.specs.Prelude.{◌≡◌};
 ghost use Rattle.wisangub_c_causes.specs.LineCauses.{glyph_kind, of_first_word, description_cause};
 
-use crate::cause::{Cause, of_line};
+use crate::cause::{CauseNumbers, of_line};
 use crate::sign_causes::of_sign;
 use crate::word_causes::of_word;
 use dms_face_font::FontFaultKind;
@@ -23,7 +23,7 @@ fn glyph_kind(kind: FontFaultKind) -> u8
 }
 
 /// The line begins with no word that may stand there.
-pub(crate) fn of_first_word(line: usize) -> Cause
+pub(crate) fn of_first_word(line: usize) -> CauseNumbers
     ensures { result ≡ of_first_word line }
 {
     let mut cause = of_line(line, 6);
@@ -32,7 +32,7 @@ pub(crate) fn of_first_word(line: usize) -> Cause
 }
 
 /// Why a description is refused at this line.
-pub fn description_cause(line: usize, cause: LineCause) -> Cause
+pub fn description_cause(line: usize, cause: LineCause) -> CauseNumbers
     ensures { result ≡ description_cause line cause }
 {
     match cause {

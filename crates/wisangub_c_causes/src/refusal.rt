@@ -13,13 +13,13 @@ use std::alloc::{AllocError, Global};
 
 /// The line for which a description is refused, from 1, and why.
 #[derive(Clone, Copy)]
-pub struct Refusal {
+pub struct DescriptionRefusal {
     pub line: usize,
     pub cause: LineCause,
 }
 
 /// Why these octets are no sign's description: nothing where they are one.
-pub fn refusal_of(alloc: Global, octets: &[u8]) -> Result<Option<Refusal>, AllocError>
+pub fn refusal_of(alloc: Global, octets: &[u8]) -> Result<Option<DescriptionRefusal>, AllocError>
     ensures line { IfOk result
         (λ found. IfSome found (λ why. IsRefusedLine (all_numbered (lines octets.now)) why.line)) }
     ensures cause { IfOk result
@@ -32,7 +32,7 @@ pub fn refusal_of(alloc: Global, octets: &[u8]) -> Result<Option<Refusal>, Alloc
     };
     match description(alloc, octets) {
         Ok(_) => Ok(None),
-        Err(DescriptionFault::Line(line)) => Ok(Some(Refusal { line, cause })),
+        Err(DescriptionFault::Line(line)) => Ok(Some(DescriptionRefusal { line, cause })),
         Err(DescriptionFault::Memory) => Err(AllocError),
     }
 }

@@ -5,7 +5,7 @@ ghost use Rattle.wisangub_c_causes.specs.SignCauses.{row_kind, row_bounds, row_f
 ghost use Rattle.wisangub_c_causes.specs.SignCauses.{sign_number, sign_row, of_sign};
 ghost use Rattle.wisangub_c_causes.specs.SignCauses.{fault_place, fault_code};
 
-use crate::cause::{Bounds, Cause};
+use crate::cause::{Bounds, CauseNumbers};
 use dms_codes::{
     MAX_CHANGEABLE, MAX_COMMUNITY, MAX_MATRIX_HEIGHT, MAX_MATRIX_WIDTH, MAX_OWNER, MAX_PERMANENT,
     MAX_TEXT, MAX_VOLATILE,
@@ -145,12 +145,12 @@ pub(crate) fn fault_code(fault: Option<MultiFault>) -> u8
 }
 
 /// The line ends a sign that can not be made.
-pub(crate) fn of_sign(line: usize, cause: SignCause) -> Cause
+pub(crate) fn of_sign(line: usize, cause: SignCause) -> CauseNumbers
     ensures { result ≡ of_sign line cause }
 {
     let bounds = sign_bounds(cause);
     let fault = row_fault(cause);
-    Cause {
+    CauseNumbers {
         line,
         word: 0,
         row: sign_row(cause),

@@ -20,10 +20,10 @@ ghost use Rattle.wisangub_c_causes.specs.Telling.{cause_words, command_words, to
 ghost use Rattle.wisangub_c_causes.specs.Telling.{IsWhyNotShown};
 ghost use Rattle.wisangub_c_causes.specs.declared.text_causes.TextRefusal.{TextRefusal};
 
-use crate::cause::Cause;
+use crate::cause::CauseNumbers;
 use crate::command_causes::{command_cause_numbers, command_refusal};
 use crate::line_causes::description_cause;
-use crate::refusal::{Refusal, refusal_of};
+use crate::refusal::{DescriptionRefusal, refusal_of};
 use crate::text_causes::{TextCause, TextRefusal, text_cause, text_refusal};
 use dms_centre_text::CommandCause;
 use dms_face::Face;
@@ -46,8 +46,8 @@ fn give_words(alloc: Global, cause: LineCause, words: &mut [u8], size: &mut usiz
 /// Tells why a description is refused.
 fn tell_refusal(
     alloc: Global,
-    why: Refusal,
-    cause: &mut Cause,
+    why: DescriptionRefusal,
+    cause: &mut CauseNumbers,
     words: &mut [u8],
     size: &mut usize,
 ) -> u32
@@ -69,7 +69,7 @@ fn tell_refusal(
 pub fn tell_description(
     alloc: Global,
     text: &[u8],
-    cause: &mut Cause,
+    cause: &mut CauseNumbers,
     words: &mut [u8],
     size: &mut usize,
 ) -> u32
@@ -162,7 +162,7 @@ fn give_command_words(alloc: Global, cause: CommandCause, words: &mut [u8], size
 pub fn tell_command(
     alloc: Global,
     line: &[u8],
-    cause: &mut Cause,
+    cause: &mut CauseNumbers,
     words: &mut [u8],
     size: &mut usize,
 ) -> u32

@@ -6,12 +6,12 @@ ghost use Rattle.dms_codes.specs.Limits.{longest_text};
 ghost use Rattle.dms_face.specs.Fit.{checked_text};
 ghost use Rattle.dms_face.specs.declared.multi_fault.MultiFaultCode.TheVariants.{TextTooBig};
 ghost use Rattle.signtool_lacks.specs.LackText.{LacksFor};
-ghost use Rattle.signtool_lacks.specs.declared.lacking.Lack.TheVariants.{Octets};
+ghost use Rattle.signtool_lacks.specs.declared.lacking.FaceLack.TheVariants.{Octets};
 ghost use Rattle.wisangub_c_causes.specs.TextCauses.{lack_number, lack_count, lack_character, lack_font, text_cause};
 ghost use Rattle.wisangub_c_causes.specs.TextCauses.{fault_in};
 
 use dms_face::{Face, MultiFault, check};
-use signtool_lacks::{Lack, what_lacks};
+use signtool_lacks::{FaceLack, what_lacks};
 use std::alloc::Global;
 
 /// Why a text can not be shown, and what the sign lacks for it. A number that says nothing of a cause is 0.
@@ -36,7 +36,7 @@ pub struct TextCause {
 #[derive(Clone, Copy)]
 pub struct TextRefusal {
     pub fault: MultiFault,
-    pub lack: Option<Lack>,
+    pub lack: Option<FaceLack>,
 }
 
 /// Why a text can not be shown on a face: nothing where it can. What is lacking is left out where no face has it, and
@@ -57,43 +57,43 @@ pub fn text_refusal(alloc: Global, face: &Face, text: &[u8]) -> Option<TextRefus
 }
 
 /// What is lacking: 1 a character, 2 a font, 3 columns, 4 rows, 5 room for octets.
-fn lack_number(lack: Option<Lack>) -> u8
+fn lack_number(lack: Option<FaceLack>) -> u8
     ensures { result ≡ lack_number lack }
 {
     match lack {
         None => 0,
-        Some(Lack::Character { .. }) => 1,
-        Some(Lack::Font(_)) => 2,
-        Some(Lack::Columns(_)) => 3,
-        Some(Lack::Rows(_)) => 4,
-        Some(Lack::Octets(_)) => 5,
+        Some(FaceLack::Character { .. }) => 1,
+        Some(FaceLack::Font(_)) => 2,
+        Some(FaceLack::Columns(_)) => 3,
+        Some(FaceLack::Rows(_)) => 4,
+        Some(FaceLack::Octets(_)) => 5,
     }
 }
 
-fn lack_count(lack: Option<Lack>) -> usize
+fn lack_count(lack: Option<FaceLack>) -> usize
     ensures { result ≡ lack_count lack }
 {
     match lack {
-        Some(Lack::Columns(count) | Lack::Rows(count)) => usize::from(count),
-        Some(Lack::Octets(count)) => count,
+        Some(FaceLack::Columns(count) | FaceLack::Rows(count)) => usize::from(count),
+        Some(FaceLack::Octets(count)) => count,
         _ => 0,
     }
 }
 
-fn lack_character(lack: Option<Lack>) -> u16
+fn lack_character(lack: Option<FaceLack>) -> u16
     ensures { result ≡ lack_character lack }
 {
     match lack {
-        Some(Lack::Character { character, .. }) => character,
+        Some(FaceLack::Character { character, .. }) => character,
         _ => 0,
     }
 }
 
-fn lack_font(lack: Option<Lack>) -> u8
+fn lack_font(lack: Option<FaceLack>) -> u8
     ensures { result ≡ lack_font lack }
 {
     match lack {
-        Some(Lack::Character { font, .. } | Lack::Font(font)) => font,
+        Some(FaceLack::Character { font, .. } | FaceLack::Font(font)) => font,
         _ => 0,
     }
 }

@@ -3,7 +3,7 @@
 ghost use Rattle.std.specs.Prelude.{◌≡◌};
 ghost use Rattle.wisangub_c_causes.specs.WordCauses.{word_kind, wanted_in, wanted_number, wanted_bounds, of_word};
 
-use crate::cause::{Bounds, Cause};
+use crate::cause::{Bounds, CauseNumbers};
 use dms_text_forms::{Wanted, WordFault, WordFaultKind};
 
 /// What is wrong with a word: 1 it is missing, 2 it is empty, 3 it is another one, 4 it is one too many.
@@ -64,12 +64,12 @@ fn wanted_bounds(wanted: Option<Wanted>) -> Bounds
 }
 
 /// A word of this line is at fault.
-pub(crate) fn of_word(line: usize, fault: WordFault) -> Cause
+pub(crate) fn of_word(line: usize, fault: WordFault) -> CauseNumbers
     ensures { result ≡ of_word line fault }
 {
     let wanted = wanted_in(fault.kind);
     let bounds = wanted_bounds(wanted);
-    Cause {
+    CauseNumbers {
         line,
         word: fault.place,
         row: 0,
