@@ -2,7 +2,7 @@
 use Rattle.std.proofs.Common.{◌≡◌, Bool, true, false, ap, arith}
 use Rattle.dms_codes.specs.declared.codes.Activation.{Activation}
 use Rattle.dms_codes.specs.Codes.{row_id}
-use Rattle.dms_centre_jobs.specs.declared.job.RowFields.{RowFields}
+use Rattle.dms_centre_jobs.specs.declared.job.WrittenRowFields.{WrittenRowFields}
 use Rattle.dms_centre_jobs.specs.Job.{Work}
 use Rattle.dms_centre_jobs.specs.Steps.{row_of}
 use Rattle.dms_centre_jobs.specs.Commands.{CommandModel, IsCommand, OfPublish, OfBlank, OfActivate, is_good, job_of}
@@ -22,7 +22,7 @@ is_job c (OfBlank number minutes priority address small long high is) good = OfS
 is_job c (OfActivate code is) good = OfShowing code is
 
 -- the row of the stored work
-pub row_named : (publishes : Bool) (code : Activation) (fields : RowFields) (work : Work) → work_model publishes code fields ≡ work
+pub row_named : (publishes : Bool) (code : Activation) (fields : WrittenRowFields) (work : Work) → work_model publishes code fields ≡ work
     → row_id code.id ≡ row_of work
 row_named true code fields work view = ap row_of view
 row_named false code fields work view = ap row_of view

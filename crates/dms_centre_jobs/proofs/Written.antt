@@ -11,7 +11,7 @@ use Rattle.dms_codes.specs.declared.row_id.RowId.{RowId}
 use Rattle.dms_mib.specs.declared.column.Column.{Column}
 use Rattle.dms_mib.specs.declared.column.Column.TheVariants.{MultiString, Owner, Beacon, PixelService, RunTimePriority}
 use Rattle.dms_mib.specs.Names.{cell_name}
-use Rattle.dms_centre_jobs.specs.declared.job.RowFields.{RowFields}
+use Rattle.dms_centre_jobs.specs.declared.job.WrittenRowFields.{WrittenRowFields}
 use Rattle.dms_centre_jobs.specs.declared.step.Step.{Step}
 use Rattle.dms_centre_jobs.specs.Job.{SettingsModel, Work, Publishing}
 use Rattle.dms_centre_jobs.specs.Steps.{fields, request_of, row_of, last_number}
@@ -53,11 +53,11 @@ fields_in row text owner beacon pixel run_priority =
     [] ++ field_in row MultiString (octet_string text) ∷ [] ++ field_in row Owner (octet_string owner) ∷ []
     ++ field_in row Beacon (integer (pos beacon)) ∷ [] ++ field_in row PixelService (integer (pos pixel)) ∷ [] ++ field_in row RunTimePriority (integer (pos run_priority)) ∷ []
 
-written_fields : (code : Activation) (kept : RowFields) (row : RowId) (text owner : List ℕ) → row ≡ row_of (Publishing (publication_of code kept))
+written_fields : (code : Activation) (kept : WrittenRowFields) (row : RowId) (text owner : List ℕ) → row ≡ row_of (Publishing (publication_of code kept))
     → text ≡ kept.text.items → owner ≡ kept.owner.items → fields_in row text owner kept.attributes.beacon kept.attributes.pixel kept.attributes.run_priority ≡ fields (Publishing (publication_of code kept))
 written_fields code kept row text owner is text_is owner_is = rw (is, text_is, owner_is) refl
 
-pub published_fields : (publishes : Bool) (code : Activation) (kept : RowFields) (work : Work) (row : RowId) (text owner : List ℕ) → publishes ≡ true
+pub published_fields : (publishes : Bool) (code : Activation) (kept : WrittenRowFields) (work : Work) (row : RowId) (text owner : List ℕ) → publishes ≡ true
     → work_model publishes code kept ≡ work → row ≡ row_of work → text ≡ kept.text.items → owner ≡ kept.owner.items
     → fields_in row text owner kept.attributes.beacon kept.attributes.pixel kept.attributes.run_priority ≡ fields work
 published_fields true code kept work row text owner some view is text_is owner_is =

@@ -19,7 +19,7 @@ use std::marker::Model;
 
 /// The fields of a row that is written.
 #[derive(Drop)]
-pub(crate) struct RowFields {
+pub(crate) struct WrittenRowFields {
     pub(crate) text: Kept<MAX_TEXT>,
     pub(crate) owner: Kept<MAX_OWNER>,
     pub(crate) attributes: Attributes,
@@ -34,7 +34,7 @@ pub struct Work {
     /// The code that puts it up; of a message that is written it lacks the checksum.
     code: Activation,
     /// Of no meaning where nothing is written.
-    pub(crate) fields: RowFields,
+    pub(crate) fields: WrittenRowFields,
     /// The checksum of the fields, once it was computed.
     checksum: Option<u16>,
 }
@@ -61,7 +61,7 @@ pub struct Job {
     pub polls: u8,
 }
 
-impl RowFields {
+impl WrittenRowFields {
     /// Their checksum: the stored one, or else it is computed.
     fn checksum(&self, stored: Option<u16>) -> u16
         requires { HasItsChecksum stored self.now }
@@ -86,7 +86,7 @@ impl Work {
         Work {
             publishes: false,
             code,
-            fields: RowFields {
+            fields: WrittenRowFields {
                 text: Kept::new(),
                 owner: Kept::new(),
                 attributes: Attributes {

@@ -13,7 +13,7 @@ use Rattle.dms_centre.proofs.Restored.{EntryTaken, entry_taken}
 use Rattle.dms_centre_state.specs.CentreText.{ledger_line, ledger_lines}
 use Rattle.dms_centre_state.specs.Reached.{IsEntry, is_settled}
 use Rattle.dms_text_exact.specs.Fronts.{IsFree}
-use Rattle.dms_centre_restored.specs.declared.refusal.Lack.{Lack}
+use Rattle.dms_centre_restored.specs.declared.refusal.CentreLineLack.{CentreLineLack}
 use Rattle.dms_centre_restored.specs.Lacks.{here, wanting, ◌>>=◌}
 use Rattle.dms_text_exact.specs.Fronts.{starts_with}
 use Rattle.dms_centre_restored.specs.LineReading.{entry_line_at}
@@ -86,7 +86,7 @@ module _ (order : Order) (waits : Bool) (s : CentreState) (least : ℕ) (small :
   abbrev pub Passes : List ℕ → Bool
   Passes text = nat_le s.next least || not (starts_with (codes "ledger ") text)
 
-  abbrev lack_at : List ℕ → Lack
+  abbrev lack_at : List ℕ → CentreLineLack
   lack_at text = here (entry_wanted s least) text
 
   -- the entry of an activation that waits
@@ -99,17 +99,17 @@ module _ (order : Order) (waits : Bool) (s : CentreState) (least : ℕ) (small :
   line_is : IsLine (ledger_line order) (IsEntryWithin least (s.next - 1)) entry_at
   line_is = entry_is order least (s.next - 1) (omega (arith, small))
 
-  abbrev opened : Bool → List ℕ → Result Next Lack
+  abbrev opened : Bool → List ℕ → Result Next CentreLineLack
   opened passes text = cond passes (done (nothing s)) (wanting (entry_wanted s least) text (entry_at text) >>= with_settled waits (lack_at text) s)
 
   next_is : (text : List ℕ) → next_entry_at order waits s least text ≡ opened (Passes text) text
   unfolding next_entry_at
   next_is text = refl
 
-  abbrev taken : Lack → Entry × List ℕ → Result Next Lack
+  abbrev taken : CentreLineLack → Entry × List ℕ → Result Next CentreLineLack
   taken lack x = with_read_entry lack s x.0 >>= (λ t. done (next_of t x.0.number x.1))
 
-  settled_is : (lack : Lack) (x : Entry × List ℕ) (apart : Bool) → is_apart x.0 ≡ apart → with_settled waits lack s x ≡ cond apart (done (nothing s)) (taken lack x)
+  settled_is : (lack : CentreLineLack) (x : Entry × List ℕ) (apart : Bool) → is_apart x.0 ≡ apart → with_settled waits lack s x ≡ cond apart (done (nothing s)) (taken lack x)
   settled_is lack x apart is = ap (λ b. cond b (done (nothing s)) (taken lack x)) is
 
   -- an entry was taken up
@@ -127,7 +127,7 @@ module _ (order : Order) (waits : Bool) (s : CentreState) (least : ℕ) (small :
     waits_next : (x : Entry × List ℕ) → Passes text ≡ false → entry_line_at order least (s.next - 1) text ≡ Some x → is_apart x.0 ≡ true → Passed text
 
   -- the next one is not as it must be
-  pub record Lacked (text : List ℕ) (lack : Lack) : Type 0 where
+  pub record Lacked (text : List ℕ) (lack : CentreLineLack) : Type 0 where
     pub go : Passes text ≡ false
     pub lack_is : lack ≡ here (entry_wanted s least) text
     pub why : (entry_line_at order least (s.next - 1) text ≡ None)
@@ -140,7 +140,7 @@ module _ (order : Order) (waits : Bool) (s : CentreState) (least : ℕ) (small :
       let x = bind_ok (wanting (entry_wanted s least) text (entry_at text)) (with_settled waits (lack_at text) s) y open_is in
       (x.0, wanting_ok (entry_wanted s least) text (entry_at text) x.0 x.1, x.2)
 
-  taken_is : (lack : Lack) (x : Entry × List ℕ) (y : Next) → taken lack x ≡ Ok y → (entry_fault s x.0.number x.0.outcome ≡ None) × (next_of (with_entry s x.0) x.0.number x.1 ≡ y)
+  taken_is : (lack : CentreLineLack) (x : Entry × List ℕ) (y : Next) → taken lack x ≡ Ok y → (entry_fault s x.0.number x.0.outcome ≡ None) × (next_of (with_entry s x.0) x.0.number x.1 ≡ y)
   taken_is lack x y e =
       let t = bind_ok (with_read_entry lack s x.0) (λ t. done (next_of t x.0.number x.1)) y e in
       let is = unless_ok lack (entry_fault s x.0.number x.0.outcome) (with_entry s x.0) t.0 t.1 in
@@ -188,7 +188,7 @@ module _ (order : Order) (waits : Bool) (s : CentreState) (least : ℕ) (small :
         | inr go ↦ let x = read_of text (nothing t) go e in passed_entry text t x.0 (is_apart x.0.0) go x.1 refl x.2
       ]
 
-  lacked_entry : (text : List ℕ) (lack : Lack) (x : Entry × List ℕ) (apart : Bool) → Passes text ≡ false → entry_at text ≡ Some x → is_apart x.0 ≡ apart
+  lacked_entry : (text : List ℕ) (lack : CentreLineLack) (x : Entry × List ℕ) (apart : Bool) → Passes text ≡ false → entry_at text ≡ Some x → is_apart x.0 ≡ apart
       → with_settled waits (lack_at text) s x ≡ Err lack → Lacked text lack
   lacked_entry text lack x true go line is e = absurd (never (nothing s) lack (sym (settled_is (lack_at text) x true is) ∙ e))
   lacked_entry text lack x false go line is e =
@@ -199,7 +199,7 @@ module _ (order : Order) (waits : Bool) (s : CentreState) (least : ℕ) (small :
         | inr t ↦ absurd (never (next_of t.0 x.0.number x.1) lack t.2)
       ]
 
-  pub lacked : (text : List ℕ) (lack : Lack) → next_entry_at order waits s least text ≡ Err lack → Lacked text lack
+  pub lacked : (text : List ℕ) (lack : CentreLineLack) → next_entry_at order waits s least text ≡ Err lack → Lacked text lack
   lacked text lack e =
       elim (cases_Bool (Passes text)) [
         | inl pass ↦ absurd (never (nothing s) lack (ap (λ b. opened b text) (sym pass) ∙ sym (next_is text) ∙ e))
@@ -215,7 +215,7 @@ module _ (order : Order) (waits : Bool) (s : CentreState) (least : ℕ) (small :
   passes_alike : (one other : List ℕ) → Alike one other → Passes other ≡ Passes one
   passes_alike one other same = ap (λ b. nat_le s.next least || not b) (sym (starts_alike one other same))
 
-  pub lack_alike : (one other : List ℕ) (lack : Lack) (y : Next) → Alike one other → next_entry_at order waits s least one ≡ Err lack → next_entry_at order waits s least other ≡ Ok y → ⊥
+  pub lack_alike : (one other : List ℕ) (lack : CentreLineLack) (y : Next) → Alike one other → next_entry_at order waits s least one ≡ Err lack → next_entry_at order waits s least other ≡ Ok y → ⊥
   lack_alike one other lack y same e read =
       let l = lacked one lack e in
       let x = read_of other y (passes_alike one other same ∙ l.go) read in
@@ -252,16 +252,16 @@ none_with : (s : CentreState) → s ≡ with_ledger s []
 none_with s = ap (λ ledger. record s { ledger = ledger }) (sym (append-nil s.ledger))
 
 module _ (order : Order) (waits : Bool) (next top : ℕ) (small : next < 2 ^ 32) (apart_below : (n : ℕ) → n < next → (waits && n + 1 == next) ≡ false → n + 1 ≤ top) where
-  abbrev onward : ℕ → ℕ → List ℕ → Next → Result (CentreState × (ℕ × List ℕ)) Lack
+  abbrev onward : ℕ → ℕ → List ℕ → Next → Result (CentreState × (ℕ × List ℕ)) CentreLineLack
   onward more least text found = or_these found.1 (done (read_to found.0 least text)) (entries_at order waits more found.0)
 
   -- where taking up entries comes to an end
-  pub data Ending (state : CentreState) (least : ℕ) (rest : List ℕ) (read : Result (CentreState × (ℕ × List ℕ)) Lack) : Type 0 where
+  pub data Ending (state : CentreState) (least : ℕ) (rest : List ℕ) (read : Result (CentreState × (ℕ × List ℕ)) CentreLineLack) : Type 0 where
     none_more : next_entry_at order waits state least rest ≡ Ok (nothing state) → read ≡ Ok (read_to state least rest) → Ending state least rest read
-    one_wrong : (lack : Lack) → next_entry_at order waits state least rest ≡ Err lack → read ≡ Err lack → Ending state least rest read
+    one_wrong : (lack : CentreLineLack) → next_entry_at order waits state least rest ≡ Err lack → read ≡ Err lack → Ending state least rest read
 
   -- entries that are taken up, and what stands behind them
-  pub record IsSplit (s : CentreState) (least : ℕ) (text : List ℕ) (read : Result (CentreState × (ℕ × List ℕ)) Lack) : Type 0 where
+  pub record IsSplit (s : CentreState) (least : ℕ) (text : List ℕ) (read : Result (CentreState × (ℕ × List ℕ)) CentreLineLack) : Type 0 where
     pub entries : List Entry
     pub rest : List ℕ
     pub text_is : text ≡ ledger_lines order entries ++ rest
@@ -276,7 +276,7 @@ module _ (order : Order) (waits : Bool) (next top : ℕ) (small : next < 2 ^ 32)
   abbrev Goal : ℕ → CentreState → ℕ → List ℕ → Type 0
   Goal more s least text = s.next ≡ next → is_busy s.phase ≡ false → number_after s.ledger ≤ least → least ≤ top → length text ≤ more → IsSplit s least text (entries_at order waits more s least text)
 
-  first_of : (s : CentreState) (least : ℕ) (text : List ℕ) (entry : Entry) (after : List ℕ) (more_read : Result (CentreState × (ℕ × List ℕ)) Lack) → s.next ≡ next
+  first_of : (s : CentreState) (least : ℕ) (text : List ℕ) (entry : Entry) (after : List ℕ) (more_read : Result (CentreState × (ℕ × List ℕ)) CentreLineLack) → s.next ≡ next
       → text ≡ ledger_line order entry ++ after → IsEntry entry → least ≤ entry.number → EntryTaken s entry.number entry.outcome
       → IsSplit (with_entry s entry) (entry.number + 1) after more_read → IsSplit s least text more_read
   first_of s least text entry after more_read same is good from taken split = record {
@@ -294,7 +294,7 @@ module _ (order : Order) (waits : Bool) (next top : ℕ) (small : next < 2 ^ 32)
 
   by_next : (more : ℕ) (s : CentreState) (least : ℕ) (text : List ℕ) → ((t : CentreState) (after : ℕ) (rest : List ℕ) → Goal more t after rest)
       → s.next ≡ next → is_busy s.phase ≡ false → number_after s.ledger ≤ least → least ≤ top → length text ≤ suc more
-      → (found : Result Next Lack) → next_entry_at order waits s least text ≡ found → IsSplit s least text (found >>= onward more least text)
+      → (found : Result Next CentreLineLack) → next_entry_at order waits s least text ≡ found → IsSplit s least text (found >>= onward more least text)
   by_next more s least text rec same idle after below few (Err lack) e = record {
     entries = [];
     rest = text;

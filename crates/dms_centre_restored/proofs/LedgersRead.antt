@@ -15,9 +15,9 @@ use Rattle.dms_centre.specs.Restoring.{number_after, has_its_status, entry_fault
 use Rattle.dms_centre.specs.Invariant.{Rise}
 use Rattle.dms_centre_state.specs.CentreText.{ledger_line, ledger_lines}
 use Rattle.dms_centre_state.specs.Reached.{IsOutcome, IsEntry, is_settled}
-use Rattle.dms_centre_restored.specs.declared.refusal.Unread.{Unread}
-use Rattle.dms_centre_restored.specs.declared.refusal.Unread.TheVariants as unread
-use Rattle.dms_centre_restored.specs.declared.refusal.Lack.{Lack}
+use Rattle.dms_centre_restored.specs.declared.refusal.UnreadCentreLine.{UnreadCentreLine}
+use Rattle.dms_centre_restored.specs.declared.refusal.UnreadCentreLine.TheVariants as unread
+use Rattle.dms_centre_restored.specs.declared.refusal.CentreLineLack.{CentreLineLack}
 use Rattle.dms_centre_restored.specs.Lacks.{here, wanting, unless, Fails, ◌>>=◌}
 use Rattle.dms_text_exact.specs.Fronts.{starts_with}
 use Rattle.dms_centre_restored.specs.LineReading.{entry_line_at}
@@ -114,7 +114,7 @@ none_with s = ap (λ ledger. record s { ledger = ledger }) (sym (append-nil s.le
 module _ (order : Order) (waits : Bool) (next top : ℕ) (rest : List ℕ) (small : next < 2 ^ 32) (within : top ≤ next)
     (apart : (n : ℕ) → n < top → (waits && n + 1 == next) ≡ false)
     (stop : (s : CentreState) (least : ℕ) → s.next ≡ next → is_busy s.phase ≡ false → least ≤ top → number_after s.ledger ≤ least → next_entry_at order waits s least rest ≡ Ok (s, None)) where
-  abbrev pub onwards : ℕ → ℕ → List ℕ → CentreState × Option (ℕ × List ℕ) → Result (CentreState × (ℕ × List ℕ)) Lack
+  abbrev pub onwards : ℕ → ℕ → List ℕ → CentreState × Option (ℕ × List ℕ) → Result (CentreState × (ℕ × List ℕ)) CentreLineLack
   onwards more least text found = or_these found.1 (done (found.0, (least, text))) (entries_at order waits more found.0)
 
   pub entries_only : (more : ℕ) (s : CentreState) (least : ℕ) (ledger : List Entry) → s.next ≡ next → is_busy s.phase ≡ false → number_after s.ledger ≤ least → length ledger ≤ more
@@ -178,10 +178,10 @@ module _ (order : Order) (waits : Bool) (next top : ℕ) (rest : List ℕ) (smal
 
 -- ---- as a loop reads them
 
-abbrev onward : Order → Bool → ℕ → ℕ → List ℕ → CentreState × Option (ℕ × List ℕ) → Result (CentreState × (ℕ × List ℕ)) Lack
+abbrev onward : Order → Bool → ℕ → ℕ → List ℕ → CentreState × Option (ℕ × List ℕ) → Result (CentreState × (ℕ × List ℕ)) CentreLineLack
 onward order waits more least text found = or_these found.1 (done (found.0, (least, text))) (entries_at order waits more found.0)
 
-module _ (order : Order) (waits : Bool) (count i : ℕ) (s : CentreState) (least : ℕ) (text : List ℕ) (total : Result (CentreState × (ℕ × List ℕ)) Lack)
+module _ (order : Order) (waits : Bool) (count i : ℕ) (s : CentreState) (least : ℕ) (text : List ℕ) (total : Result (CentreState × (ℕ × List ℕ)) CentreLineLack)
     (so_far : entries_at order waits (count - i) s least text ≡ total) where
   one_of : i < count → entries_at order waits (count - i) s least text ≡ (next_entry_at order waits s least text >>= (λ found. onward order waits (count - (i + 1)) least text found))
   unfolding entries_at
@@ -198,7 +198,7 @@ module _ (order : Order) (waits : Bool) (count i : ℕ) (s : CentreState) (least
   no_more t less read =
       sym so_far ∙ one_of less ∙ reads_on (next_entry_at order waits s least text) (λ found. onward order waits (count - (i + 1)) least text found) (t, None) read
 
-  pub one_lacks : (error : Unread) → i < count → Fails error (next_entry_at order waits s least text) → Fails error total
+  pub one_lacks : (error : UnreadCentreLine) → i < count → Fails error (next_entry_at order waits s least text) → Fails error total
   one_lacks unread.Memory less fails = tt
   one_lacks (unread.Lacks lack) less fails =
       sym so_far ∙ one_of less ∙ ap (λ found. found >>= (λ found. onward order waits (count - (i + 1)) least text found)) fails

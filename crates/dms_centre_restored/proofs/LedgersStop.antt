@@ -25,8 +25,8 @@ use Rattle.dms_centre.specs.Invariant.{Rise}
 use Rattle.dms_centre.proofs.Rising.{rise_behind}
 use Rattle.dms_centre_state.specs.CentreText.{ledger_line, ledger_lines}
 use Rattle.dms_centre_state.specs.Reached.{IsPhaseOf, IsEntry, is_settled, IsLedgerOf, waiting_entries}
-use Rattle.dms_centre_restored.specs.declared.refusal.StateField.TheVariants as fields
-use Rattle.dms_centre_restored.specs.declared.refusal.Lack.{Lack}
+use Rattle.dms_centre_restored.specs.declared.refusal.CentreStateField.TheVariants as fields
+use Rattle.dms_centre_restored.specs.declared.refusal.CentreLineLack.{CentreLineLack}
 use Rattle.dms_centre_restored.specs.Lacks.{here, wanting, ◌>>=◌}
 use Rattle.dms_text_exact.specs.Fronts.{starts_with}
 use Rattle.dms_centre_restored.specs.LineReading.{entry_line_at, end_at}
@@ -65,7 +65,7 @@ State = CentreState × List ℕ
 abbrev pub state_and : CentreState → List ℕ → State
 state_and t rest = (t, rest)
 
-abbrev pub after_ledger : State → Result CentreState Lack
+abbrev pub after_ledger : State → Result CentreState CentreLineLack
 after_ledger ledger = wanting fields.End ledger.1 (end_at ledger.1) >>= (λ end. done ledger.0)
 
 after_ok : (x : State) (y : CentreState) → after_ledger x ≡ Ok y → (z : List ℕ) × (end_at x.1 ≡ Some z) × (x.0 ≡ y)
@@ -73,7 +73,7 @@ after_ok x y e =
     let read = bind_ok (wanting fields.End x.1 (end_at x.1)) (λ end. done x.0) y e in
     (read.0, wanting_ok fields.End x.1 (end_at x.1) read.0 read.1, ok_is x.0 y read.2)
 
-after_lacks : (x : State) (lack : Lack) → after_ledger x ≡ Err lack → (end_at x.1 ≡ None) × (lack ≡ here fields.End x.1)
+after_lacks : (x : State) (lack : CentreLineLack) → after_ledger x ≡ Err lack → (end_at x.1 ≡ None) × (lack ≡ here fields.End x.1)
 after_lacks x lack e =
     elim (bind_err (wanting fields.End x.1 (end_at x.1)) (λ end. done x.0) lack e) [
       | inl first ↦ wanting_err fields.End x.1 (end_at x.1) lack first
@@ -99,7 +99,7 @@ module _ (settings : SettingsModel) (next : ℕ) (last : Ended) (small : next < 
   abbrev begun : CentreState
   begun = with_entries []
 
-  abbrev pub ledger_read : Option JobRead → List ℕ → Result CentreState Lack
+  abbrev pub ledger_read : Option JobRead → List ℕ → Result CentreState CentreLineLack
   ledger_read job text = ledger_at order job begun text >>= after_ledger
 
   -- entries that are taken up
@@ -116,10 +116,10 @@ module _ (settings : SettingsModel) (next : ℕ) (last : Ended) (small : next < 
     abbrev lines : List Entry → List ℕ
     lines entries = ledger_lines order entries
 
-    abbrev entries_of : List ℕ → Result Read Lack
+    abbrev entries_of : List ℕ → Result Read CentreLineLack
     entries_of text = entries_at order (job_waits job) (length text) begun 0 text
 
-    abbrev next_of : List Entry → List ℕ → Result Next Lack
+    abbrev next_of : List Entry → List ℕ → Result Next CentreLineLack
     next_of entries rest = next_entry_at order (job_waits job) (with_entries entries) (least_after 0 entries) rest
 
     -- the entries are read, and then what stands behind them
@@ -164,12 +164,12 @@ module _ (settings : SettingsModel) (next : ℕ) (last : Ended) (small : next < 
         let read = bind_ok (entries_of text) (behind_entries order job) ledger.0 ledger.1 in
         record { read = read.0; entries = read.1; found = ledger.0; behind = read.2; after = ledger.2 }
 
-    pub data Fails (text : List ℕ) (lack : Lack) : Type 0 where
+    pub data Fails (text : List ℕ) (lack : CentreLineLack) : Type 0 where
       in_entries : entries_of text ≡ Err lack → Fails text lack
       in_job : (read : Read) → entries_of text ≡ Ok read → behind_entries order job read ≡ Err lack → Fails text lack
       in_end : (read : Read) (x : State) → entries_of text ≡ Ok read → behind_entries order job read ≡ Ok x → after_ledger x ≡ Err lack → Fails text lack
 
-    pub fails_of : (text : List ℕ) (lack : Lack) → ledger_read job text ≡ Err lack → Fails text lack
+    pub fails_of : (text : List ℕ) (lack : CentreLineLack) → ledger_read job text ≡ Err lack → Fails text lack
     unfolding ledger_at
     fails_of text lack e =
         elim (bind_err (ledger_at order job begun text) after_ledger lack e) [
@@ -182,7 +182,7 @@ module _ (settings : SettingsModel) (next : ℕ) (last : Ended) (small : next < 
         ]
 
     -- an entry is not as it must be
-    pub wrong_stops : (Whole : List ℕ → Type 0) (entries : List Entry) (text rest : List ℕ) (lack : Lack) → Are top entries → text ≡ lines entries ++ rest → next_of entries rest ≡ Err lack
+    pub wrong_stops : (Whole : List ℕ → Type 0) (entries : List Entry) (text rest : List ℕ) (lack : CentreLineLack) → Are top entries → text ≡ lines entries ++ rest → next_of entries rest ≡ Err lack
         → (least_after 0 entries < next → CanGoOn order (fields.Entry (least_after 0 entries) (next - 1)) (λ other. Whole (lines entries ++ other))) → Stops order (ledger_read job) Whole text lack
     wrong_stops Whole entries text rest lack is text_is wrong can =
         let l = lacked order (job_waits job) (with_entries entries) (least_after 0 entries) small rest lack wrong in
@@ -190,8 +190,8 @@ module _ (settings : SettingsModel) (next : ℕ) (last : Ended) (small : next < 
           before = lines entries;
           rest = rest;
           parts = text_is;
-          left = ap (λ (l : Lack). l.left) l.lack_is;
-          goes_on = subst (λ (l : Lack). CanGoOn order l.wanted (λ other. Whole (lines entries ++ other))) (sym l.lack_is) (can (is_below next (least_after 0 entries) _ l.go));
+          left = ap (λ (l : CentreLineLack). l.left) l.lack_is;
+          goes_on = subst (λ (l : CentreLineLack). CanGoOn order l.wanted (λ other. Whole (lines entries ++ other))) (sym l.lack_is) (can (is_below next (least_after 0 entries) _ l.go));
           lacks = λ other y h e.
               let parts = parts_of (lines entries ++ other) y e in
               let x = at_ok entries other parts.read is (some_octets other rest h) parts.entries in
@@ -214,7 +214,7 @@ module _ (settings : SettingsModel) (next : ℕ) (last : Ended) (small : next < 
         (parts.found, ap (behind_entries order job) (sym same) ∙ parts.behind, parts.after)
 
     -- the last line is not as it must be, where no job comes with an entry
-    pub end_stops : (Whole : List ℕ → Type 0) (entries : List Entry) (text rest : List ℕ) (t : CentreState) (lack : Lack) → Are top entries → text ≡ lines entries ++ rest
+    pub end_stops : (Whole : List ℕ → Type 0) (entries : List Entry) (text rest : List ℕ) (t : CentreState) (lack : CentreLineLack) → Are top entries → text ≡ lines entries ++ rest
         → next_of entries rest ≡ Ok (nothing (with_entries entries))
         → ((other : List ℕ) → behind_entries order job (read_to (with_entries entries) (least_after 0 entries) other) ≡ Ok (state_and t other))
         → after_ledger (state_and t rest) ≡ Err lack → Whole (lines entries ++ end) → Stops order (ledger_read job) Whole text lack
@@ -224,8 +224,8 @@ module _ (settings : SettingsModel) (next : ℕ) (last : Ended) (small : next < 
           before = lines entries;
           rest = rest;
           parts = text_is;
-          left = ap (λ (l : Lack). l.left) l.1;
-          goes_on = subst (λ (l : Lack). CanGoOn order l.wanted (λ other. Whole (lines entries ++ other))) (sym l.1) (end, refl, whole);
+          left = ap (λ (l : CentreLineLack). l.left) l.1;
+          goes_on = subst (λ (l : CentreLineLack). CanGoOn order l.wanted (λ other. Whole (lines entries ++ other))) (sym l.1) (end, refl, whole);
           lacks = λ other y h e.
               let x = behind_other entries other rest y is h pass e in
               let same = ok_is (state_and t other) x.0 (sym (behind other) ∙ x.1) in
@@ -331,7 +331,7 @@ module _ (settings : SettingsModel) (next : ℕ) (last : Ended) (small : next < 
         )
 
     -- where entries that are taken up come to an end
-    quiet_ends : (text : List ℕ) (lack : Lack) (entries : List Entry) (rest : List ℕ) → Taken entries → text ≡ ledger_lines settings.order entries ++ rest
+    quiet_ends : (text : List ℕ) (lack : CentreLineLack) (entries : List Entry) (rest : List ℕ) → Taken entries → text ≡ ledger_lines settings.order entries ++ rest
         → Ending settings.order (job_waits job) next next small (λ n less apart. omega (arith, less)) (with_entries settings next last small entries) (least_after 0 entries) rest
         (entries_at settings.order (job_waits job) (length text) (with_entries settings next last small []) 0 text)
         → Fails settings next last small job next (omega arith) quiet_apart text lack → Stops settings.order (ledger_read settings next last small job) Whole text lack
@@ -352,7 +352,7 @@ module _ (settings : SettingsModel) (next : ℕ) (last : Ended) (small : next < 
     quiet_ends text lack entries rest are text_is (one_wrong other wrong read) (in_job found e behind) = absurd (never found other (sym e ∙ read))
     quiet_ends text lack entries rest are text_is (one_wrong other wrong read) (in_end found x e behind after) = absurd (never found other (sym e ∙ read))
 
-    pub quiet_stops : (text : List ℕ) (lack : Lack) → ledger_read settings next last small job text ≡ Err lack → Stops settings.order (ledger_read settings next last small job) Whole text lack
+    pub quiet_stops : (text : List ℕ) (lack : CentreLineLack) → ledger_read settings next last small job text ≡ Err lack → Stops settings.order (ledger_read settings next last small job) Whole text lack
     quiet_stops text lack e =
         let split = quiet_split text in
         let are : Taken split.entries = record {
@@ -407,11 +407,11 @@ waits_only (outcomes.Refused status) e = absurd cc
 waits_only outcomes.NoReply e = absurd cc
 waits_only outcomes.Unknown e = absurd cc
 
-cond_ok : (b : Bool) (x y : State) (lack : Lack) → cond b (done x) (failed lack) ≡ Ok y → (b ≡ true) × (x ≡ y)
+cond_ok : (b : Bool) (x y : State) (lack : CentreLineLack) → cond b (done x) (failed lack) ≡ Ok y → (b ≡ true) × (x ≡ y)
 cond_ok true x y lack e = (refl, ok_is x y e)
 cond_ok false x y lack e = absurd cc
 
-cond_err : (b : Bool) (x : State) (lack other : Lack) → cond b (done x) (failed lack) ≡ Err other → other ≡ lack
+cond_err : (b : Bool) (x : State) (lack other : CentreLineLack) → cond b (done x) (failed lack) ≡ Err other → other ≡ lack
 cond_err true x lack other e = absurd (never x other e)
 cond_err false x lack other e = sym (err_is {A = State} lack other e)
 
@@ -468,7 +468,7 @@ module _ (settings : SettingsModel) (next : ℕ) (last : Ended) (small : next < 
   abbrev with_it : List Entry → CentreState
   with_it entries = with_job (state_of entries) job stage
 
-  it_is_taken : (lack : Lack) (entries : List Entry) → Entered entries → with_read_job lack (state_of entries) read_job ≡ Ok (with_it entries)
+  it_is_taken : (lack : CentreLineLack) (entries : List Entry) → Entered entries → with_read_job lack (state_of entries) read_job ≡ Ok (with_it entries)
   it_is_taken lack entries are =
       let low = least_below 0 (next - 1) entries are.rise in
       job_taken lack (state_of entries) job stage refl (waits_faultless settings next job pending is.1) is.0 (λ waits. omega (arith, are.after, low, some_next))
@@ -479,10 +479,10 @@ module _ (settings : SettingsModel) (next : ℕ) (last : Ended) (small : next < 
   abbrev line_at : List Entry → List ℕ → Option (Entry × List ℕ)
   line_at entries text = entry_line_at settings.order (least_after 0 entries) (next - 1) text
 
-  abbrev wanted_at : List Entry → List ℕ → Lack
+  abbrev wanted_at : List Entry → List ℕ → CentreLineLack
   wanted_at entries text = here (entry_wanted (state_of entries) (least_after 0 entries)) text
 
-  abbrev taken_at : List Entry → List ℕ → Result State Lack
+  abbrev taken_at : List Entry → List ℕ → Result State CentreLineLack
   taken_at entries text = activation_taken_at settings.order (state_of entries) read_job (least_after 0 entries) text
 
   behind_is : (entries : List Entry) (text : List ℕ) → behind_entries settings.order on (read_to (state_of entries) (least_after 0 entries) text) ≡ taken_at entries text
@@ -522,7 +522,7 @@ module _ (settings : SettingsModel) (next : ℕ) (last : Ended) (small : next < 
       ∙ reads_on (with_read_job lack (state_of entries) read_job) (λ t. cond (is_entered t entry) (done (state_and t after)) (failed lack)) (with_it entries) (it_is_taken lack entries are)
       ∙ ap (λ b. cond b (done (state_and (with_it entries) after)) (failed lack)) entered
 
-  taken_lacks : (entries : List Entry) (text : List ℕ) (other : Lack) → Entered entries → taken_at entries text ≡ Err other → other ≡ wanted_at entries text
+  taken_lacks : (entries : List Entry) (text : List ℕ) (other : CentreLineLack) → Entered entries → taken_at entries text ≡ Err other → other ≡ wanted_at entries text
   unfolding activation_taken_at
   taken_lacks entries text other are e =
       let lack = wanted_at entries text in
@@ -589,7 +589,7 @@ module _ (settings : SettingsModel) (next : ℕ) (last : Ended) (small : next < 
   pass_of : (entries : List Entry) (rest : List ℕ) → Passing entries rest → Passed settings.order (job_waits on) (state_of entries) (least_after 0 entries) small rest
   pass_of entries rest pass = (passed settings.order (job_waits on) (state_of entries) (least_after 0 entries) small rest (state_of entries) pass).1
 
-  abbrev reading : List ℕ → Result CentreState Lack
+  abbrev reading : List ℕ → Result CentreState CentreLineLack
   reading text = ledger_read settings next last small on text
 
   -- the ledger that was read
@@ -644,7 +644,7 @@ module _ (settings : SettingsModel) (next : ℕ) (last : Ended) (small : next < 
     )
 
     -- the entry of the activation is not as it must be
-    job_wrong : (text : List ℕ) (lack : Lack) (entries : List Entry) (rest : List ℕ) → Entered entries → text ≡ entries_line entries ++ rest → Passing entries rest
+    job_wrong : (text : List ℕ) (lack : CentreLineLack) (entries : List Entry) (rest : List ℕ) → Entered entries → text ≡ entries_line entries ++ rest → Passing entries rest
         → taken_at entries rest ≡ Err lack → Stops settings.order reading Whole text lack
     job_wrong text lack entries rest are text_is pass e =
         let l = taken_lacks entries rest lack are e in
@@ -652,8 +652,8 @@ module _ (settings : SettingsModel) (next : ℕ) (last : Ended) (small : next < 
           before = entries_line entries;
           rest = rest;
           parts = text_is;
-          left = ap (λ (l : Lack). l.left) l;
-          goes_on = subst (λ (l : Lack). CanGoOn settings.order l.wanted (λ other. Whole (entries_line entries ++ other))) (sym l) (one_can entries are);
+          left = ap (λ (l : CentreLineLack). l.left) l;
+          goes_on = subst (λ (l : CentreLineLack). CanGoOn settings.order l.wanted (λ other. Whole (entries_line entries ++ other))) (sym l) (one_can entries are);
           lacks = λ other y h read.
               let x = behind_other settings next last small on (next - 1) (omega arith) active_apart entries other rest y are h pass read in
               let t = taken_found entries other x.0 are (sym (behind_is entries other) ∙ x.1) in
@@ -662,7 +662,7 @@ module _ (settings : SettingsModel) (next : ℕ) (last : Ended) (small : next < 
         }
 
     -- the last line is not as it must be
-    end_wrong : (text : List ℕ) (lack : Lack) (entries : List Entry) (rest : List ℕ) (x : State) → Entered entries → text ≡ entries_line entries ++ rest → Passing entries rest
+    end_wrong : (text : List ℕ) (lack : CentreLineLack) (entries : List Entry) (rest : List ℕ) (x : State) → Entered entries → text ≡ entries_line entries ++ rest → Passing entries rest
         → taken_at entries rest ≡ Ok x → after_ledger x ≡ Err lack → Stops settings.order reading Whole text lack
     end_wrong text lack entries rest x are text_is pass e after =
         let t = taken_found entries rest x are e in
@@ -674,8 +674,8 @@ module _ (settings : SettingsModel) (next : ℕ) (last : Ended) (small : next < 
           before = front;
           rest = x.1;
           parts = text_is ∙ ap (λ rest. entries_line entries ++ rest) one.1 ∙ sym (append_assoc (entries_line entries) one_line x.1);
-          left = ap (λ (l : Lack). l.left) l.1;
-          goes_on = subst (λ (l : Lack). CanGoOn settings.order l.wanted (λ other. Whole (front ++ other))) (sym l.1) (end, refl, whole_of entries are);
+          left = ap (λ (l : CentreLineLack). l.left) l.1;
+          goes_on = subst (λ (l : CentreLineLack). CanGoOn settings.order l.wanted (λ other. Whole (front ++ other))) (sym l.1) (end, refl, whole_of entries are);
           lacks = λ other y h read.
               let same : HasLineOf (one_line ++ other) rest = record {
                 line = line.word;
@@ -695,7 +695,7 @@ module _ (settings : SettingsModel) (next : ℕ) (last : Ended) (small : next < 
               none-some [] (sym l.0 ∙ end_alike other x.1 w.0 h (ap end_at (sym rest_same) ∙ w.1));
         }
 
-    active_ends : (text : List ℕ) (lack : Lack) (entries : List Entry) (rest : List ℕ) → Entered entries → text ≡ entries_line entries ++ rest
+    active_ends : (text : List ℕ) (lack : CentreLineLack) (entries : List Entry) (rest : List ℕ) → Entered entries → text ≡ entries_line entries ++ rest
         → Ending settings.order (job_waits on) next (next - 1) small below_top (state_of entries) (least_after 0 entries) rest
         (entries_at settings.order (job_waits on) (length text) (with_entries settings next last small []) 0 text)
         → Fails settings next last small on (next - 1) (omega arith) active_apart text lack → Stops settings.order reading Whole text lack
@@ -712,7 +712,7 @@ module _ (settings : SettingsModel) (next : ℕ) (last : Ended) (small : next < 
     active_ends text lack entries rest are text_is (one_wrong other wrong read) (in_job found e behind) = absurd (never found other (sym e ∙ read))
     active_ends text lack entries rest are text_is (one_wrong other wrong read) (in_end found x e behind after) = absurd (never found other (sym e ∙ read))
 
-    pub active_stops : (text : List ℕ) (lack : Lack) → reading text ≡ Err lack → Stops settings.order reading Whole text lack
+    pub active_stops : (text : List ℕ) (lack : CentreLineLack) → reading text ≡ Err lack → Stops settings.order reading Whole text lack
     active_stops text lack e =
         let split = active_split text in
         let are : Entered split.entries = record {
@@ -740,7 +740,7 @@ module _ (settings : SettingsModel) (next : ℕ) (last : Ended) (small : next < 
       ]
 
   pub ledger_stops : (phase : Phase) → IsPhaseOf settings next phase → (Whole : List ℕ → Type 0)
-      → ((ledger : List Entry) → IsLedgerOf next phase ledger → Whole (ledger_lines settings.order ledger ++ end)) → (text : List ℕ) (lack : Lack)
+      → ((ledger : List Entry) → IsLedgerOf next phase ledger → Whole (ledger_lines settings.order ledger ++ end)) → (text : List ℕ) (lack : CentreLineLack)
       → ledger_read settings next last small (job_of_phase phase) text ≡ Err lack → Stops settings.order (ledger_read settings next last small (job_of_phase phase)) Whole text lack
   ledger_stops Idle is Whole fits text lack e = quiet_stops settings next last small Idle is refl Whole fits text lack e
   ledger_stops (Due job) is Whole fits text lack e = quiet_stops settings next last small (Due job) is refl Whole fits text lack e

@@ -10,9 +10,9 @@ use Rattle.dms_centre.specs.declared.ended.Ended.{Ended}
 use Rattle.dms_centre.specs.declared.ended.Ended.TheVariants as endings
 use Rattle.dms_centre_state.specs.CentreText.{last_line}
 use Rattle.dms_text_exact.specs.Fronts.{IsFree}
-use Rattle.dms_centre_restored.specs.declared.refusal.StateField.{StateField}
-use Rattle.dms_centre_restored.specs.declared.refusal.StateField.TheVariants as fields
-use Rattle.dms_centre_restored.specs.declared.refusal.StateFault.{StateFault}
+use Rattle.dms_centre_restored.specs.declared.refusal.CentreStateField.{CentreStateField}
+use Rattle.dms_centre_restored.specs.declared.refusal.CentreStateField.TheVariants as fields
+use Rattle.dms_centre_restored.specs.declared.refusal.CentreStateFault.{CentreStateFault}
 use Rattle.dms_centre_restored.specs.Faults.{Stands, IsStateText, HasLineOf, IsWrongAt}
 
 -- a text that is parted at two places
@@ -54,7 +54,7 @@ last_some endings.Accepted rest = omega arith
 last_some (endings.Failed step why) rest = omega arith
 
 -- what is wanted is not nothing
-some_stands : (order : Order) (wanted : StateField) (text : List ℕ) → Stands order wanted text → 1 ≤ length text
+some_stands : (order : Order) (wanted : CentreStateField) (text : List ℕ) → Stands order wanted text → 1 ≤ length text
 some_stands order fields.Form text s = omega (arith, ap length s.1)
 some_stands order fields.Next text s = omega (arith, ap length s.3)
 some_stands order fields.Last text s = omega (arith, ap length s.3, last_some s.0 s.2)
@@ -72,7 +72,7 @@ some_stands order fields.End text s = omega (arith, ap length s)
 some_stands order fields.Spelling text s = absurd s
 
 -- the one goes wrong no further than the other
-one_side : (settings : SettingsModel) (text : List ℕ) (one other : StateFault) (first : IsWrongAt settings text one) (second : IsWrongAt settings text other)
+one_side : (settings : SettingsModel) (text : List ℕ) (one other : CentreStateFault) (first : IsWrongAt settings text one) (second : IsWrongAt settings text other)
     → length first.before ≤ length second.before → one.line ≡ other.line
 one_side settings text one other first second few =
     let parted = splits first.before first.rest second.before second.rest (sym first.parts ∙ second.parts) few in
@@ -97,7 +97,7 @@ one_side settings text one other first second few =
           absurd (first.lacks (parted.0 ++ go.0) text_of same)
     ]
 
-pub one_line : (settings : SettingsModel) (text : List ℕ) (one other : StateFault) → IsWrongAt settings text one → IsWrongAt settings text other → one.line ≡ other.line
+pub one_line : (settings : SettingsModel) (text : List ℕ) (one other : CentreStateFault) → IsWrongAt settings text one → IsWrongAt settings text other → one.line ≡ other.line
 one_line settings text one other first second =
     elim (cases_lt (length second.before) (length first.before)) [
       | inl less ↦ sym (one_side settings text other one second first (omega (arith, less)))

@@ -10,7 +10,7 @@ use Rattle.dms_centre.specs.State.{Pending, Phase, Idle, Awaits, Due}
 use Rattle.dms_centre.specs.Restoring.{is_sent_by_ticks}
 use Rattle.dms_centre_state.specs.CentreText.{number_line, work_line, job_text, phase_text}
 use Rattle.dms_centre_state.specs.Reached.{IsJob, IsPhaseOf}
-use Rattle.dms_centre_restored.specs.declared.refusal.StateField.TheVariants as fields
+use Rattle.dms_centre_restored.specs.declared.refusal.CentreStateField.TheVariants as fields
 use Rattle.dms_centre_restored.specs.declared.lines.PhaseLine.TheVariants as phases
 use Rattle.dms_centre_restored.specs.Lacks.{wanting, ◌>>=◌}
 use Rattle.dms_text_exact.specs.Fronts.{behind}

@@ -16,8 +16,8 @@ use Rattle.dms_centre.specs.State.{Pending, Phase, Idle, Awaits, Due}
 use Rattle.dms_centre.specs.Restoring.{suits}
 use Rattle.dms_centre_state.specs.CentreText.{number_line, work_line, job_text, phase_text}
 use Rattle.dms_centre_state.specs.Reached.{IsJob, IsRequestOf, IsPhaseOf}
-use Rattle.dms_centre_restored.specs.declared.refusal.StateField.TheVariants as fields
-use Rattle.dms_centre_restored.specs.declared.refusal.Lack.{Lack}
+use Rattle.dms_centre_restored.specs.declared.refusal.CentreStateField.TheVariants as fields
+use Rattle.dms_centre_restored.specs.declared.refusal.CentreLineLack.{CentreLineLack}
 use Rattle.dms_centre_restored.specs.declared.lines.PhaseLine.{PhaseLine}
 use Rattle.dms_centre_restored.specs.declared.lines.PhaseLine.TheVariants as phases
 use Rattle.dms_centre_restored.specs.Lacks.{wanting, ◌>>=◌}
@@ -34,10 +34,10 @@ use Rattle.dms_centre_restored.proofs.Stops.{CanGoOn, Stops, within_stops, behin
 
 -- ---- how many times the request that waits went out, and the ticks since
 
-abbrev after_ticks : ℕ → ℕ × List ℕ → Result (SavedStage × List ℕ) Lack
+abbrev after_ticks : ℕ → ℕ × List ℕ → Result (SavedStage × List ℕ) CentreLineLack
 after_ticks sends ticks = Ok (stages.Waits sends ticks.0, ticks.1)
 
-abbrev after_sends : ℕ × List ℕ → Result (SavedStage × List ℕ) Lack
+abbrev after_sends : ℕ × List ℕ → Result (SavedStage × List ℕ) CentreLineLack
 after_sends sends = wanting fields.Ticks sends.1 (number_line_at (codes "ticks ") 0 2 sends.1) >>= after_ticks sends.0
 
 abbrev sends_line : ℕ → List ℕ
@@ -72,7 +72,7 @@ waiting_found text x e =
       text_is = sends.text_is ∙ ap (λ rest. sends_line sends.value ++ rest) ticks.text_is ∙ ap (λ (x : SavedStage × List ℕ). sends_line sends.value ++ (ticks_line ticks.value ++ x.1)) is;
     }
 
-waiting_stops : (order : Order) (Whole : List ℕ → Type 0) (text : List ℕ) (lack : Lack)
+waiting_stops : (order : Order) (Whole : List ℕ → Type 0) (text : List ℕ) (lack : CentreLineLack)
     → ((sends ticks : ℕ) → 1 ≤ sends → sends ≤ 3 → ticks ≤ 2 → (tail : List ℕ) × Whole (sends_line sends ++ (ticks_line ticks ++ tail)))
     → waiting_at text ≡ Err lack → Stops order waiting_at Whole text lack
 unfolding waiting_at
@@ -135,13 +135,13 @@ is_showing = OfShowing (code_of publishing) (is_code publishing is_publishing)
 
 -- ---- the job
 
-abbrev after_work : SavedStage → Step → ℕ → CommandModel × List ℕ → Result (JobRead × List ℕ) Lack
+abbrev after_work : SavedStage → Step → ℕ → CommandModel × List ℕ → Result (JobRead × List ℕ) CentreLineLack
 after_work stage step polls work = Ok (record { command = work.0; step = step; polls = polls; stage = stage }, work.1)
 
-abbrev after_polls : Order → SavedStage → Step → ℕ × List ℕ → Result (JobRead × List ℕ) Lack
+abbrev after_polls : Order → SavedStage → Step → ℕ × List ℕ → Result (JobRead × List ℕ) CentreLineLack
 after_polls order stage step polls = wanting (work_wanted step polls.1) polls.1 (work_at order step polls.1) >>= after_work stage step polls.0
 
-abbrev after_step : Order → SavedStage → Step × List ℕ → Result (JobRead × List ℕ) Lack
+abbrev after_step : Order → SavedStage → Step × List ℕ → Result (JobRead × List ℕ) CentreLineLack
 after_step order stage step = wanting fields.Polls step.1 (number_line_at (codes "polls ") 0 9 step.1) >>= after_polls order stage step.0
 
 abbrev polls_line : ℕ → List ℕ
@@ -213,7 +213,7 @@ module _ (order : Order) (stage : SavedStage) (Whole : List ℕ → Type 0) (fit
       let fit = lines step polls publishing few comes is_publishing refl in
       (work_line order publishing ++ fit.0, (a_publication, is_publishing, fit.0, refl), fit.1)
 
-  pub job_stops : (text : List ℕ) (lack : Lack) → job_at order stage text ≡ Err lack → Stops order (job_at order stage) Whole text lack
+  pub job_stops : (text : List ℕ) (lack : CentreLineLack) → job_at order stage text ≡ Err lack → Stops order (job_at order stage) Whole text lack
   unfolding job_at
   job_stops text lack e =
       let first = lines (some_step stage) 0 publishing (omega arith) (some_comes stage) is_publishing refl in
@@ -245,13 +245,13 @@ request_is settings next job sends ticks can sent most young =
     let last = leb-true next 2147483648 parts.1 in
     record { newest = omega (arith, least); number = omega (arith, last); octets = refl; sent = sent; sends = most; age = omega (arith, young) }
 
-abbrev pub some_job : JobRead × List ℕ → Result (Option JobRead × List ℕ) Lack
+abbrev pub some_job : JobRead × List ℕ → Result (Option JobRead × List ℕ) CentreLineLack
 some_job job = Ok (Some job.0, job.1)
 
-abbrev pub waiting_job : Order → SavedStage × List ℕ → Result (Option JobRead × List ℕ) Lack
+abbrev pub waiting_job : Order → SavedStage × List ℕ → Result (Option JobRead × List ℕ) CentreLineLack
 waiting_job order stage = job_at order stage.0 stage.1 >>= some_job
 
-abbrev pub after_phase : Order → PhaseLine × List ℕ → Result (Option JobRead × List ℕ) Lack
+abbrev pub after_phase : Order → PhaseLine × List ℕ → Result (Option JobRead × List ℕ) CentreLineLack
 after_phase order phase = job_in order phase.0 phase.1
 
 pub record IsPhaseRead (settings : SettingsModel) (next : ℕ) (text : List ℕ) (x : Option JobRead × List ℕ) : Type 0 where
@@ -325,7 +325,7 @@ module _ (settings : SettingsModel) (next : ℕ) (Whole : List ℕ → Type 0) (
       (codes "awaits\n" ++ behind, (behind, refl), fit.1)
   phase_can false is = let fit = fits Idle tt in (codes "idle\n" ++ fit.0, (fit.0, refl), fit.1)
 
-  due_stops : (rest : List ℕ) (lack : Lack) → job_in order phases.Due rest ≡ Err lack → Stops order (λ t. job_in order phases.Due t) (λ t. Whole (codes "due\n" ++ t)) rest lack
+  due_stops : (rest : List ℕ) (lack : CentreLineLack) → job_in order phases.Due rest ≡ Err lack → Stops order (λ t. job_in order phases.Due t) (λ t. Whole (codes "due\n" ++ t)) rest lack
   due_stops rest lack e =
       elim (bind_err (job_at order stages.Due rest) some_job lack e) [
         | inl first ↦
@@ -339,7 +339,7 @@ module _ (settings : SettingsModel) (next : ℕ) (Whole : List ℕ → Type 0) (
   abbrev Awaited : List ℕ → Type 0
   Awaited t = Whole (codes "awaits\n" ++ t)
 
-  awaits_stops : (rest : List ℕ) (lack : Lack) → can_wait next ≡ true → job_in order phases.Awaits rest ≡ Err lack → Stops order (λ t. job_in order phases.Awaits t) Awaited rest lack
+  awaits_stops : (rest : List ℕ) (lack : CentreLineLack) → can_wait next ≡ true → job_in order phases.Awaits rest ≡ Err lack → Stops order (λ t. job_in order phases.Awaits t) Awaited rest lack
   awaits_stops rest lack can e =
       elim (bind_err (waiting_at rest) (waiting_job order) lack e) [
         | inl first ↦
@@ -349,7 +349,7 @@ module _ (settings : SettingsModel) (next : ℕ) (Whole : List ℕ → Type 0) (
         | inr stage ↦ behind_waiting rest lack can stage.0 (waiting_found rest stage.0 stage.1) stage.2
       ]
     where
-      behind_waiting : (rest : List ℕ) (lack : Lack) → can_wait next ≡ true → (stage : SavedStage × List ℕ) → IsWaiting rest stage → waiting_job order stage ≡ Err lack
+      behind_waiting : (rest : List ℕ) (lack : CentreLineLack) → can_wait next ≡ true → (stage : SavedStage × List ℕ) → IsWaiting rest stage → waiting_job order stage ≡ Err lack
           → Stops order (λ t. job_in order phases.Awaits t) Awaited rest lack
       behind_waiting rest lack can stage waits e =
           let front = sends_line waits.sends ++ ticks_line waits.ticks in
@@ -368,12 +368,12 @@ module _ (settings : SettingsModel) (next : ℕ) (Whole : List ℕ → Type 0) (
             | inr job ↦ absurd (never (Some job.0.0, job.0.1) lack job.2)
           ])
 
-  in_phase_stops : (line : PhaseLine) (rest : List ℕ) (lack : Lack) → IsPhaseLine next line → job_in order line rest ≡ Err lack → Stops order (λ t. job_in order line t) (λ t. Whole (phase_line line ++ t)) rest lack
+  in_phase_stops : (line : PhaseLine) (rest : List ℕ) (lack : CentreLineLack) → IsPhaseLine next line → job_in order line rest ≡ Err lack → Stops order (λ t. job_in order line t) (λ t. Whole (phase_line line ++ t)) rest lack
   in_phase_stops phases.Idle rest lack good e = absurd (let none : Option JobRead × List ℕ = (None, rest) in never none lack e)
   in_phase_stops phases.Due rest lack good e = due_stops rest lack e
   in_phase_stops phases.Awaits rest lack good e = awaits_stops rest lack good e
 
-  pub phase_stops : (text : List ℕ) (lack : Lack) → job_lines_at order next text ≡ Err lack → Stops order (job_lines_at order next) Whole text lack
+  pub phase_stops : (text : List ℕ) (lack : CentreLineLack) → job_lines_at order next text ≡ Err lack → Stops order (job_lines_at order next) Whole text lack
   unfolding job_lines_at
   phase_stops text lack e =
       line_then (phase_is next) order (λ t. phase_wanted next) (after_phase order) Whole text lack e (phase_can (can_wait next) refl) (λ line rest good e. in_phase_stops line rest lack good e)

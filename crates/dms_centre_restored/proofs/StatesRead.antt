@@ -28,13 +28,13 @@ use Rattle.dms_centre.specs.Invariant.{Rise}
 use Rattle.dms_centre_state.specs.CentreText.{number_line, last_line, phase_text, ledger_line, ledger_lines, text_of_state}
 use Rattle.dms_centre_state.specs.Reached.{IsJob, IsRequestOf, IsPhaseOf, IsEntry, is_settled, IsLedgerOf, IsWhy, IsEnded, IsReached}
 use Rattle.dms_centre_state.proofs.Groupings.{of_state}
-use Rattle.dms_centre_restored.specs.declared.refusal.StateRefusal.{StateRefusal}
-use Rattle.dms_centre_restored.specs.declared.refusal.StateRefusal.TheVariants as refusals
-use Rattle.dms_centre_restored.specs.declared.refusal.RestoreFault.TheVariants as faults
-use Rattle.dms_centre_restored.specs.declared.refusal.Unread.{Unread}
-use Rattle.dms_centre_restored.specs.declared.refusal.Unread.TheVariants as unread
-use Rattle.dms_centre_restored.specs.declared.refusal.StateField.TheVariants as fields
-use Rattle.dms_centre_restored.specs.declared.refusal.Lack.{Lack}
+use Rattle.dms_centre_restored.specs.declared.refusal.CentreStateRefusal.{CentreStateRefusal}
+use Rattle.dms_centre_restored.specs.declared.refusal.CentreStateRefusal.TheVariants as refusals
+use Rattle.dms_centre_restored.specs.declared.refusal.CentreRestoreFault.TheVariants as faults
+use Rattle.dms_centre_restored.specs.declared.refusal.UnreadCentreLine.{UnreadCentreLine}
+use Rattle.dms_centre_restored.specs.declared.refusal.UnreadCentreLine.TheVariants as unread
+use Rattle.dms_centre_restored.specs.declared.refusal.CentreStateField.TheVariants as fields
+use Rattle.dms_centre_restored.specs.declared.refusal.CentreLineLack.{CentreLineLack}
 use Rattle.dms_centre_restored.specs.Restored.{IsRestored, IsNoneOf, IsSaid}
 use Rattle.dms_centre_restored.specs.FirstFault.{IsFirstFault, fault_in, told_of}
 use Rattle.dms_centre_restored.specs.Lacks.{here, wanting, unless, Fails, ◌>>=◌}
@@ -110,7 +110,7 @@ free_number true after next free = ap (λ b. not b) (lt-ltb after next (free ref
 taken_as : (job : Job) (stage : SavedStage) → job_of_read (read_of job stage) ≡ job
 taken_as job stage = ap (λ work. record job { work = work }) (work_back job.work)
 
-pub job_taken : (lack : Lack) (s : CentreState) (job : Job) (stage : SavedStage) → is_busy s.phase ≡ false → stage_fault s.next job.step stage ≡ None → IsJob job
+pub job_taken : (lack : CentreLineLack) (s : CentreState) (job : Job) (stage : SavedStage) → is_busy s.phase ≡ false → stage_fault s.next job.step stage ≡ None → IsJob job
     → (waits_for_activation stage job.step ≡ true → number_after s.ledger < s.next) → with_read_job lack s (read_of job stage) ≡ Ok (with_job s job stage)
 job_taken lack s job stage idle none is free =
     let suit : suits (job_of (command_back job.work)).work job.step ≡ true = ap (λ work. suits work job.step) (work_back job.work) ∙ is.step in
@@ -377,7 +377,7 @@ taken_of settings text s state begins is =
     let same : s ≡ start state.settings state.next = begins ∙ ap (λ n. start settings n) first ∙ ap (λ settings. start settings state.next) (sym is.settings) in
     ap (λ s. taken_at s text) same ∙ ap (λ text. taken_at (start state.settings state.next) text) (sym is.text) ∙ taken_only state is.reached
 
-pub none_taken : (settings : SettingsModel) (text : List ℕ) (s : CentreState) (error : Unread) (refusal : StateRefusal) → s ≡ start settings (first_number_in (first_lines_at text))
+pub none_taken : (settings : SettingsModel) (text : List ℕ) (s : CentreState) (error : UnreadCentreLine) (refusal : CentreStateRefusal) → s ≡ start settings (first_number_in (first_lines_at text))
     → Fails error (taken_at s text) → IsSaid error refusal → IsNoneOf settings text (faults.State refusal)
 none_taken settings text s unread.Memory refusals.Memory begins fails said = tt
 none_taken settings text s unread.Memory (refusals.Fault fault) begins fails said = absurd said
@@ -389,11 +389,11 @@ pub none_set : (settings : SettingsModel) (text : List ℕ) (fault : CentreFault
 none_set settings text fault none = λ state is. none (subst (λ (settings : SettingsModel). IsTrue (has_community_size settings.community)) is.settings is.reached.settings.size)
 
 -- the fault that is told is the first one
-pub first_taken : (settings : SettingsModel) (text : List ℕ) (s : CentreState) (error : Unread) (refusal : StateRefusal) → s ≡ start settings (first_number_in (first_lines_at text))
+pub first_taken : (settings : SettingsModel) (text : List ℕ) (s : CentreState) (error : UnreadCentreLine) (refusal : CentreStateRefusal) → s ≡ start settings (first_number_in (first_lines_at text))
     → Fails error (taken_at s text) → refusal ≡ told_of text error → IsFirstFault settings text (faults.State refusal)
 first_taken settings text s error refusal begins fails told =
     subst (λ refusal. IsFirstFault settings text (faults.State refusal)) (sym told) (of_error error fails)
   where
-    of_error : (error : Unread) → Fails error (taken_at s text) → IsFirstFault settings text (faults.State (told_of text error))
+    of_error : (error : UnreadCentreLine) → Fails error (taken_at s text) → IsFirstFault settings text (faults.State (told_of text error))
     of_error unread.Memory fails = tt
     of_error (unread.Lacks lack) fails = ap (λ s. fault_in text (taken_at s text)) (sym begins) ∙ ap (λ read. fault_in text read) fails

@@ -18,12 +18,12 @@ use Rattle.dms_centre.specs.Restoring.{end_fault, with_last}
 use Rattle.dms_centre.specs.Invariant.{Rise}
 use Rattle.dms_centre_state.specs.CentreText.{number_line, last_line, phase_text, ledger_lines, text_of_state}
 use Rattle.dms_centre_state.specs.Reached.{IsPhaseOf, IsEntry, IsLedgerOf, waiting_entries, IsEnded, IsReached}
-use Rattle.dms_centre_restored.specs.declared.refusal.StateField.TheVariants as fields
-use Rattle.dms_centre_restored.specs.declared.refusal.Lack.{Lack}
-use Rattle.dms_centre_restored.specs.declared.refusal.StateRefusal.{StateRefusal}
-use Rattle.dms_centre_restored.specs.declared.refusal.RestoreFault.TheVariants as faults
-use Rattle.dms_centre_restored.specs.declared.refusal.Unread.{Unread}
-use Rattle.dms_centre_restored.specs.declared.refusal.Unread.TheVariants as unread
+use Rattle.dms_centre_restored.specs.declared.refusal.CentreStateField.TheVariants as fields
+use Rattle.dms_centre_restored.specs.declared.refusal.CentreLineLack.{CentreLineLack}
+use Rattle.dms_centre_restored.specs.declared.refusal.CentreStateRefusal.{CentreStateRefusal}
+use Rattle.dms_centre_restored.specs.declared.refusal.CentreRestoreFault.TheVariants as faults
+use Rattle.dms_centre_restored.specs.declared.refusal.UnreadCentreLine.{UnreadCentreLine}
+use Rattle.dms_centre_restored.specs.declared.refusal.UnreadCentreLine.TheVariants as unread
 use Rattle.dms_centre_restored.specs.Faults.{IsStateText, IsWrongAt, IsWrong}
 use Rattle.dms_centre_restored.specs.FirstFault.{fault_of, told_of}
 use Rattle.dms_centre_restored.specs.Lacks.{here, wanting, unless, Fails, ◌>>=◌}
@@ -80,10 +80,10 @@ least_ledger settings next (Due job) is = record { rise = omega arith; entries =
 
 -- ---- reading, line by line
 
-abbrev after_job : SettingsModel → (next : ℕ) → next < 2 ^ 32 → Ended → Option JobRead × List ℕ → Result CentreState Lack
+abbrev after_job : SettingsModel → (next : ℕ) → next < 2 ^ 32 → Ended → Option JobRead × List ℕ → Result CentreState CentreLineLack
 after_job settings next small ended job = ledger_read settings next ended small job.0 job.1
 
-abbrev after_last : SettingsModel → (next : ℕ) → next < 2 ^ 32 → Ended × List ℕ → Result CentreState Lack
+abbrev after_last : SettingsModel → (next : ℕ) → next < 2 ^ 32 → Ended × List ℕ → Result CentreState CentreLineLack
 after_last settings next small x = job_lines_at settings.order next x.1 >>= after_job settings next small x.0
 
 abbrev with_end : CentreState → Ended × List ℕ → State
@@ -110,7 +110,7 @@ last_is s text = of_field (field_at (codes "last ") text)
     of_field None = refl
     of_field (Some field) = of_end (ended_in field.0) field.1
 
-abbrev behind_last : SettingsModel → ℕ → State → Result CentreState Lack
+abbrev behind_last : SettingsModel → ℕ → State → Result CentreState CentreLineLack
 behind_last settings next last = job_lines_at settings.order next last.1 >>= (λ job. ledger_at settings.order job.0 last.0 job.1 >>= after_ledger)
 
 lines_is : (settings : SettingsModel) (next : ℕ) (small : next < 2 ^ 32) (text : List ℕ) → lines_at (start settings next) text ≡ (wanting fields.Last text (ended_line text) >>= after_last settings next small)
@@ -123,13 +123,13 @@ lines_is settings next small text = ap (λ last. last >>= behind_last settings n
     of_end (Some x) = refl
 
 -- all of a text
-abbrev after_next : SettingsModel → ℕ × List ℕ → Result CentreState Lack
+abbrev after_next : SettingsModel → ℕ × List ℕ → Result CentreState CentreLineLack
 after_next settings x = lines_at (start settings x.0) x.1
 
-abbrev after_form : SettingsModel → Unit {0} × List ℕ → Result CentreState Lack
+abbrev after_form : SettingsModel → Unit {0} × List ℕ → Result CentreState CentreLineLack
 after_form settings x = wanting fields.Next x.1 (number_line_at (codes "next ") 0 4294967295 x.1) >>= after_next settings
 
-abbrev whole : SettingsModel → List ℕ → Result CentreState Lack
+abbrev whole : SettingsModel → List ℕ → Result CentreState CentreLineLack
 whole settings text = first_lines_at text >>= after_next settings
 
 whole_is : (settings : SettingsModel) (text : List ℕ) → whole settings text ≡ (wanting fields.Form text (form_line text) >>= after_form settings)
@@ -176,7 +176,7 @@ whole_found settings text t e =
 
 -- ---- where it comes to an end
 
-stops_as : (order : Order) (one other : List ℕ → Result CentreState Lack) (Whole : List ℕ → Type 0) (text : List ℕ) (lack : Lack) → ((t : List ℕ) → one t ≡ other t)
+stops_as : (order : Order) (one other : List ℕ → Result CentreState CentreLineLack) (Whole : List ℕ → Type 0) (text : List ℕ) (lack : CentreLineLack) → ((t : List ℕ) → one t ≡ other t)
     → Stops order one Whole text lack → Stops order other Whole text lack
 stops_as order one other Whole text lack same stop = record {
   before = stop.before;
@@ -205,7 +205,7 @@ module _ (settings : SettingsModel) (are : AreSettings settings) where
     abbrev Behind : List ℕ → Type 0
     Behind t = Text (form ++ (next_line next ++ t))
 
-    job_stops : (ended : Ended) (text : List ℕ) (lack : Lack) → IsEnded ended → after_last settings next small (ended, text) ≡ Err lack
+    job_stops : (ended : Ended) (text : List ℕ) (lack : CentreLineLack) → IsEnded ended → after_last settings next small (ended, text) ≡ Err lack
         → Stops order (λ t. after_last settings next small (ended, t)) (λ t. Behind (last_line ended ++ t)) text lack
     job_stops ended text lack is e =
         elim (bind_err (job_lines_at order next text) (after_job settings next small ended) lack e) [
@@ -217,7 +217,7 @@ module _ (settings : SettingsModel) (are : AreSettings settings) where
           | inr x ↦ behind_job ended text lack is x.0 (phase_found settings next text x.0 x.1) x.2
         ]
       where
-        behind_job : (ended : Ended) (text : List ℕ) (lack : Lack) → IsEnded ended → (x : Option JobRead × List ℕ) → IsPhaseRead settings next text x → after_job settings next small ended x ≡ Err lack
+        behind_job : (ended : Ended) (text : List ℕ) (lack : CentreLineLack) → IsEnded ended → (x : Option JobRead × List ℕ) → IsPhaseRead settings next text x → after_job settings next small ended x ≡ Err lack
             → Stops order (λ t. after_last settings next small (ended, t)) (λ t. Behind (last_line ended ++ t)) text lack
         behind_job ended text lack is x p e =
             let front = phase_text order p.phase in
@@ -228,7 +228,7 @@ module _ (settings : SettingsModel) (are : AreSettings settings) where
             (ledger_stops settings next ended small p.phase p.is After (λ ledger is_ledger. complete settings next ended p.phase ledger are small is p.is is_ledger) x.1 lack
             (ap (λ (found : Option JobRead). ledger_read settings next ended small found x.1) (sym p.job_is) ∙ e)))
 
-    last_stops : (text : List ℕ) (lack : Lack) → lines_at (start settings next) text ≡ Err lack → Stops order (λ t. lines_at (start settings next) t) Behind text lack
+    last_stops : (text : List ℕ) (lack : CentreLineLack) → lines_at (start settings next) text ≡ Err lack → Stops order (λ t. lines_at (start settings next) t) Behind text lack
     last_stops text lack e =
         stops_as order (λ t. wanting fields.Last t (ended_line t) >>= after_last settings next small) (λ t. lines_at (start settings next) t) Behind text lack
         (λ t. sym (lines_is settings next small t))
@@ -242,7 +242,7 @@ module _ (settings : SettingsModel) (are : AreSettings settings) where
   first_number : 0 < 2 ^ 32
   first_number = omega arith
 
-  pub whole_stops : (text : List ℕ) (lack : Lack) → whole settings text ≡ Err lack → Stops order (whole settings) Text text lack
+  pub whole_stops : (text : List ℕ) (lack : CentreLineLack) → whole settings text ≡ Err lack → Stops order (whole settings) Text text lack
   whole_stops text lack e =
       stops_as order (λ t. wanting fields.Form t (form_line t) >>= after_form settings) (whole settings) Text text lack (λ t. sym (whole_is settings t))
       (line_then form_is order (λ t. fields.Form) (after_form settings) Text text lack (sym (whole_is settings text) ∙ e)
@@ -255,7 +255,7 @@ module _ (settings : SettingsModel) (are : AreSettings settings) where
   -- ---- what is answered
 
   -- what is taken up comes to an end where reading does
-  ends_so : (s : CentreState) (text : List ℕ) (lack : Lack) → s ≡ start settings (first_number_in (first_lines_at text)) → taken_at s text ≡ Err lack → whole settings text ≡ Err lack
+  ends_so : (s : CentreState) (text : List ℕ) (lack : CentreLineLack) → s ≡ start settings (first_number_in (first_lines_at text)) → taken_at s text ≡ Err lack → whole settings text ≡ Err lack
   unfolding taken_at
   ends_so s text lack begins e =
       elim (bind_err (first_lines_at text) (λ first. lines_at s first.1 >>= compare_to text) lack e) [
@@ -271,7 +271,7 @@ module _ (settings : SettingsModel) (are : AreSettings settings) where
             ]
       ]
     where
-      compare_to : List ℕ → CentreState → Result CentreState Lack
+      compare_to : List ℕ → CentreState → Result CentreState CentreLineLack
       compare_to text t = compared (text_of_state t) text >>= (λ same. done t)
 
       compared_same : (t : CentreState) (text : List ℕ) → text ≡ text_of_state t → compare_to text t ≡ Ok t
@@ -279,7 +279,7 @@ module _ (settings : SettingsModel) (are : AreSettings settings) where
           ap (λ text. compared (text_of_state t) text >>= (λ same. done t)) is
           ∙ ap (λ b. cond b (done true) (failed (record { wanted = fields.Spelling; left = length (text_of_state t) - same_front (text_of_state t) (text_of_state t) })) >>= (λ same. done t)) (same_only (text_of_state t))
 
-  pub is_wrong : (text : List ℕ) (lack : Lack) → whole settings text ≡ Err lack → IsWrongAt settings text (fault_of text lack)
+  pub is_wrong : (text : List ℕ) (lack : CentreLineLack) → whole settings text ≡ Err lack → IsWrongAt settings text (fault_of text lack)
   is_wrong text lack e =
       let stop = whole_stops text lack e in
       let size : length text ≡ length stop.before + length stop.rest = ap length stop.parts ∙ length-append stop.before stop.rest in
@@ -299,7 +299,7 @@ module _ (settings : SettingsModel) (are : AreSettings settings) where
             stop.lacks other state.0 h read;
       }
 
-pub wrong_taken : (settings : SettingsModel) (text : List ℕ) (s : CentreState) (error : Unread) (refusal : StateRefusal) → s ≡ start settings (first_number_in (first_lines_at text))
+pub wrong_taken : (settings : SettingsModel) (text : List ℕ) (s : CentreState) (error : UnreadCentreLine) (refusal : CentreStateRefusal) → s ≡ start settings (first_number_in (first_lines_at text))
     → AreSettings s.settings → Fails error (taken_at s text) → refusal ≡ told_of text error → IsWrong settings text (faults.State refusal)
 wrong_taken settings text s error refusal begins is fails told =
     subst (λ refusal. IsWrong settings text (faults.State refusal)) (sym told) (of_error error fails)
@@ -307,6 +307,6 @@ wrong_taken settings text s error refusal begins is fails told =
     are : AreSettings settings
     are = subst (λ (s : CentreState). AreSettings s.settings) begins is
 
-    of_error : (error : Unread) → Fails error (taken_at s text) → IsWrong settings text (faults.State (told_of text error))
+    of_error : (error : UnreadCentreLine) → Fails error (taken_at s text) → IsWrong settings text (faults.State (told_of text error))
     of_error unread.Memory fails = tt
     of_error (unread.Lacks lack) fails = is_wrong settings are text lack (ends_so settings are s text lack begins fails)

@@ -3,19 +3,19 @@
 use Rattle.std.proofs.Common.{◌≡◌, List, [], ◌++◌, ℕ, length, Option, Result, Ok, Err, refl, sym, ap, subst, ◌∙◌, append_assoc, inl, inr}
 use Rattle.std.proofs.lemmas.Option.{none-some}
 use Rattle.dms_codes.specs.declared.codes.Order.{Order}
-use Rattle.dms_centre_restored.specs.declared.refusal.StateField.{StateField}
-use Rattle.dms_centre_restored.specs.declared.refusal.Lack.{Lack}
+use Rattle.dms_centre_restored.specs.declared.refusal.CentreStateField.{CentreStateField}
+use Rattle.dms_centre_restored.specs.declared.refusal.CentreLineLack.{CentreLineLack}
 use Rattle.dms_centre_restored.specs.Lacks.{wanting, ◌>>=◌}
 use Rattle.dms_centre_restored.specs.Faults.{Stands, HasLineOf}
 use Rattle.dms_centre_restored.proofs.Readings.{reads_on, bind_ok, bind_err, wanting_ok, wanting_err}
 use Rattle.dms_centre_restored.proofs.SingleLines.{IsLine, follows}
 
 -- with this wanted a whole text can go on
-abbrev pub CanGoOn : Order → StateField → (List ℕ → Type 0) → Type 0
+abbrev pub CanGoOn : Order → CentreStateField → (List ℕ → Type 0) → Type 0
 CanGoOn order wanted Whole = (other : List ℕ) × Stands order wanted other × Whole other
 
 -- the reading of a text ends here
-pub record Stops {Y : Type 0} (order : Order) (reader : List ℕ → Result Y Lack) (Whole : List ℕ → Type 0) (text : List ℕ) (lack : Lack) : Type 0 where
+pub record Stops {Y : Type 0} (order : Order) (reader : List ℕ → Result Y CentreLineLack) (Whole : List ℕ → Type 0) (text : List ℕ) (lack : CentreLineLack) : Type 0 where
   pub before : List ℕ
   pub rest : List ℕ
   pub parts : text ≡ before ++ rest
@@ -26,7 +26,7 @@ pub record Stops {Y : Type 0} (order : Order) (reader : List ℕ → Result Y La
 -- ---- what comes after a reading
 
 -- the first of two comes to an end
-pub within_stops : {X Y : Type 0} (order : Order) (first : List ℕ → Result X Lack) (next : X → Result Y Lack) (Whole : List ℕ → Type 0) (text : List ℕ) (lack : Lack)
+pub within_stops : {X Y : Type 0} (order : Order) (first : List ℕ → Result X CentreLineLack) (next : X → Result Y CentreLineLack) (Whole : List ℕ → Type 0) (text : List ℕ) (lack : CentreLineLack)
     → Stops order first Whole text lack → Stops order (λ t. first t >>= next) Whole text lack
 within_stops order first next Whole text lack stop = record {
   before = stop.before;
@@ -38,7 +38,7 @@ within_stops order first next Whole text lack stop = record {
 }
 
 -- the second does
-pub behind_stops : {A Y : Type 0} (order : Order) (first : List ℕ → Result (A × List ℕ) Lack) (next : A × List ℕ → Result Y Lack) (Whole : List ℕ → Type 0) (text front rest : List ℕ) (a : A) (lack : Lack)
+pub behind_stops : {A Y : Type 0} (order : Order) (first : List ℕ → Result (A × List ℕ) CentreLineLack) (next : A × List ℕ → Result Y CentreLineLack) (Whole : List ℕ → Type 0) (text front rest : List ℕ) (a : A) (lack : CentreLineLack)
     → text ≡ front ++ rest → ((more : List ℕ) → first (front ++ more) ≡ Ok (a, more))
     → Stops order (λ t. next (a, t)) (λ t. Whole (front ++ t)) rest lack → Stops order (λ t. first t >>= next) Whole text lack
 behind_stops order first next Whole text front rest a lack is again stop = record {
@@ -57,12 +57,12 @@ behind_stops order first next Whole text front rest a lack is again stop = recor
 
 -- a line is read, whatever stands behind it
 pub line_again : {A : Type 0} {spelled : A → List ℕ} {Good : A → Type 0} {reader : List ℕ → Option (A × List ℕ)} → IsLine spelled Good reader
-    → (wanted : List ℕ → StateField) (a : A) (more : List ℕ) → Good a → wanting (wanted (spelled a ++ more)) (spelled a ++ more) (reader (spelled a ++ more)) ≡ Ok (a, more)
+    → (wanted : List ℕ → CentreStateField) (a : A) (more : List ℕ) → Good a → wanting (wanted (spelled a ++ more)) (spelled a ++ more) (reader (spelled a ++ more)) ≡ Ok (a, more)
 line_again {spelled = spelled} is wanted a more good = ap (λ found. wanting (wanted (spelled a ++ more)) (spelled a ++ more) found) (is.only a more good)
 
 module _ {A Y : Type 0} {spelled : A → List ℕ} {Good : A → Type 0} {reader : List ℕ → Option (A × List ℕ)} (is : IsLine spelled Good reader) where
   -- a line lacks
-  line_stops : (order : Order) (wanted : List ℕ → StateField) (next : A × List ℕ → Result Y Lack) (Whole : List ℕ → Type 0) (text : List ℕ) (lack : Lack)
+  line_stops : (order : Order) (wanted : List ℕ → CentreStateField) (next : A × List ℕ → Result Y CentreLineLack) (Whole : List ℕ → Type 0) (text : List ℕ) (lack : CentreLineLack)
       → wanting (wanted text) text (reader text) ≡ Err lack → CanGoOn order (wanted text) Whole → Stops order (λ t. wanting (wanted t) t (reader t) >>= next) Whole text lack
   line_stops order wanted next Whole text lack e can =
       let read = wanting_err (wanted text) text (reader text) lack e in
@@ -70,8 +70,8 @@ module _ {A Y : Type 0} {spelled : A → List ℕ} {Good : A → Type 0} {reader
         before = [];
         rest = text;
         parts = refl;
-        left = ap (λ (l : Lack). l.left) read.1;
-        goes_on = subst (λ (l : Lack). CanGoOn order l.wanted Whole) (sym read.1) can;
+        left = ap (λ (l : CentreLineLack). l.left) read.1;
+        goes_on = subst (λ (l : CentreLineLack). CanGoOn order l.wanted Whole) (sym read.1) can;
         lacks = λ other y h e.
             let first = bind_ok (wanting (wanted other) other (reader other)) next y e in
             let found = wanting_ok (wanted other) other (reader other) first.0 first.1 in
@@ -80,7 +80,7 @@ module _ {A Y : Type 0} {spelled : A → List ℕ} {Good : A → Type 0} {reader
       }
 
   -- a line lacks, or what comes after it does
-  pub line_then : (order : Order) (wanted : List ℕ → StateField) (next : A × List ℕ → Result Y Lack) (Whole : List ℕ → Type 0) (text : List ℕ) (lack : Lack)
+  pub line_then : (order : Order) (wanted : List ℕ → CentreStateField) (next : A × List ℕ → Result Y CentreLineLack) (Whole : List ℕ → Type 0) (text : List ℕ) (lack : CentreLineLack)
       → (wanting (wanted text) text (reader text) >>= next) ≡ Err lack → CanGoOn order (wanted text) Whole
       → ((a : A) (rest : List ℕ) → Good a → next (a, rest) ≡ Err lack → Stops order (λ t. next (a, t)) (λ t. Whole (spelled a ++ t)) rest lack)
       → Stops order (λ t. wanting (wanted t) t (reader t) >>= next) Whole text lack
@@ -94,14 +94,14 @@ module _ {A Y : Type 0} {spelled : A → List ℕ} {Good : A → Type 0} {reader
       ]
 
   -- a line is read, and what comes after it
-  pub record LineRead (next : A × List ℕ → Result Y Lack) (text : List ℕ) (y : Y) : Type 0 where
+  pub record LineRead (next : A × List ℕ → Result Y CentreLineLack) (text : List ℕ) (y : Y) : Type 0 where
     pub value : A
     pub rest : List ℕ
     pub good : Good value
     pub text_is : text ≡ spelled value ++ rest
     pub after : next (value, rest) ≡ Ok y
 
-  pub line_read : (wanted : StateField) (next : A × List ℕ → Result Y Lack) (text : List ℕ) (y : Y) → (wanting wanted text (reader text) >>= next) ≡ Ok y → LineRead next text y
+  pub line_read : (wanted : CentreStateField) (next : A × List ℕ → Result Y CentreLineLack) (text : List ℕ) (y : Y) → (wanting wanted text (reader text) >>= next) ≡ Ok y → LineRead next text y
   line_read wanted next text y e =
       let x = bind_ok (wanting wanted text (reader text)) next y e in
       let found = is.found text x.0 (wanting_ok wanted text (reader text) x.0 x.1) in

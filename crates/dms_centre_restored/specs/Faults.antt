@@ -10,13 +10,13 @@ use Rattle.dms_centre.specs.State.{CentreState}
 use Rattle.dms_centre.specs.Restoring.{is_sent_by_ticks}
 use Rattle.dms_centre_state.specs.CentreText.{number_line, last_line, publish_line, work_line, ledger_line}
 use Rattle.dms_centre_state.specs.Reached.{IsEntry, IsEnded}
-use Rattle.dms_centre_restored.specs.declared.refusal.StateField.{StateField}
-use Rattle.dms_centre_restored.specs.declared.refusal.StateField.TheVariants as fields
-use Rattle.dms_centre_restored.specs.declared.refusal.StateFault.{StateFault}
-use Rattle.dms_centre_restored.specs.declared.refusal.StateRefusal.{StateRefusal}
-use Rattle.dms_centre_restored.specs.declared.refusal.StateRefusal.TheVariants as refusals
-use Rattle.dms_centre_restored.specs.declared.refusal.RestoreFault.{RestoreFault}
-use Rattle.dms_centre_restored.specs.declared.refusal.RestoreFault.TheVariants as faults
+use Rattle.dms_centre_restored.specs.declared.refusal.CentreStateField.{CentreStateField}
+use Rattle.dms_centre_restored.specs.declared.refusal.CentreStateField.TheVariants as fields
+use Rattle.dms_centre_restored.specs.declared.refusal.CentreStateFault.{CentreStateFault}
+use Rattle.dms_centre_restored.specs.declared.refusal.CentreStateRefusal.{CentreStateRefusal}
+use Rattle.dms_centre_restored.specs.declared.refusal.CentreStateRefusal.TheVariants as refusals
+use Rattle.dms_centre_restored.specs.declared.refusal.CentreRestoreFault.{CentreRestoreFault}
+use Rattle.dms_centre_restored.specs.declared.refusal.CentreRestoreFault.TheVariants as faults
 use Rattle.dms_centre_restored.specs.Restored.{IsRestored}
 
 -- the text of a state that a central system of these settings comes to
@@ -35,7 +35,7 @@ LineStands line text = (rest : List ℕ) × (text ≡ line ++ rest)
 
 -- What is wanted stands at the front of a text. Where a phase is wanted, a request can wait, or none can; and what was
 -- read is never spelled otherwise.
-abbrev pub Stands : Order → StateField → List ℕ → Type 0
+abbrev pub Stands : Order → CentreStateField → List ℕ → Type 0
 Stands order fields.Form text = LineStands (codes "state 1 centre\n") text
 Stands order fields.Next text = NumberStands (codes "next") 0 4294967295 text
 Stands order fields.Last text = Begins last_line IsEnded text
@@ -67,7 +67,7 @@ pub record HasLineOf (other rest : List ℕ) : Type 0 where
 
 -- The lines before are the beginning of a state's text, which could go on with what is wanted, and no state's text goes
 -- on with the line that stands there.
-pub record IsWrongAt (settings : SettingsModel) (text : List ℕ) (fault : StateFault) : Type 0 where
+pub record IsWrongAt (settings : SettingsModel) (text : List ℕ) (fault : CentreStateFault) : Type 0 where
   pub before : List ℕ
   pub rest : List ℕ
   pub parts : text ≡ before ++ rest
@@ -76,11 +76,11 @@ pub record IsWrongAt (settings : SettingsModel) (text : List ℕ) (fault : State
   pub lacks : (other : List ℕ) → IsStateText settings (before ++ other) → HasLineOf other rest → ⊥
 
 -- the fault that is told is one
-abbrev pub IsWrongTold : SettingsModel → List ℕ → StateRefusal → Type 0
+abbrev pub IsWrongTold : SettingsModel → List ℕ → CentreStateRefusal → Type 0
 IsWrongTold settings text refusals.Memory = Unit {0}
 IsWrongTold settings text (refusals.Fault fault) = IsWrongAt settings text fault
 
 -- the same, where the settings are good
-abbrev pub IsWrong : SettingsModel → List ℕ → RestoreFault → Type 0
+abbrev pub IsWrong : SettingsModel → List ℕ → CentreRestoreFault → Type 0
 IsWrong settings text (faults.Settings fault) = Unit {0}
 IsWrong settings text (faults.State refusal) = IsWrongTold settings text refusal

@@ -22,8 +22,8 @@ use Rattle.dms_centre.specs.declared.restoring.SavedStage.TheVariants as stages
 use Rattle.dms_centre.specs.State.{Entry}
 use Rattle.dms_centre.specs.Restoring.{is_sent_by_ticks}
 use Rattle.dms_centre_text.specs.CommandReading.{publish_at}
-use Rattle.dms_centre_restored.specs.declared.refusal.StateField.{StateField}
-use Rattle.dms_centre_restored.specs.declared.refusal.StateField.TheVariants as fields
+use Rattle.dms_centre_restored.specs.declared.refusal.CentreStateField.{CentreStateField}
+use Rattle.dms_centre_restored.specs.declared.refusal.CentreStateField.TheVariants as fields
 use Rattle.dms_centre_restored.specs.declared.lines.PhaseLine.{PhaseLine}
 use Rattle.dms_centre_restored.specs.declared.lines.PhaseLine.TheVariants as phases
 use Rattle.dms_text_exact.specs.ExactWords.{number_in, integer_in}
@@ -117,7 +117,7 @@ phase_at next text =
     phase_or (behind (codes "idle\n") text) phases.Idle
     (phase_or (behind (codes "due\n") text) phases.Due (awaits_at next text))
 
-abbrev pub phase_wanted : ℕ → StateField
+abbrev pub phase_wanted : ℕ → CentreStateField
 phase_wanted next = if can_wait next then fields.Phase else fields.PhaseWithoutRequest
 
 -- ---- the job
@@ -149,7 +149,7 @@ step_line_at stage text = do
   step ← step_in stage field.0
   Some (step, field.1)
 
-abbrev pub step_wanted : SavedStage → StateField
+abbrev pub step_wanted : SavedStage → CentreStateField
 step_wanted stages.Due = fields.StepOfTick
 step_wanted (stages.Waits sends ticks) = fields.Step
 
@@ -214,7 +214,7 @@ is_activation step text = is_of_showing step && is_none (behind (codes "publish 
 unfoldable pub work_at : Order → Step → List ℕ → Option (CommandModel × List ℕ)
 work_at order step text = if is_activation step text then activation_at order text else publication_at text
 
-abbrev pub work_wanted : Step → List ℕ → StateField
+abbrev pub work_wanted : Step → List ℕ → CentreStateField
 work_wanted step text = if is_activation step text then fields.Activation else fields.Publication
 
 -- ---- entries of the ledger

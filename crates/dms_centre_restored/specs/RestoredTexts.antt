@@ -1,21 +1,21 @@
 -- What is told where a central system does not go on from a text, and what is printed (this profile).
 use Rattle.std.specs.Prelude.{ℕ, List, ◌++◌, codes, decimal, Option, None, Some}
 use Rattle.dms_centre.specs.Texts.{centre_fault_text}
-use Rattle.dms_centre_restored.specs.declared.refusal.StateField.{StateField}
-use Rattle.dms_centre_restored.specs.declared.refusal.StateField.TheVariants as fields
-use Rattle.dms_centre_restored.specs.declared.refusal.StateFault.{StateFault}
-use Rattle.dms_centre_restored.specs.declared.refusal.StateRefusal.{StateRefusal}
-use Rattle.dms_centre_restored.specs.declared.refusal.StateRefusal.TheVariants as refusals
-use Rattle.dms_centre_restored.specs.declared.refusal.RestoreFault.{RestoreFault}
-use Rattle.dms_centre_restored.specs.declared.refusal.RestoreFault.TheVariants as faults
+use Rattle.dms_centre_restored.specs.declared.refusal.CentreStateField.{CentreStateField}
+use Rattle.dms_centre_restored.specs.declared.refusal.CentreStateField.TheVariants as fields
+use Rattle.dms_centre_restored.specs.declared.refusal.CentreStateFault.{CentreStateFault}
+use Rattle.dms_centre_restored.specs.declared.refusal.CentreStateRefusal.{CentreStateRefusal}
+use Rattle.dms_centre_restored.specs.declared.refusal.CentreStateRefusal.TheVariants as refusals
+use Rattle.dms_centre_restored.specs.declared.refusal.CentreRestoreFault.{CentreRestoreFault}
+use Rattle.dms_centre_restored.specs.declared.refusal.CentreRestoreFault.TheVariants as faults
 
 -- the line that is refused
-abbrev pub refused_line : StateRefusal → Option ℕ
+abbrev pub refused_line : CentreStateRefusal → Option ℕ
 refused_line refusals.Memory = None
 refused_line (refusals.Fault fault) = Some fault.line
 
 -- what a line is to be
-abbrev pub field_text : StateField → List ℕ
+abbrev pub field_text : CentreStateField → List ℕ
 field_text fields.Form = codes "state 1 centre"
 field_text fields.Next = codes "next and a number to 4294967295"
 field_text fields.Last = codes "last and how a job ended"
@@ -33,13 +33,13 @@ field_text (fields.Entry least most) =
 field_text fields.End = codes "end and nothing after it"
 field_text fields.Spelling = codes "the line of the state that was read"
 
-abbrev pub fault_text : StateFault → List ℕ
+abbrev pub fault_text : CentreStateFault → List ℕ
 fault_text fault = codes "line " ++ decimal fault.line ++ codes ": " ++ field_text fault.wanted ++ codes " wanted"
 
-abbrev pub refusal_text : StateRefusal → List ℕ
+abbrev pub refusal_text : CentreStateRefusal → List ℕ
 refusal_text refusals.Memory = codes "no memory"
 refusal_text (refusals.Fault fault) = fault_text fault
 
-abbrev pub restore_fault_text : RestoreFault → List ℕ
+abbrev pub restore_fault_text : CentreRestoreFault → List ℕ
 restore_fault_text (faults.Settings fault) = centre_fault_text fault
 restore_fault_text (faults.State refusal) = refusal_text refusal

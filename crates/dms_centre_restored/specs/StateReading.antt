@@ -21,9 +21,9 @@ use Rattle.dms_centre.specs.Restoring.{number_after, entry_fault, with_entry, su
 use Rattle.dms_centre.specs.Restoring.{waits_for_activation, with_job, end_fault, with_last}
 use Rattle.dms_centre_state.specs.CentreText.{text_of_state}
 use Rattle.dms_centre_text.specs.CommandView.{owned_command_model}
-use Rattle.dms_centre_restored.specs.declared.refusal.StateField.{StateField}
-use Rattle.dms_centre_restored.specs.declared.refusal.StateField.TheVariants as fields
-use Rattle.dms_centre_restored.specs.declared.refusal.Lack.{Lack}
+use Rattle.dms_centre_restored.specs.declared.refusal.CentreStateField.{CentreStateField}
+use Rattle.dms_centre_restored.specs.declared.refusal.CentreStateField.TheVariants as fields
+use Rattle.dms_centre_restored.specs.declared.refusal.CentreLineLack.{CentreLineLack}
 use Rattle.dms_centre_restored.specs.declared.job_lines.JobLines.{JobLines}
 use Rattle.dms_centre_restored.specs.declared.ledger_lines.EntryLine.{EntryLine}
 use Rattle.dms_centre_restored.specs.Lacks.{here, wanting, unless, ◌>>=◌}
@@ -84,13 +84,13 @@ next_found (Some found) = Some (found.0, found.1.now)
 
 -- ---- what is taken up, where nothing is wrong with it; else this lacks
 
-abbrev pub with_read_entry : Lack → CentreState → Entry → Result CentreState Lack
+abbrev pub with_read_entry : CentreLineLack → CentreState → Entry → Result CentreState CentreLineLack
 with_read_entry lack s entry = unless lack (entry_fault s entry.number entry.outcome) (with_entry s entry)
 
-abbrev pub with_read_job : Lack → CentreState → JobRead → Result CentreState Lack
+abbrev pub with_read_job : CentreLineLack → CentreState → JobRead → Result CentreState CentreLineLack
 with_read_job lack s job = unless lack (read_fault s job) (with_job s (job_of_read job) job.stage)
 
-unfoldable pub last_line_at : CentreState → List ℕ → Result (CentreState × List ℕ) Lack
+unfoldable pub last_line_at : CentreState → List ℕ → Result (CentreState × List ℕ) CentreLineLack
 last_line_at s text = do
   field ← wanting fields.Last text (field_at (codes "last ") text)
   ended ← wanting fields.Last text (ended_in field.0)
@@ -100,19 +100,19 @@ last_line_at s text = do
 -- ---- the ledger
 
 -- an entry that can be next: of a number from the least to the one before the next request's
-abbrev pub entry_wanted : CentreState → ℕ → StateField
+abbrev pub entry_wanted : CentreState → ℕ → CentreStateField
 entry_wanted s least = fields.Entry least (s.next - 1)
 
 -- an entry is taken up, unless it is that of an activation that waits
 abbrev pub with_settled
-    : Bool → Lack → CentreState → Entry × List ℕ → Result (CentreState × Option (ℕ × List ℕ)) Lack
+    : Bool → CentreLineLack → CentreState → Entry × List ℕ → Result (CentreState × Option (ℕ × List ℕ)) CentreLineLack
 with_settled waits lack s found =
     if waits && found.0.number + 1 == s.next then Ok (s, None)
     else (with_read_entry lack s found.0 >>= (λ t. Ok (t, Some (found.0.number, found.1))))
 
 -- one entry more, if one is next: its number, and the text after it
 unfoldable pub next_entry_at
-    : Order → Bool → CentreState → ℕ → List ℕ → Result (CentreState × Option (ℕ × List ℕ)) Lack
+    : Order → Bool → CentreState → ℕ → List ℕ → Result (CentreState × Option (ℕ × List ℕ)) CentreLineLack
 next_entry_at order waits s least text =
     if nat_le s.next least || not (starts_with (codes "ledger ") text) then Ok (s, None)
     else (wanting (entry_wanted s least) text (entry_line_at order least (s.next - 1) text)
@@ -124,7 +124,7 @@ or_these (Some found) none more = more (found.0 + 1) found.1
 
 -- so many entries at most; the least number that one more can have, and the text after them
 unfoldable pub entries_at
-    : Order → Bool → ℕ → CentreState → ℕ → List ℕ → Result (CentreState × (ℕ × List ℕ)) Lack
+    : Order → Bool → ℕ → CentreState → ℕ → List ℕ → Result (CentreState × (ℕ × List ℕ)) CentreLineLack
 entries_at order waits zero s least text = Ok (s, (least, text))
 entries_at order waits (suc more) s least text =
     next_entry_at order waits s least text
@@ -148,7 +148,7 @@ is_entered s entry = is_waiting entry.outcome && has_last_code s.ledger entry.co
 
 -- the job whose activation waits, and its entry
 unfoldable pub activation_taken_at
-    : Order → CentreState → JobRead → ℕ → List ℕ → Result (CentreState × List ℕ) Lack
+    : Order → CentreState → JobRead → ℕ → List ℕ → Result (CentreState × List ℕ) CentreLineLack
 activation_taken_at order s job least text = do
   found ← wanting (entry_wanted s least) text (entry_line_at order least (s.next - 1) text)
   t ← with_read_job (here (entry_wanted s least) text) s job
@@ -156,13 +156,13 @@ activation_taken_at order s job least text = do
 
 -- a job behind the entries that do not wait
 abbrev pub with_job_behind
-    : Order → JobRead → CentreState × (ℕ × List ℕ) → Result (CentreState × List ℕ) Lack
+    : Order → JobRead → CentreState × (ℕ × List ℕ) → Result (CentreState × List ℕ) CentreLineLack
 with_job_behind order job read =
     if waits job then activation_taken_at order read.0 job read.1.0 read.1.1
     else (with_read_job (here fields.End read.1.1) read.0 job >>= (λ t. Ok (t, read.1.1)))
 
 abbrev pub behind_entries
-    : Order → Option JobRead → CentreState × (ℕ × List ℕ) → Result (CentreState × List ℕ) Lack
+    : Order → Option JobRead → CentreState × (ℕ × List ℕ) → Result (CentreState × List ℕ) CentreLineLack
 behind_entries order None read = Ok (read.0, read.1.1)
 behind_entries order (Some job) read = with_job_behind order job read
 
@@ -171,7 +171,7 @@ job_waits None = false
 job_waits (Some job) = waits job
 
 -- the ledger, and the job that is on
-unfoldable pub ledger_at : Order → Option JobRead → CentreState → List ℕ → Result (CentreState × List ℕ) Lack
+unfoldable pub ledger_at : Order → Option JobRead → CentreState → List ℕ → Result (CentreState × List ℕ) CentreLineLack
 ledger_at order job s text = do
   read ← entries_at order (job_waits job) (length text) s 0 text
   behind_entries order job read
@@ -179,7 +179,7 @@ ledger_at order job s text = do
 -- ---- the whole
 
 -- what stands behind the first two lines
-unfoldable pub lines_at : CentreState → List ℕ → Result CentreState Lack
+unfoldable pub lines_at : CentreState → List ℕ → Result CentreState CentreLineLack
 lines_at s text = do
   last ← last_line_at s text
   job ← job_lines_at s.settings.order s.next last.1
@@ -188,7 +188,7 @@ lines_at s text = do
   Ok ledger.0
 
 -- the number that the next request takes, and 0 where the text says none
-abbrev pub first_number_in : Result (ℕ × List ℕ) Lack → ℕ
+abbrev pub first_number_in : Result (ℕ × List ℕ) CentreLineLack → ℕ
 first_number_in (Err lack) = 0
 first_number_in (Ok found) = found.0
 
@@ -199,13 +199,13 @@ same_front (octet ∷ octets) [] = 0
 same_front (octet ∷ octets) (other ∷ others) = if octet == other then 1 + same_front octets others else 0
 
 -- the text of what was read is the text; else it differs there
-abbrev pub compared : List ℕ → List ℕ → Result Bool Lack
+abbrev pub compared : List ℕ → List ℕ → Result Bool CentreLineLack
 compared written text =
     if same_octets written text then Ok true
     else Err (record { wanted = fields.Spelling; left = length text - same_front written text })
 
 -- the state of a whole text, which has just this text
-unfoldable pub taken_at : CentreState → List ℕ → Result CentreState Lack
+unfoldable pub taken_at : CentreState → List ℕ → Result CentreState CentreLineLack
 taken_at s text = do
   first ← first_lines_at text
   t ← lines_at s first.1

@@ -2,7 +2,7 @@
 
 ghost use Rattle.std.specs.Prelude.{◌≡◌, ◌+◌, Some, None};
 ghost use Rattle.dms_centre_text.specs.CommandView.{owned_command_model};
-ghost use Rattle.dms_centre_restored.specs.declared.refusal.StateField.TheVariants as fields;
+ghost use Rattle.dms_centre_restored.specs.declared.refusal.CentreStateField.TheVariants as fields;
 ghost use Rattle.dms_centre_restored.specs.Lacks.{wanting, Reads, Gives};
 ghost use Rattle.dms_centre_restored.specs.LineReading.{step_of, comes_to, step_in, step_line_at, step_wanted};
 ghost use Rattle.dms_centre_restored.specs.LineReading.{after_row, after_message, after_terms, are_terms, is_last};
@@ -12,7 +12,7 @@ ghost use Rattle.dms_centre_restored.specs.JobReading.{waiting_at, job_at, job_i
 ghost use Rattle.dms_centre_restored.specs.StateReading.{job_read, saved_read, waits, job_found};
 
 use crate::lines::{PhaseLine, field, number_line, phase_line};
-use crate::refusal::{Lack, StateField, Unread};
+use crate::refusal::{CentreLineLack, CentreStateField, UnreadCentreLine};
 use crate::words::{after_address, after_number, after_octets, code};
 use dms_centre::{SavedJob, SavedStage, Step};
 use dms_centre_text::{CommandWord, OwnedCommand, command_after};
@@ -62,7 +62,7 @@ pub(crate) fn job_lines(
     order: Order,
     next: u32,
     text: &[u8],
-) -> Result<(Option<JobLines>, &[u8]), Unread>
+) -> Result<(Option<JobLines>, &[u8]), UnreadCentreLine>
     ensures { Gives (λ x. (job_found x.0, x.1.now)) result (job_lines_at order next text.now) }
 {
     let (phase, rest) = phase_line(next, text)?;
@@ -74,7 +74,7 @@ fn job_in(
     order: Order,
     phase: PhaseLine,
     text: &[u8],
-) -> Result<(Option<JobLines>, &[u8]), Unread>
+) -> Result<(Option<JobLines>, &[u8]), UnreadCentreLine>
     ensures { Gives (λ x. (job_found x.0, x.1.now)) result (job_in order phase text.now) }
 {
     match phase {
@@ -93,11 +93,11 @@ fn job_in(
 
 /// How many times the request that waits went out, and the ticks since.
 #[tactic(auto, unfolding(crate::specs::JobReading::waiting_at))]
-fn waiting(text: &[u8]) -> Result<(SavedStage, &[u8]), Lack>
+fn waiting(text: &[u8]) -> Result<(SavedStage, &[u8]), CentreLineLack>
     ensures { Reads (λ x. (x.0, x.1.now)) result (waiting_at text.now) }
 {
-    let (sends, rest) = number_line(b"sends ", StateField::Sends, 1, 3, text)?;
-    let (ticks, rest) = number_line(b"ticks ", StateField::Ticks, 0, 2, rest)?;
+    let (sends, rest) = number_line(b"sends ", CentreStateField::Sends, 1, 3, text)?;
+    let (ticks, rest) = number_line(b"ticks ", CentreStateField::Ticks, 0, 2, rest)?;
     let stage = SavedStage::Waits {
         sends: sends as u8,
         ticks: ticks as u8,
@@ -111,11 +111,11 @@ fn job(
     order: Order,
     stage: SavedStage,
     text: &[u8],
-) -> Result<(JobLines, &[u8]), Unread>
+) -> Result<(JobLines, &[u8]), UnreadCentreLine>
     ensures { Gives (λ x. (job_read x.0, x.1.now)) result (job_at order stage text.now) }
 {
     let (step, rest) = step_line(stage, text)?;
-    let (polls, rest) = number_line(b"polls ", StateField::Polls, 0, 9, rest)?;
+    let (polls, rest) = number_line(b"polls ", CentreStateField::Polls, 0, 9, rest)?;
     let (command, rest) = work(alloc, order, step, rest)?;
     let job = JobLines {
         command,
@@ -127,7 +127,7 @@ fn job(
 }
 
 #[tactic(auto, unfolding(crate::specs::LineReading::step_line_at))]
-fn step_line(stage: SavedStage, text: &[u8]) -> Result<(Step, &[u8]), Lack>
+fn step_line(stage: SavedStage, text: &[u8]) -> Result<(Step, &[u8]), CentreLineLack>
     ensures { Reads (λ x. (x.0, x.1.now)) result (wanting (step_wanted stage) text.now (step_line_at stage text.now)) }
 {
     let field = field(b"step ", step_wanted(stage), text)?;
@@ -137,12 +137,12 @@ fn step_line(stage: SavedStage, text: &[u8]) -> Result<(Step, &[u8]), Lack>
     }
 }
 
-fn step_wanted(stage: SavedStage) -> StateField
+fn step_wanted(stage: SavedStage) -> CentreStateField
     ensures { result ≡ step_wanted stage }
 {
     match stage {
-        SavedStage::Due => StateField::StepOfTick,
-        SavedStage::Waits { .. } => StateField::Step,
+        SavedStage::Due => CentreStateField::StepOfTick,
+        SavedStage::Waits { .. } => CentreStateField::Step,
     }
 }
 
@@ -191,7 +191,7 @@ fn work(
     order: Order,
     step: Step,
     text: &[u8],
-) -> Result<(OwnedCommand, &[u8]), Unread>
+) -> Result<(OwnedCommand, &[u8]), UnreadCentreLine>
     ensures { Gives (λ x. (owned_command_model x.0, x.1.now)) result
         (wanting (work_wanted step text.now) text.now (work_at order step text.now)) }
 {
@@ -210,25 +210,29 @@ fn is_of_showing(step: Step) -> bool
 }
 
 #[tactic(auto, unfolding(crate::specs::LineReading::activation_at))]
-fn activation(order: Order, text: &[u8]) -> Result<(OwnedCommand, &[u8]), Unread>
+fn activation(order: Order, text: &[u8]) -> Result<(OwnedCommand, &[u8]), UnreadCentreLine>
     ensures { Gives (λ x. (owned_command_model x.0, x.1.now)) result
         (wanting fields.Activation text.now (activation_at order text.now)) }
 {
-    let field = field(b"activate ", StateField::Activation, text)?;
+    let field = field(b"activate ", CentreStateField::Activation, text)?;
     match code(order, field.value) {
         Some(code) => Ok((OwnedCommand::Activate(code), field.rest)),
-        None => Err(Unread::Lacks(field.lack)),
+        None => Err(UnreadCentreLine::Lacks(field.lack)),
     }
 }
 
 #[tactic(auto, unfolding(crate::specs::LineReading::publication_at))]
-fn publication(alloc: Global, order: Order, text: &[u8]) -> Result<(OwnedCommand, &[u8]), Unread>
+fn publication(
+    alloc: Global,
+    order: Order,
+    text: &[u8],
+) -> Result<(OwnedCommand, &[u8]), UnreadCentreLine>
     ensures { Gives (λ x. (owned_command_model x.0, x.1.now)) result
         (wanting fields.Publication text.now (publication_at text.now)) }
 {
-    let field = field(b"publish ", StateField::Publication, text)?;
+    let field = field(b"publish ", CentreStateField::Publication, text)?;
     if !is_publication(field.value) {
-        return Err(Unread::Lacks(field.lack));
+        return Err(UnreadCentreLine::Lacks(field.lack));
     }
     let words = LineWords {
         place: 2,
@@ -236,7 +240,7 @@ fn publication(alloc: Global, order: Order, text: &[u8]) -> Result<(OwnedCommand
     };
     match command_after(alloc, order, CommandWord::Publish, words)? {
         Ok(command) => Ok((command, field.rest)),
-        Err(_) => Err(Unread::Lacks(field.lack)),
+        Err(_) => Err(UnreadCentreLine::Lacks(field.lack)),
     }
 }
 

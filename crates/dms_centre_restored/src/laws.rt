@@ -8,7 +8,7 @@ ghost use Rattle.dms_centre.specs.State.{CentreState};
 ghost use Rattle.dms_centre.specs.History.{IsInput, History, made, after_inputs};
 ghost use Rattle.dms_centre_state.specs.CentreText.{text_of_state};
 ghost use Rattle.dms_centre_state.specs.Reached.{IsReached};
-ghost use Rattle.dms_centre_restored.specs.declared.refusal.StateFault.{StateFault};
+ghost use Rattle.dms_centre_restored.specs.declared.refusal.CentreStateFault.{CentreStateFault};
 ghost use Rattle.dms_centre_restored.specs.Restored.{IsRestored};
 ghost use Rattle.dms_centre_restored.specs.Faults.{IsWrongAt};
 ghost use Rattle.dms_centre_restored.specs.Saves.{Event, Goes, inputs_of};
@@ -27,7 +27,7 @@ pub fn restored_centres_are_one()
 
 /// A text goes wrong at one line, whatever is told to be wanted there: so it is the first that is not as it must be.
 pub fn a_text_goes_wrong_at_one_line()
-    ensures { (settings : SettingsModel) (text : List ℕ) (one other : StateFault) → IsWrongAt settings text one
+    ensures { (settings : SettingsModel) (text : List ℕ) (one other : CentreStateFault) → IsWrongAt settings text one
         → IsWrongAt settings text other → one.line ≡ other.line }
 {}
 

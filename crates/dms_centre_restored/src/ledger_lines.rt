@@ -7,7 +7,7 @@ ghost use Rattle.dms_centre.specs.Resending.{is_waiting};
 ghost use Rattle.dms_centre.specs.Restoring.{end_fault, with_last};
 ghost use Rattle.dms_centre_state.specs.Reached.{IsReached};
 ghost use Rattle.dms_centre_restored.specs.Restored.{GoesOn};
-ghost use Rattle.dms_centre_restored.specs.declared.refusal.StateField.TheVariants as fields;
+ghost use Rattle.dms_centre_restored.specs.declared.refusal.CentreStateField.TheVariants as fields;
 ghost use Rattle.dms_centre_restored.specs.Lacks.{here, wanting, unless, Reads, Gives};
 ghost use Rattle.dms_centre_restored.specs.LineReading.{known, known_at, refused_at, outcome_at, entry_in};
 ghost use Rattle.dms_centre_restored.specs.LineReading.{entry_line_at};
@@ -18,7 +18,7 @@ ghost use Rattle.dms_centre_restored.specs.StateReading.{with_job_behind, has_la
 
 use crate::job_lines::JobLines;
 use crate::lines::{field, here};
-use crate::refusal::{Lack, StateField, Unread};
+use crate::refusal::{CentreLineLack, CentreStateField, UnreadCentreLine};
 use crate::words::code;
 use dms_centre::{Centre, Ended, Entry, EntryFault, JobFault, Outcome, SavedJob};
 use dms_codes::{Activation, Order};
@@ -34,18 +34,23 @@ struct EntryLine<'a> {
     outcome: Outcome,
     rest: &'a [u8],
     /// What is told where it is not taken up.
-    lack: Lack,
+    lack: CentreLineLack,
 }
 
 /// An entry of a number from the least to the greatest.
 #[tactic(auto, unfolding(crate::specs::LineReading::entry_line_at))]
-fn entry_line(order: Order, least: u32, most: u32, text: &[u8]) -> Result<EntryLine<'_>, Lack>
+fn entry_line(
+    order: Order,
+    least: u32,
+    most: u32,
+    text: &[u8],
+) -> Result<EntryLine<'_>, CentreLineLack>
     ensures read { Reads (λ line. (entry_read line, line.rest.now)) result
         (wanting (fields.Entry least most) text.now (entry_line_at order least most text.now)) }
     ensures lack { IfOk result (λ line. line.lack ≡ here (fields.Entry least most) text.now) }
     ensures most { IfOk result (λ entry. entry.number ≤ most) }
 {
-    let field = field(b"ledger ", StateField::Entry { least, most }, text)?;
+    let field = field(b"ledger ", CentreStateField::Entry { least, most }, text)?;
     match entry(order, least, most, field.value) {
         Some((number, code, outcome)) => Ok(EntryLine {
             number,
@@ -133,7 +138,7 @@ pub(crate) fn put_ledger<'a>(
     centre: &mut Centre,
     order: Order,
     text: &'a [u8],
-) -> Result<&'a [u8], Unread>
+) -> Result<&'a [u8], UnreadCentreLine>
     requires { IsReached centre.old.state }
     ensures goes { OnOk result (GoesOn centre.old.state centre.new.state) }
     ensures read { Gives (λ rest. (centre.new.state, rest.now)) result
@@ -150,7 +155,7 @@ pub(crate) fn put_with_job<'a>(
     order: Order,
     job: &JobLines,
     text: &'a [u8],
-) -> Result<&'a [u8], Unread>
+) -> Result<&'a [u8], UnreadCentreLine>
     requires { IsReached centre.old.state }
     ensures goes { OnOk result (GoesOn centre.old.state centre.new.state) }
     ensures read { Gives (λ rest. (centre.new.state, rest.now)) result
@@ -168,7 +173,7 @@ fn put_behind<'a>(
     job: &JobLines,
     least: u32,
     text: &'a [u8],
-) -> Result<&'a [u8], Unread>
+) -> Result<&'a [u8], UnreadCentreLine>
     requires { IsReached centre.old.state }
     ensures goes { OnOk result (GoesOn centre.old.state centre.new.state) }
     ensures read { Gives (λ rest. (centre.new.state, rest.now)) result
@@ -177,7 +182,7 @@ fn put_behind<'a>(
     if job.waits_for_activation() {
         return put_activation(centre, order, job, least, text);
     }
-    put_job(centre, &job.lent(), here(StateField::End, text))?;
+    put_job(centre, &job.lent(), here(CentreStateField::End, text))?;
     Ok(text)
 }
 
@@ -187,7 +192,7 @@ fn put_entries<'a>(
     order: Order,
     waits: bool,
     text: &'a [u8],
-) -> Result<(u32, &'a [u8]), Unread>
+) -> Result<(u32, &'a [u8]), UnreadCentreLine>
     requires { IsReached centre.old.state }
     ensures goes { OnOk result (GoesOn centre.old.state centre.new.state) }
     ensures read { Gives (λ x. (centre.new.state, (x.0, x.1.now))) result
@@ -216,7 +221,7 @@ fn next_entry<'a>(
     waits: bool,
     least: u32,
     text: &'a [u8],
-) -> Result<Option<(u32, &'a [u8])>, Unread>
+) -> Result<Option<(u32, &'a [u8])>, UnreadCentreLine>
     requires { IsReached centre.old.state }
     ensures goes { OnOk result (GoesOn centre.old.state centre.new.state) }
     ensures read { Gives (λ x. (centre.new.state, next_found x)) result
@@ -236,7 +241,7 @@ fn put_settled<'a>(
     centre: &mut Centre,
     waits: bool,
     entry: &EntryLine<'a>,
-) -> Result<Option<(u32, &'a [u8])>, Unread>
+) -> Result<Option<(u32, &'a [u8])>, UnreadCentreLine>
     requires reached { IsReached centre.old.state }
     ensures goes { OnOk result (GoesOn centre.old.state centre.new.state) }
     ensures read { Gives (λ x. (centre.new.state, next_found x)) result
@@ -250,7 +255,7 @@ fn put_settled<'a>(
     Ok(Some((entry.number, entry.rest)))
 }
 
-fn put_entry(centre: &mut Centre, entry: &EntryLine<'_>) -> Result<(), Unread>
+fn put_entry(centre: &mut Centre, entry: &EntryLine<'_>) -> Result<(), UnreadCentreLine>
     requires { IsReached centre.old.state }
     ensures goes { OnOk result (GoesOn centre.old.state centre.new.state) }
     ensures read { Gives (λ _. centre.new.state) result
@@ -264,8 +269,8 @@ fn enter(
     number: u32,
     code: Activation,
     outcome: Outcome,
-    lack: Lack,
-) -> Result<(), Unread>
+    lack: CentreLineLack,
+) -> Result<(), UnreadCentreLine>
     requires { IsReached centre.old.state }
     ensures goes { OnOk result (GoesOn centre.old.state centre.new.state) }
     ensures read { Gives (λ _. centre.new.state) result
@@ -274,8 +279,8 @@ fn enter(
     has_ranges(code);
     match centre.put_entry(number, code, outcome) {
         Ok(()) => Ok(()),
-        Err(EntryFault::Memory) => Err(Unread::Memory),
-        Err(_) => Err(Unread::Lacks(lack)),
+        Err(EntryFault::Memory) => Err(UnreadCentreLine::Memory),
+        Err(_) => Err(UnreadCentreLine::Lacks(lack)),
     }
 }
 
@@ -287,7 +292,7 @@ fn put_activation<'a>(
     job: &JobLines,
     least: u32,
     text: &'a [u8],
-) -> Result<&'a [u8], Unread>
+) -> Result<&'a [u8], UnreadCentreLine>
     requires { IsReached centre.old.state }
     ensures goes { OnOk result (GoesOn centre.old.state centre.new.state) }
     ensures read { Gives (λ rest. (centre.new.state, rest.now)) result
@@ -299,7 +304,7 @@ fn put_activation<'a>(
     if is_entered(centre, entry.code, entry.outcome) {
         Ok(entry.rest)
     } else {
-        Err(Unread::Lacks(entry.lack))
+        Err(UnreadCentreLine::Lacks(entry.lack))
     }
 }
 
@@ -326,7 +331,11 @@ fn are_same_codes(one: Activation, other: Activation) -> bool
     one == other
 }
 
-fn put_job(centre: &mut Centre, job: &SavedJob<'_>, lack: Lack) -> Result<(), Unread>
+fn put_job(
+    centre: &mut Centre,
+    job: &SavedJob<'_>,
+    lack: CentreLineLack,
+) -> Result<(), UnreadCentreLine>
     requires { IsReached centre.old.state }
     ensures goes { OnOk result (GoesOn centre.old.state centre.new.state) }
     ensures read { Gives (λ _. centre.new.state) result (with_read_job lack centre.old.state (saved_read job.now)) }
@@ -334,13 +343,17 @@ fn put_job(centre: &mut Centre, job: &SavedJob<'_>, lack: Lack) -> Result<(), Un
     job.command.has_ranges();
     match centre.put_job(job) {
         Ok(()) => Ok(()),
-        Err(JobFault::Memory) => Err(Unread::Memory),
-        Err(_) => Err(Unread::Lacks(lack)),
+        Err(JobFault::Memory) => Err(UnreadCentreLine::Memory),
+        Err(_) => Err(UnreadCentreLine::Lacks(lack)),
     }
 }
 
 /// Takes up how the last job ended.
-pub(crate) fn put_last(centre: &mut Centre, ended: Ended, lack: Lack) -> Result<(), Unread>
+pub(crate) fn put_last(
+    centre: &mut Centre,
+    ended: Ended,
+    lack: CentreLineLack,
+) -> Result<(), UnreadCentreLine>
     requires { IsReached centre.old.state }
     ensures goes { OnOk result (GoesOn centre.old.state centre.new.state) }
     ensures read { Gives (λ _. centre.new.state) result
@@ -348,7 +361,7 @@ pub(crate) fn put_last(centre: &mut Centre, ended: Ended, lack: Lack) -> Result<
 {
     match centre.put_last(ended) {
         Ok(()) => Ok(()),
-        Err(_) => Err(Unread::Lacks(lack)),
+        Err(_) => Err(UnreadCentreLine::Lacks(lack)),
     }
 }
 

@@ -7,8 +7,8 @@
 //! match restored(alloc, settings, text) {
 //!     Ok(centre) => assert!(rt; !centre.busy()),
 //!     // "line 2: next and a number to 4294967295 wanted"
-//!     Err(RestoreFault::State(refusal)) => assert!(rt; refusal.line() == Some(2)),
-//!     Err(RestoreFault::Settings(_)) => {}
+//!     Err(CentreRestoreFault::State(refusal)) => assert!(rt; refusal.line() == Some(2)),
+//!     Err(CentreRestoreFault::Settings(_)) => {}
 //! }
 //! ```
 #![tactic(auto)]
@@ -21,5 +21,5 @@ mod refusal;
 mod restoring;
 mod words;
 
-pub use refusal::{RestoreFault, StateFault, StateField, StateRefusal};
+pub use refusal::{CentreRestoreFault, CentreStateFault, CentreStateField, CentreStateRefusal};
 pub use restoring::restored;

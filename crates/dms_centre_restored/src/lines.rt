@@ -2,7 +2,7 @@
 
 ghost use Rattle.std.specs.Prelude.{◌≡◌, ◌≤◌, [], IfOk, IfErr, option_map};
 ghost use Rattle.std.specs.Result.{result_ok};
-ghost use Rattle.dms_centre_restored.specs.declared.refusal.StateField.TheVariants.{End};
+ghost use Rattle.dms_centre_restored.specs.declared.refusal.CentreStateField.TheVariants.{End};
 ghost use Rattle.dms_centre_restored.specs.Lacks.{here, wanting, Reads};
 ghost use Rattle.dms_centre_restored.specs.LineReading.{field_at, number_line_at, end_at, why_alone};
 ghost use Rattle.dms_centre_restored.specs.LineReading.{why_numbered, why_of_row, why_caused, why_in, step_digit};
@@ -10,7 +10,7 @@ ghost use Rattle.dms_centre_restored.specs.LineReading.{failed_at, failed_in, en
 ghost use Rattle.dms_centre_restored.specs.LineReading.{can_wait};
 ghost use Rattle.dms_centre_restored.specs.JobReading.{first_lines_at};
 
-use crate::refusal::{Lack, StateField};
+use crate::refusal::{CentreLineLack, CentreStateField};
 use dms_centre::{Ended, Why};
 use dms_text::are_same;
 use dms_text_exact::{behind, cut, integer, number};
@@ -21,14 +21,14 @@ pub(crate) struct NamedLine<'a> {
     pub value: &'a [u8],
     pub rest: &'a [u8],
     /// What is told where the value is not as it must be.
-    pub lack: Lack,
+    pub lack: CentreLineLack,
 }
 
 /// That this is wanted where a text begins.
-pub(crate) fn here(wanted: StateField, text: &[u8]) -> Lack
+pub(crate) fn here(wanted: CentreStateField, text: &[u8]) -> CentreLineLack
     ensures { result ≡ here wanted text.now }
 {
-    Lack {
+    CentreLineLack {
         wanted,
         left: text.len(),
     }
@@ -38,9 +38,9 @@ pub(crate) fn here(wanted: StateField, text: &[u8]) -> Lack
 #[tactic(auto, unfolding(crate::specs::LineReading::field_at))]
 pub(crate) fn field<'a>(
     name: &[u8],
-    wanted: StateField,
+    wanted: CentreStateField,
     text: &'a [u8],
-) -> Result<NamedLine<'a>, Lack>
+) -> Result<NamedLine<'a>, CentreLineLack>
     ensures value { option_map (λ line. (line.value.now, line.rest.now)) (result_ok result)
         ≡ field_at name.now text.now }
     ensures lack { IfOk result (λ line. line.lack ≡ here wanted text.now) }
@@ -60,11 +60,11 @@ pub(crate) fn field<'a>(
 #[tactic(auto, unfolding(crate::specs::LineReading::number_line_at))]
 pub(crate) fn number_line<'a>(
     name: &[u8],
-    wanted: StateField,
+    wanted: CentreStateField,
     low: u32,
     high: u32,
     text: &'a [u8],
-) -> Result<(u32, &'a [u8]), Lack>
+) -> Result<(u32, &'a [u8]), CentreLineLack>
     ensures read { Reads (λ x. (x.0, x.1.now)) result
         (wanting wanted text.now (number_line_at name.now low high text.now)) }
     ensures least { IfOk result (λ x. low ≤ x.0) }
@@ -79,12 +79,12 @@ pub(crate) fn number_line<'a>(
 
 /// The first two lines: the form, and the number that the next request takes.
 #[tactic(auto, unfolding(crate::specs::JobReading::first_lines_at))]
-pub(crate) fn first_lines(text: &[u8]) -> Result<(u32, &[u8]), Lack>
+pub(crate) fn first_lines(text: &[u8]) -> Result<(u32, &[u8]), CentreLineLack>
     ensures { Reads (λ x. (x.0, x.1.now)) result (first_lines_at text.now) }
 {
     match behind(b"state 1 centre\n", text) {
-        Some(rest) => number_line(b"next ", StateField::Next, 0, u32::MAX, rest),
-        None => Err(here(StateField::Form, text)),
+        Some(rest) => number_line(b"next ", CentreStateField::Next, 0, u32::MAX, rest),
+        None => Err(here(CentreStateField::Form, text)),
     }
 }
 
@@ -207,19 +207,19 @@ fn can_wait(next: u32) -> bool
     1 <= next && next <= 2_147_483_648
 }
 
-fn phase_wanted(next: u32) -> StateField
+fn phase_wanted(next: u32) -> CentreStateField
     ensures { result ≡ phase_wanted next }
 {
     if can_wait(next) {
-        StateField::Phase
+        CentreStateField::Phase
     } else {
-        StateField::PhaseWithoutRequest
+        CentreStateField::PhaseWithoutRequest
     }
 }
 
 /// Whether a job is on. A request waits only where the number before the next one is that of a request.
 #[tactic(auto, unfolding(crate::specs::LineReading::phase_at))]
-pub(crate) fn phase_line(next: u32, text: &[u8]) -> Result<(PhaseLine, &[u8]), Lack>
+pub(crate) fn phase_line(next: u32, text: &[u8]) -> Result<(PhaseLine, &[u8]), CentreLineLack>
     ensures { Reads (λ x. (x.0, x.1.now)) result (wanting (phase_wanted next) text.now (phase_at next text.now)) }
 {
     if let Some(rest) = behind(b"idle\n", text) {
@@ -236,12 +236,12 @@ pub(crate) fn phase_line(next: u32, text: &[u8]) -> Result<(PhaseLine, &[u8]), L
 }
 
 /// The last line, and nothing after it.
-pub(crate) fn last_line(text: &[u8]) -> Result<(), Lack>
+pub(crate) fn last_line(text: &[u8]) -> Result<(), CentreLineLack>
     ensures { Reads (λ _. []) result (wanting End text.now (end_at text.now)) }
 {
     if are_same(text, b"end\n") {
         Ok(())
     } else {
-        Err(here(StateField::End, text))
+        Err(here(CentreStateField::End, text))
     }
 }

@@ -9,7 +9,7 @@ use std::fmt;
 
 /// What a line of a state's text is to be.
 #[derive(Clone, Copy, Debug, PartialEq, Eq)]
-pub enum StateField {
+pub enum CentreStateField {
     /// The first line.
     Form,
     /// The number that the next request takes.
@@ -49,68 +49,68 @@ pub enum StateField {
 
 /// The first line of a text that is not as it must be.
 #[derive(Clone, Copy, Debug, PartialEq, Eq)]
-pub struct StateFault {
+pub struct CentreStateFault {
     /// The line, from 1.
     pub line: usize,
     /// What is wanted there.
-    pub wanted: StateField,
+    pub wanted: CentreStateField,
 }
 
 /// Why no state is taken up of a text.
 #[derive(Clone, Copy, Debug, PartialEq, Eq)]
-pub enum StateRefusal {
+pub enum CentreStateRefusal {
     /// No memory.
     Memory,
     /// The text is of no state that a central system comes to.
-    Fault(StateFault),
+    Fault(CentreStateFault),
 }
 
 /// Why no central system is restored.
 #[derive(Clone, Copy, Debug, PartialEq, Eq)]
-pub enum RestoreFault {
+pub enum CentreRestoreFault {
     /// There is none of the settings.
     Settings(CentreFault),
     /// It does not go on from the text.
-    State(StateRefusal),
+    State(CentreStateRefusal),
 }
 
 /// A line that is not as it must be, and how many octets are left where it begins.
 #[derive(Clone, Copy, Debug, PartialEq, Eq)]
-pub(crate) struct Lack {
-    pub wanted: StateField,
+pub(crate) struct CentreLineLack {
+    pub wanted: CentreStateField,
     pub left: usize,
 }
 
 /// Why a line is not taken up.
 #[derive(Clone, Copy, Debug, PartialEq, Eq)]
-pub(crate) enum Unread {
+pub(crate) enum UnreadCentreLine {
     Memory,
-    Lacks(Lack),
+    Lacks(CentreLineLack),
 }
 
-impl From<Lack> for Unread {
+impl From<CentreLineLack> for UnreadCentreLine {
     ghost use Rattle.std.specs.Prelude.{◌≡◌};
-    ghost use Rattle.dms_centre_restored.specs.declared.refusal.Unread.TheVariants.{Lacks};
+    ghost use Rattle.dms_centre_restored.specs.declared.refusal.UnreadCentreLine.TheVariants.{Lacks};
 
     ghost from_gives = { λ lack e. e ≡ Lacks lack };
 
-    fn from(lack: Lack) -> Unread {
-        Unread::Lacks(lack)
+    fn from(lack: CentreLineLack) -> UnreadCentreLine {
+        UnreadCentreLine::Lacks(lack)
     }
 }
 
-impl From<AllocError> for Unread {
+impl From<AllocError> for UnreadCentreLine {
     ghost use Rattle.std.specs.Prelude.{◌≡◌};
-    ghost use Rattle.dms_centre_restored.specs.declared.refusal.Unread.TheVariants.{Memory};
+    ghost use Rattle.dms_centre_restored.specs.declared.refusal.UnreadCentreLine.TheVariants.{Memory};
 
     ghost from_gives = { λ _ e. e ≡ Memory };
 
-    fn from(_e: AllocError) -> Unread {
-        Unread::Memory
+    fn from(_e: AllocError) -> UnreadCentreLine {
+        UnreadCentreLine::Memory
     }
 }
 
-impl StateRefusal {
+impl CentreStateRefusal {
     ghost use Rattle.std.specs.Prelude.{◌≡◌};
     ghost use Rattle.dms_centre_restored.specs.RestoredTexts.{refused_line};
 
@@ -119,41 +119,41 @@ impl StateRefusal {
         ensures { result ≡ refused_line self.now }
     {
         match self {
-            StateRefusal::Memory => None,
-            StateRefusal::Fault(fault) => Some(fault.line),
+            CentreStateRefusal::Memory => None,
+            CentreStateRefusal::Fault(fault) => Some(fault.line),
         }
     }
 }
 
-impl fmt::Display for StateField {
+impl fmt::Display for CentreStateField {
     ghost use Rattle.std.specs.Prelude.{Some};
 
     ghost output = { λ field. Some (field_text field) };
 
     fn fmt<W: fmt::Write>(&self, f: &mut fmt::Formatter<W>) -> fmt::Result {
         match self {
-            StateField::Form => f.write_str("state 1 centre"),
-            StateField::Next => f.write_str("next and a number to 4294967295"),
-            StateField::Last => f.write_str("last and how a job ended"),
-            StateField::Phase => f.write_str("idle, awaits or due"),
-            StateField::PhaseWithoutRequest => f.write_str("idle or due"),
-            StateField::Sends => f.write_str("sends and a number from 1 to 3"),
-            StateField::Ticks => f.write_str("ticks and a number to 2"),
-            StateField::Step => f.write_str("step and a number from 1 to 8"),
-            StateField::StepOfTick => f.write_str("step and 5 or 7"),
-            StateField::Polls => f.write_str("polls and a number to 9"),
-            StateField::Publication => f.write_str("publish and a command"),
-            StateField::Activation => f.write_str("activate and a code"),
-            StateField::Entry { least, most } => {
+            CentreStateField::Form => f.write_str("state 1 centre"),
+            CentreStateField::Next => f.write_str("next and a number to 4294967295"),
+            CentreStateField::Last => f.write_str("last and how a job ended"),
+            CentreStateField::Phase => f.write_str("idle, awaits or due"),
+            CentreStateField::PhaseWithoutRequest => f.write_str("idle or due"),
+            CentreStateField::Sends => f.write_str("sends and a number from 1 to 3"),
+            CentreStateField::Ticks => f.write_str("ticks and a number to 2"),
+            CentreStateField::Step => f.write_str("step and a number from 1 to 8"),
+            CentreStateField::StepOfTick => f.write_str("step and 5 or 7"),
+            CentreStateField::Polls => f.write_str("polls and a number to 9"),
+            CentreStateField::Publication => f.write_str("publish and a command"),
+            CentreStateField::Activation => f.write_str("activate and a code"),
+            CentreStateField::Entry { least, most } => {
                 write!(f, "ledger and an entry of a number from {least} to {most}")
             }
-            StateField::End => f.write_str("end and nothing after it"),
-            StateField::Spelling => f.write_str("the line of the state that was read"),
+            CentreStateField::End => f.write_str("end and nothing after it"),
+            CentreStateField::Spelling => f.write_str("the line of the state that was read"),
         }
     }
 }
 
-impl fmt::Display for StateFault {
+impl fmt::Display for CentreStateFault {
     ghost use Rattle.std.specs.Prelude.{Some};
 
     ghost output = { λ fault. Some (fault_text fault) };
@@ -163,34 +163,34 @@ impl fmt::Display for StateFault {
     }
 }
 
-impl fmt::Display for StateRefusal {
+impl fmt::Display for CentreStateRefusal {
     ghost use Rattle.std.specs.Prelude.{Some};
 
     ghost output = { λ refusal. Some (refusal_text refusal) };
 
     fn fmt<W: fmt::Write>(&self, f: &mut fmt::Formatter<W>) -> fmt::Result {
         match self {
-            StateRefusal::Memory => f.write_str("no memory"),
-            StateRefusal::Fault(fault) => write!(f, "{fault}"),
+            CentreStateRefusal::Memory => f.write_str("no memory"),
+            CentreStateRefusal::Fault(fault) => write!(f, "{fault}"),
         }
     }
 }
 
-impl fmt::Display for RestoreFault {
+impl fmt::Display for CentreRestoreFault {
     ghost use Rattle.std.specs.Prelude.{Some};
 
     ghost output = { λ fault. Some (restore_fault_text fault) };
 
     fn fmt<W: fmt::Write>(&self, f: &mut fmt::Formatter<W>) -> fmt::Result {
         match self {
-            RestoreFault::Settings(fault) => write!(f, "{fault}"),
-            RestoreFault::State(refusal) => write!(f, "{refusal}"),
+            CentreRestoreFault::Settings(fault) => write!(f, "{fault}"),
+            CentreRestoreFault::State(refusal) => write!(f, "{refusal}"),
         }
     }
 }
 
-impl Error for StateFault {}
+impl Error for CentreStateFault {}
 
-impl Error for StateRefusal {}
+impl Error for CentreStateRefusal {}
 
-impl Error for RestoreFault {}
+impl Error for CentreRestoreFault {}

@@ -18,7 +18,10 @@ ghost use Rattle.dms_centre_restored.specs.StateReading.{first_number_in, same_f
 use crate::job_lines::{JobLines, job_lines};
 use crate::ledger_lines::{put_last, put_ledger, put_with_job};
 use crate::lines::{ended, field, first_lines, last_line};
-use crate::refusal::{Lack, RestoreFault, StateFault, StateField, StateRefusal, Unread};
+use crate::refusal::{
+    CentreLineLack, CentreRestoreFault, CentreStateFault, CentreStateField, CentreStateRefusal,
+    UnreadCentreLine,
+};
 use dms_centre::laws::centres_are_kept;
 use dms_centre::{Centre, Settings};
 use dms_centre_state::saved;
@@ -28,7 +31,11 @@ use std::alloc::Global;
 
 /// A central system of the settings that goes on from the state which a text says, or the first thing for which there
 /// is none: with the settings, or the first line that is not as it must be. Its ledger takes memory from `alloc`.
-pub fn restored(alloc: Global, settings: Settings<'_>, text: &[u8]) -> Result<Centre, RestoreFault>
+pub fn restored(
+    alloc: Global,
+    settings: Settings<'_>,
+    text: &[u8],
+) -> Result<Centre, CentreRestoreFault>
     ensures ok { IfOk result (λ centre. IsRestored (settings_model settings.entry) text.now centre.state) }
     ensures none { IfErr result (IsNoneOf (settings_model settings.entry) text.now) }
     ensures community { IfErr result
@@ -39,12 +46,12 @@ pub fn restored(alloc: Global, settings: Settings<'_>, text: &[u8]) -> Result<Ce
 {
     let mut centre = match Centre::new(alloc, settings, first_number(text)) {
         Ok(centre) => centre,
-        Err(fault) => return Err(RestoreFault::Settings(fault)),
+        Err(fault) => return Err(CentreRestoreFault::Settings(fault)),
     };
     centres_are_kept(&centre);
     match take_up(alloc, &mut centre, text) {
         Ok(()) => Ok(centre),
-        Err(unread) => Err(RestoreFault::State(refusal_of(text, unread))),
+        Err(unread) => Err(CentreRestoreFault::State(refusal_of(text, unread))),
     }
 }
 
@@ -60,7 +67,7 @@ fn first_number(text: &[u8]) -> u32
 
 /// Takes up the state that a text says, and compares the text of what was taken up.
 #[tactic(auto, unfolding(crate::specs::StateReading::taken_at))]
-fn take_up(alloc: Global, centre: &mut Centre, text: &[u8]) -> Result<(), Unread>
+fn take_up(alloc: Global, centre: &mut Centre, text: &[u8]) -> Result<(), UnreadCentreLine>
     requires { IsReached centre.old.state }
     ensures reached { OnOk result (GoesOn centre.old.state centre.new.state) }
     ensures text { OnOk result (text_of_state centre.new.state ≡ text.now) }
@@ -74,7 +81,7 @@ fn take_up(alloc: Global, centre: &mut Centre, text: &[u8]) -> Result<(), Unread
 
 /// Takes up what stands behind the first two lines.
 #[tactic(auto, unfolding(crate::specs::StateReading::lines_at))]
-fn put_lines(alloc: Global, centre: &mut Centre, text: &[u8]) -> Result<(), Unread>
+fn put_lines(alloc: Global, centre: &mut Centre, text: &[u8]) -> Result<(), UnreadCentreLine>
     requires { IsReached centre.old.state }
     ensures goes { OnOk result (GoesOn centre.old.state centre.new.state) }
     ensures read { Gives (λ _. centre.new.state) result (lines_at centre.old.state text.now) }
@@ -93,7 +100,7 @@ fn put_job_and_ledger<'a>(
     order: Order,
     job: Option<&JobLines>,
     text: &'a [u8],
-) -> Result<&'a [u8], Unread>
+) -> Result<&'a [u8], UnreadCentreLine>
     requires { IsReached centre.old.state }
     ensures goes { OnOk result (GoesOn centre.old.state centre.new.state) }
     ensures read { Gives (λ rest. (centre.new.state, rest.now)) result
@@ -107,14 +114,14 @@ fn put_job_and_ledger<'a>(
 
 /// Takes up how the last job ended.
 #[tactic(auto, unfolding(crate::specs::StateReading::last_line_at))]
-fn put_last_line<'a>(centre: &mut Centre, text: &'a [u8]) -> Result<&'a [u8], Unread>
+fn put_last_line<'a>(centre: &mut Centre, text: &'a [u8]) -> Result<&'a [u8], UnreadCentreLine>
     requires { IsReached centre.old.state }
     ensures goes { OnOk result (GoesOn centre.old.state centre.new.state) }
     ensures read { Gives (λ rest. (centre.new.state, rest.now)) result (last_line_at centre.old.state text.now) }
 {
-    let field = field(b"last ", StateField::Last, text)?;
+    let field = field(b"last ", CentreStateField::Last, text)?;
     let Some(ended) = ended(field.value) else {
-        return Err(Unread::Lacks(field.lack));
+        return Err(UnreadCentreLine::Lacks(field.lack));
     };
     put_last(centre, ended, field.lack)?;
     Ok(field.rest)
@@ -122,7 +129,7 @@ fn put_last_line<'a>(centre: &mut Centre, text: &'a [u8]) -> Result<&'a [u8], Un
 
 /// Compares the text of a central system's state with a text.
 #[tactic(auto, using(crate::proofs::SameTexts::same_texts))]
-fn compare(alloc: Global, centre: &Centre, text: &[u8]) -> Result<(), Unread>
+fn compare(alloc: Global, centre: &Centre, text: &[u8]) -> Result<(), UnreadCentreLine>
     ensures text { OnOk result (text_of_state centre.now.state ≡ text.now) }
     ensures same { Gives (λ _. true) result (compared (text_of_state centre.now.state) text.now) }
 {
@@ -131,8 +138,8 @@ fn compare(alloc: Global, centre: &Centre, text: &[u8]) -> Result<(), Unread>
         Ok(())
     } else {
         let same = same_front(written.as_slice(), text);
-        Err(Unread::Lacks(Lack {
-            wanted: StateField::Spelling,
+        Err(UnreadCentreLine::Lacks(CentreLineLack {
+            wanted: CentreStateField::Spelling,
             left: text.len().saturating_sub(same),
         }))
     }
@@ -152,16 +159,16 @@ fn same_front(one: &[u8], other: &[u8]) -> usize
 }
 
 /// What is told of a text that is not taken up.
-fn refusal_of(text: &[u8], unread: Unread) -> StateRefusal
+fn refusal_of(text: &[u8], unread: UnreadCentreLine) -> CentreStateRefusal
     ensures line { IsToldOf text.now result }
     ensures said { IsSaid unread result }
     ensures told { result ≡ told_of text.now unread }
 {
     match unread {
-        Unread::Memory => StateRefusal::Memory,
-        Unread::Lacks(lack) => {
+        UnreadCentreLine::Memory => CentreStateRefusal::Memory,
+        UnreadCentreLine::Lacks(lack) => {
             let place = text.len().saturating_sub(lack.left);
-            StateRefusal::Fault(StateFault {
+            CentreStateRefusal::Fault(CentreStateFault {
                 line: line_after(&text[..place]),
                 wanted: lack.wanted,
             })

@@ -9,13 +9,13 @@ use dms_centre::{
     Centre, CentreFault, Command, EndFault, Ended, EntryFault, JobFault, Outcome, SavedJob,
     SavedStage, Settings, Step, Why,
 };
-use dms_centre_restored::{RestoreFault, StateRefusal, restored};
+use dms_centre_restored::{CentreRestoreFault, CentreStateRefusal, restored};
 use dms_centre_state::saved;
 use dms_codes::{Activation, MessageId, Order};
 use std::alloc::Global;
 use std::test::Fail;
 
-fn again(alloc: Global, order: Order, text: &[u8]) -> Result<Centre, RestoreFault> {
+fn again(alloc: Global, order: Order, text: &[u8]) -> Result<Centre, CentreRestoreFault> {
     let settings = Settings {
         community: b"admin",
         order,
@@ -234,7 +234,7 @@ fn no_centre_is_restored_of_a_community_of_none(rt: HostRuntime) -> Result<(), F
         order: Order::High,
     };
     let fault = restored(rt.alloc(), settings, b"").err();
-    assert!(rt; fault == Some(RestoreFault::Settings(CentreFault::Community)));
+    assert!(rt; fault == Some(CentreRestoreFault::Settings(CentreFault::Community)));
     Ok(())
 }
 
@@ -347,7 +347,7 @@ fn restored_or_out_of_memory(rt: HostRuntime) -> Result<(), Fail> {
     let centre = match again(rt.alloc(), Order::High, text) {
         Ok(centre) => centre,
         Err(fault) => {
-            assert!(rt; fault == RestoreFault::State(StateRefusal::Memory));
+            assert!(rt; fault == CentreRestoreFault::State(CentreStateRefusal::Memory));
             again(rt.alloc(), Order::High, text).or(Err("not restored"))?
         }
     };

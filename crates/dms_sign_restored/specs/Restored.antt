@@ -30,10 +30,10 @@ use Rattle.dms_sign_state.specs.declared.field.Stored.TheVariants.{Changeable, V
 use Rattle.dms_sign_state.specs.declared.field.StateError.TheVariants as errors
 use Rattle.dms_sign_restored.specs.declared.restoring.Misfit.{Misfit}
 use Rattle.dms_sign_restored.specs.declared.restoring.MisfitCause.TheVariants as causes
-use Rattle.dms_sign_restored.specs.declared.restoring.StateRefusal.{StateRefusal}
-use Rattle.dms_sign_restored.specs.declared.restoring.StateRefusal.TheVariants as refusals
-use Rattle.dms_sign_restored.specs.declared.restoring.RestoreFault.{RestoreFault}
-use Rattle.dms_sign_restored.specs.declared.restoring.RestoreFault.TheVariants as faults
+use Rattle.dms_sign_restored.specs.declared.restoring.SignStateRefusal.{SignStateRefusal}
+use Rattle.dms_sign_restored.specs.declared.restoring.SignStateRefusal.TheVariants as refusals
+use Rattle.dms_sign_restored.specs.declared.restoring.SignRestoreFault.{SignRestoreFault}
+use Rattle.dms_sign_restored.specs.declared.restoring.SignRestoreFault.TheVariants as faults
 use Rattle.dms_sign_state.specs.NumberSettings.{settings_lines}
 use Rattle.dms_sign_state.specs.Fields.{UsedRow, PutModel, FieldsModel, AreFields}
 use Rattle.dms_sign_state.specs.FieldsText.{text_of_fields}
@@ -186,13 +186,13 @@ pub record IsPut (sign : SignState) (text : List ℕ) (s : SignState) : Type 0 w
   pub taken_up : with_fields fields sign ≡ Ok s
 
 -- why it is not, the text before its lines, or that memory ran out
-abbrev pub IsStateRefusal : SignState → List ℕ → StateRefusal → Type 0
+abbrev pub IsStateRefusal : SignState → List ℕ → SignStateRefusal → Type 0
 IsStateRefusal sign text (refusals.Text error) = IsErrorOf text error
 IsStateRefusal sign text (refusals.Sign misfit) =
     (fields : FieldsModel) × Say text fields × (with_fields fields sign ≡ Err misfit)
 
 -- this is answered, unless memory runs out
-abbrev pub IsAnswered : Result SignState Misfit → Result SignState StateRefusal → Type 0
+abbrev pub IsAnswered : Result SignState Misfit → Result SignState SignStateRefusal → Type 0
 IsAnswered wanted (Err (refusals.Text errors.Memory)) = ⊤
 IsAnswered wanted (Err (refusals.Text (errors.Fault fault))) = ⊥
 IsAnswered (Ok wanted) (Ok s) = s ≡ wanted
@@ -212,17 +212,17 @@ pub record IsRestored (config : Config) (text : List ℕ) (s : SignState) : Type
   pub state : IsPut (made config) text s
 
 -- why it is not, the configuration before the text, or that memory ran out
-abbrev pub IsRestoreFault : Config → List ℕ → RestoreFault → Type 0
+abbrev pub IsRestoreFault : Config → List ℕ → SignRestoreFault → Type 0
 IsRestoreFault config text (faults.Config fault) = IsFirstConfigFault (config_fault config) fault
 IsRestoreFault config text (faults.State refusal) =
     (config_fault config ≡ None) × IsStateRefusal (made config) text refusal
 
 -- memory ran out
-abbrev pub IsWantOfMemory : RestoreFault → Type 0
+abbrev pub IsWantOfMemory : SignRestoreFault → Type 0
 IsWantOfMemory (faults.Config fault) = fault ≡ config_faults.Table Memory
 IsWantOfMemory (faults.State refusal) = refusal ≡ refusals.Text errors.Memory
 
 -- this sign is given, unless memory runs out
-abbrev pub IsGiven : SignState → Result SignState RestoreFault → Type 0
+abbrev pub IsGiven : SignState → Result SignState SignRestoreFault → Type 0
 IsGiven s (Ok again) = again ≡ s
 IsGiven s (Err fault) = IsWantOfMemory fault

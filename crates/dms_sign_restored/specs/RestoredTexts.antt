@@ -6,15 +6,15 @@ use Rattle.dms_sign.specs.RestoringTexts.{state_fault_text}
 use Rattle.dms_sign_restored.specs.declared.restoring.Misfit.{Misfit}
 use Rattle.dms_sign_restored.specs.declared.restoring.MisfitCause.{MisfitCause}
 use Rattle.dms_sign_restored.specs.declared.restoring.MisfitCause.TheVariants as causes
-use Rattle.dms_sign_restored.specs.declared.restoring.StateRefusal.{StateRefusal}
-use Rattle.dms_sign_restored.specs.declared.restoring.StateRefusal.TheVariants as refusals
-use Rattle.dms_sign_restored.specs.declared.restoring.RestoreFault.{RestoreFault}
-use Rattle.dms_sign_restored.specs.declared.restoring.RestoreFault.TheVariants as faults
+use Rattle.dms_sign_restored.specs.declared.restoring.SignStateRefusal.{SignStateRefusal}
+use Rattle.dms_sign_restored.specs.declared.restoring.SignStateRefusal.TheVariants as refusals
+use Rattle.dms_sign_restored.specs.declared.restoring.SignRestoreFault.{SignRestoreFault}
+use Rattle.dms_sign_restored.specs.declared.restoring.SignRestoreFault.TheVariants as faults
 use Rattle.dms_sign_state.specs.FieldTexts.{error_text}
 use Rattle.dms_sign_state.specs.declared.field.StateError.TheVariants as errors
 
 -- the line that is refused
-abbrev pub refused_line : StateRefusal → Option ℕ
+abbrev pub refused_line : SignStateRefusal → Option ℕ
 refused_line (refusals.Text errors.Memory) = None
 refused_line (refusals.Text (errors.Fault fault)) = Some fault.line
 refused_line (refusals.Sign misfit) = Some misfit.line
@@ -26,10 +26,10 @@ cause_text (causes.Part fault) = state_fault_text fault
 abbrev pub misfit_text : Misfit → List ℕ
 misfit_text misfit = codes "line " ++ decimal misfit.line ++ codes ": " ++ cause_text misfit.cause
 
-abbrev pub refusal_text : StateRefusal → List ℕ
+abbrev pub refusal_text : SignStateRefusal → List ℕ
 refusal_text (refusals.Text error) = error_text error
 refusal_text (refusals.Sign misfit) = misfit_text misfit
 
-abbrev pub restore_fault_text : RestoreFault → List ℕ
+abbrev pub restore_fault_text : SignRestoreFault → List ℕ
 restore_fault_text (faults.Config fault) = config_fault_text fault
 restore_fault_text (faults.State refusal) = refusal_text refusal

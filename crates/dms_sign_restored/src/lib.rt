@@ -16,8 +16,8 @@
 //! ```
 //! match restored(alloc, config, text) {
 //!     Ok(sign) => assert!(rt; sign.is_powered()),
-//!     Err(RestoreFault::State(refusal)) => assert!(rt; refusal.line() == Some(2)),
-//!     Err(RestoreFault::Config(_)) => {}
+//!     Err(SignRestoreFault::State(refusal)) => assert!(rt; refusal.line() == Some(2)),
+//!     Err(SignRestoreFault::Config(_)) => {}
 //! }
 //! ```
 #![tactic(auto)]
@@ -25,4 +25,4 @@
 pub mod laws;
 mod restoring;
 
-pub use restoring::{Misfit, MisfitCause, RestoreFault, StateRefusal, put_state, restored};
+pub use restoring::{Misfit, MisfitCause, SignRestoreFault, SignStateRefusal, put_state, restored};

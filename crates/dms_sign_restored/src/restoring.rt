@@ -17,7 +17,7 @@ use dms_codes::{MessageId, Order, RowId, memory};
 use dms_sign::{Config, ConfigFault, MessageFault, Sign, SignParts};
 use dms_sign_access::ReportFault;
 use dms_sign_state::{
-    PutFields, RowFields, StateError, StateFields, Stored, settings_lines, state_fields,
+    PutFields, StateError, StateFields, Stored, UsedRowFields, settings_lines, state_fields,
 };
 use dms_table::{RowFault, SavedRow, SavedShown, Shown, ShownFault};
 use std::alloc::Global;
@@ -43,7 +43,7 @@ pub struct Misfit {
 
 /// Why a sign is not put in the state of a text.
 #[derive(Clone, Copy, Debug, PartialEq, Eq)]
-pub enum StateRefusal {
+pub enum SignStateRefusal {
     /// The text is no state's, or there is no memory to read it.
     Text(StateError),
     /// The state is none of this sign.
@@ -52,14 +52,14 @@ pub enum StateRefusal {
 
 /// Why no sign is restored.
 #[derive(Clone, Copy, Debug, PartialEq, Eq)]
-pub enum RestoreFault {
+pub enum SignRestoreFault {
     /// There is no sign of the configuration.
     Config(ConfigFault),
     /// It is not put in the state of the text.
-    State(StateRefusal),
+    State(SignStateRefusal),
 }
 
-impl StateRefusal {
+impl SignStateRefusal {
     ghost use Rattle.std.specs.Prelude.{◌≡◌};
     ghost use Rattle.dms_sign_restored.specs.RestoredTexts.{refused_line};
 
@@ -68,9 +68,9 @@ impl StateRefusal {
         ensures { result ≡ refused_line self.now }
     {
         match self {
-            StateRefusal::Text(StateError::Memory) => None,
-            StateRefusal::Text(StateError::Fault(fault)) => Some(fault.line),
-            StateRefusal::Sign(misfit) => Some(misfit.line),
+            SignStateRefusal::Text(StateError::Memory) => None,
+            SignStateRefusal::Text(StateError::Fault(fault)) => Some(fault.line),
+            SignStateRefusal::Sign(misfit) => Some(misfit.line),
         }
     }
 }
@@ -94,24 +94,24 @@ impl fmt::Display for Misfit {
     }
 }
 
-impl fmt::Display for StateRefusal {
+impl fmt::Display for SignStateRefusal {
     ghost output = { λ refusal. Some (refusal_text refusal) };
 
     fn fmt<W: fmt::Write>(&self, f: &mut fmt::Formatter<W>) -> fmt::Result {
         match self {
-            StateRefusal::Text(error) => write!(f, "{error}"),
-            StateRefusal::Sign(misfit) => write!(f, "{misfit}"),
+            SignStateRefusal::Text(error) => write!(f, "{error}"),
+            SignStateRefusal::Sign(misfit) => write!(f, "{misfit}"),
         }
     }
 }
 
-impl fmt::Display for RestoreFault {
+impl fmt::Display for SignRestoreFault {
     ghost output = { λ fault. Some (restore_fault_text fault) };
 
     fn fmt<W: fmt::Write>(&self, f: &mut fmt::Formatter<W>) -> fmt::Result {
         match self {
-            RestoreFault::Config(fault) => write!(f, "{fault}"),
-            RestoreFault::State(refusal) => write!(f, "{refusal}"),
+            SignRestoreFault::Config(fault) => write!(f, "{fault}"),
+            SignRestoreFault::State(refusal) => write!(f, "{refusal}"),
         }
     }
 }
@@ -120,14 +120,14 @@ impl Error for MisfitCause {}
 
 impl Error for Misfit {}
 
-impl Error for StateRefusal {}
+impl Error for SignStateRefusal {}
 
-impl Error for RestoreFault {}
+impl Error for SignRestoreFault {}
 
 /// The sign in the state that a text says, or why there is none: the text is no state's, or else the first line that
 /// does not fit this sign. Rows are put where a row is not used: so a sign as it was made has room for them. After an
 /// error, as out of memory, there is no sign.
-pub fn put_state(alloc: Global, sign: Sign, text: &[u8]) -> Result<Sign, StateRefusal>
+pub fn put_state(alloc: Global, sign: Sign, text: &[u8]) -> Result<Sign, SignStateRefusal>
     ensures ok { IfOk result (IsPut sign text.now) }
     ensures only { (fields : FieldsModel) → Say text.now fields → IsAnswered (with_fields fields sign) result }
     ensures fault { IfErr result (IsStateRefusal sign text.now) }
@@ -135,28 +135,28 @@ pub fn put_state(alloc: Global, sign: Sign, text: &[u8]) -> Result<Sign, StateRe
     let mut sign = sign;
     let fields = match state_fields(alloc, text) {
         Ok(fields) => fields,
-        Err(error) => return Err(StateRefusal::Text(error)),
+        Err(error) => return Err(SignStateRefusal::Text(error)),
     };
     match put_fields(&mut sign, &fields) {
         Ok(()) => Ok(sign),
-        Err(misfit) => Err(StateRefusal::Sign(misfit)),
+        Err(misfit) => Err(SignStateRefusal::Sign(misfit)),
     }
 }
 
 /// The sign of a configuration in the state that a text says, or the first thing for which there is none: with the
 /// configuration, then with the text, then with a line that does not fit this sign. Out of memory nothing is left.
-pub fn restored(alloc: Global, config: Config<'_>, text: &[u8]) -> Result<Sign, RestoreFault>
+pub fn restored(alloc: Global, config: Config<'_>, text: &[u8]) -> Result<Sign, SignRestoreFault>
     ensures ok { IfOk result (IsRestored config.entry text.now) }
     ensures only { (s : SignState) → IsRestored config.entry text.now s → IsGiven s result }
     ensures fault { IfErr result (IsRestoreFault config.entry text.now) }
 {
     let sign = match Sign::new(alloc, config) {
         Ok(sign) => sign,
-        Err(fault) => return Err(RestoreFault::Config(fault)),
+        Err(fault) => return Err(SignRestoreFault::Config(fault)),
     };
     match put_state(alloc, sign, text) {
         Ok(sign) => Ok(sign),
-        Err(refusal) => Err(RestoreFault::State(refusal)),
+        Err(refusal) => Err(SignRestoreFault::State(refusal)),
     }
 }
 
@@ -183,7 +183,12 @@ fn few_rows(fields: &StateFields)
 {}
 
 /// Puts the rows from a line on.
-fn put_rows(sign: &mut Sign, stored: Stored, first: usize, rows: &[RowFields]) -> Result<(), Misfit>
+fn put_rows(
+    sign: &mut Sign,
+    stored: Stored,
+    first: usize,
+    rows: &[UsedRowFields],
+) -> Result<(), Misfit>
     requires first { first ≤ 100 }
     requires rows { length rows.now ≤ 64 }
     ensures ok { OnOk result (with_rows stored first rows.now sign.old ≡ Ok sign.new) }
@@ -195,7 +200,7 @@ fn put_rows(sign: &mut Sign, stored: Stored, first: usize, rows: &[RowFields]) -
     Ok(())
 }
 
-fn put_row(sign: &mut Sign, stored: Stored, line: usize, row: &RowFields) -> Result<(), Misfit>
+fn put_row(sign: &mut Sign, stored: Stored, line: usize, row: &UsedRowFields) -> Result<(), Misfit>
     ensures ok { OnOk result (with_row stored line row.now sign.old ≡ Ok sign.new) }
     ensures fault { IfErr result (λ misfit. with_row stored line row.now sign.old ≡ Err misfit) }
 {

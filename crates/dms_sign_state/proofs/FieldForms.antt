@@ -1,20 +1,20 @@
 -- Fields one after the other: what is read of a text, and where it goes wrong.
 use Rattle.std.proofs.Common.{◌≡◌, ℕ, List, [], ◌++◌, length, Result, Ok, Err, refl, sym, ap, subst, ◌∙◌, append_assoc, inl, inr}
-use Rattle.dms_sign_state.specs.declared.field.StateField.{StateField}
-use Rattle.dms_sign_state.specs.declared.field.Lack.{Lack}
+use Rattle.dms_sign_state.specs.declared.field.SignStateField.{SignStateField}
+use Rattle.dms_sign_state.specs.declared.field.SignFieldLack.{SignFieldLack}
 use Rattle.dms_sign_state.specs.FieldFaults.{Begins, Stands}
 use Rattle.dms_sign_state.specs.WordReading.{◌>>=◌, Reader, pair, made}
 use Rattle.dms_sign_state.specs.FieldReading.{field}
 use Rattle.dms_sign_state.proofs.Forms.{IsRead, bind_ok, bind_err, goes_on, ok_is}
 
-abbrev failed : {A : Type 0} → Lack → Result A Lack
+abbrev failed : {A : Type 0} → SignFieldLack → Result A SignFieldLack
 failed lack = Err lack
 
-abbrev done : {A : Type 0} → A → Result A Lack
+abbrev done : {A : Type 0} → A → Result A SignFieldLack
 done x = Ok x
 
 -- a text goes wrong at a field that could be next
-pub record Stops {A : Type 0} (spelled : A → List ℕ) (Good : A → Type 0) (Next : List ℕ → Type 0) (text : List ℕ) (lack : Lack) : Type 0 where
+pub record Stops {A : Type 0} (spelled : A → List ℕ) (Good : A → Type 0) (Next : List ℕ → Type 0) (text : List ℕ) (lack : SignFieldLack) : Type 0 where
   pub before : List ℕ
   pub rest : List ℕ
   pub parts : text ≡ before ++ rest
@@ -26,7 +26,7 @@ pub record Stops {A : Type 0} (spelled : A → List ℕ) (Good : A → Type 0) (
 pub record Reads {A : Type 0} (spelled : A → List ℕ) (Good : A → Type 0) (Next : List ℕ → Type 0) (reader : Reader A) : Type 0 where
   pub found : (text : List ℕ) (x : A × List ℕ) → reader text ≡ Ok x → Good x.0 × (text ≡ spelled x.0 ++ x.1)
   pub only : (a : A) (rest : List ℕ) → Good a → Next rest → reader (spelled a ++ rest) ≡ Ok (a, rest)
-  pub stops : (text : List ℕ) (lack : Lack) → reader text ≡ Err lack → Stops spelled Good Next text lack
+  pub stops : (text : List ℕ) (lack : SignFieldLack) → reader text ≡ Err lack → Stops spelled Good Next text lack
   pub some : (a : A) × Good a
 
 abbrev pub Any : List ℕ → Type 0
@@ -34,19 +34,19 @@ Any rest = Unit {0}
 
 -- ---- one field
 
-module _ {A : Type 0} {spelled : A → List ℕ} {Good : A → Type 0} {reader : Lack → Reader A} (wanted : StateField) (one : IsRead spelled Good reader) (some : (a : A) × Good a)
+module _ {A : Type 0} {spelled : A → List ℕ} {Good : A → Type 0} {reader : SignFieldLack → Reader A} (wanted : SignStateField) (one : IsRead spelled Good reader) (some : (a : A) × Good a)
     (begins : (text : List ℕ) → Stands wanted text → Begins spelled Good text) (stands : (text : List ℕ) → Begins spelled Good text → Stands wanted text) where
-  pub not_there : (lack : Lack) (text : List ℕ) → reader lack text ≡ Err lack → Stands wanted text → ⊥
+  pub not_there : (lack : SignFieldLack) (text : List ℕ) → reader lack text ≡ Err lack → Stands wanted text → ⊥
   not_there lack text e stood =
       let b = begins text stood in
       let read : done (b.0, b.2) ≡ failed {A = A × List ℕ} lack = sym (one.only lack b.0 b.2 b.1) ∙ ap (reader lack) (sym b.3) ∙ e in
       cc
 
-  field_stops : (text : List ℕ) (lack : Lack) → field wanted reader text ≡ Err lack → Stops spelled Good Any text lack
+  field_stops : (text : List ℕ) (lack : SignFieldLack) → field wanted reader text ≡ Err lack → Stops spelled Good Any text lack
   field_stops text lack e =
-      let here : Lack = record { wanted = wanted; left = length text } in
+      let here : SignFieldLack = record { wanted = wanted; left = length text } in
       let is : lack ≡ here = one.lacks here lack text e in
-      subst (λ (l : Lack). Stops spelled Good Any text l) (sym is) (record {
+      subst (λ (l : SignFieldLack). Stops spelled Good Any text l) (sym is) (record {
         before = [];
         rest = text;
         parts = refl;
@@ -89,7 +89,7 @@ module _ {A B : Type 0} (sa : A → List ℕ) (ga : A → Type 0) (na : List ℕ
       ∙ goes_on (rb (sb p.1 ++ rest)) (λ y. Ok ((p.0, y.0), y.1)) (p.1, rest) (other.only p.1 rest good.1 next)
 
   -- the first goes wrong
-  first_stops : (text : List ℕ) (lack : Lack) → Stops sa ga na text lack → Stops spelled Good nb text lack
+  first_stops : (text : List ℕ) (lack : SignFieldLack) → Stops sa ga na text lack → Stops spelled Good nb text lack
   first_stops text lack stop = record {
     before = stop.before;
     rest = stop.rest;
@@ -103,7 +103,7 @@ module _ {A B : Type 0} (sa : A → List ℕ) (ga : A → Type 0) (na : List ℕ
   }
 
   -- the second goes wrong
-  second_stops : (text rest : List ℕ) (a : A) (lack : Lack) → ga a → text ≡ sa a ++ rest → Stops sb gb nb rest lack → Stops spelled Good nb text lack
+  second_stops : (text rest : List ℕ) (a : A) (lack : SignFieldLack) → ga a → text ≡ sa a ++ rest → Stops sb gb nb rest lack → Stops spelled Good nb text lack
   second_stops text rest a lack good is stop = record {
     before = sa a ++ stop.before;
     rest = stop.rest;
@@ -115,7 +115,7 @@ module _ {A B : Type 0} (sa : A → List ℕ) (ga : A → Type 0) (na : List ℕ
         ((a, on.0), (good, on.1), on.2, on.3, append_assoc (sa a) (sb on.0) more ∙ ap (λ rest. sa a ++ rest) on.4 ∙ sym (append_assoc (sa a) stop.before on.2));
   }
 
-  both_stops : (text : List ℕ) (lack : Lack) → pair ra rb text ≡ Err lack → Stops spelled Good nb text lack
+  both_stops : (text : List ℕ) (lack : SignFieldLack) → pair ra rb text ≡ Err lack → Stops spelled Good nb text lack
   both_stops text lack e =
       elim (bind_err (ra text) (λ x. rb x.1 >>= λ y. Ok ((x.0, y.0), y.1)) lack e) [
         | inl first ↦ first_stops text lack (one.stops text lack first)
@@ -149,7 +149,7 @@ module _ {A B : Type 0} (sa : A → List ℕ) (ga : A → Type 0) (na : List ℕ
       ∙ goes_on (ra (sa (back b) ++ rest)) (λ x. Ok (make x.0, x.1)) (back b, rest) (one.only (back b) rest a.0 next)
       ∙ ap (λ b. done (b, rest)) a.2
 
-  made_stop : (text : List ℕ) (lack : Lack) → Stops sa ga na text lack → Stops sb gb na text lack
+  made_stop : (text : List ℕ) (lack : SignFieldLack) → Stops sa ga na text lack → Stops sb gb na text lack
   made_stop text lack stop = record {
     before = stop.before;
     rest = stop.rest;
@@ -162,7 +162,7 @@ module _ {A B : Type 0} (sa : A → List ℕ) (ga : A → Type 0) (na : List ℕ
         (make on.0, b.0, on.2, on.3, ap (λ front. front ++ more) (sym b.1) ∙ on.4);
   }
 
-  made_stops : (text : List ℕ) (lack : Lack) → made make ra text ≡ Err lack → Stops sb gb na text lack
+  made_stops : (text : List ℕ) (lack : SignFieldLack) → made make ra text ≡ Err lack → Stops sb gb na text lack
   made_stops text lack e =
       elim (bind_err (ra text) (λ x. Ok (make x.0, x.1)) lack e) [
         | inl first ↦ made_stop text lack (one.stops text lack first)

@@ -9,7 +9,7 @@ use Rattle.dms_codes.specs.declared.status.Status.TheVariants as statuses
 use Rattle.dms_codes.specs.Status.{is_not_used, status_number}
 use Rattle.dms_face.specs.declared.defaults.Defaults.{Defaults}
 use Rattle.dms_sign_state.specs.declared.field.Put.{Put}
-use Rattle.dms_sign_state.specs.declared.field.Lack.{Lack}
+use Rattle.dms_sign_state.specs.declared.field.SignFieldLack.{SignFieldLack}
 use Rattle.dms_sign_state.specs.declared.field.Stored.{Stored}
 use Rattle.dms_sign_state.specs.declared.field.Stored.TheVariants.{Changeable, Volatile}
 use Rattle.dms_sign_state.specs.Fields.{MessageModel, UsedRow, AreDefaults, IsCode, IsMessage, IsAddress, IsUsedRow}
@@ -22,7 +22,7 @@ use Rattle.dms_sign_state.proofs.Groupings.{of_defaults, of_message, of_row}
 use Rattle.dms_sign_state.proofs.WordForms.{IsWithin, number_read, below_read, small_read, octets_read, code_read, dotted_read}
 
 -- the same in another spelling
-module _ {A : Type 0} {spelled other : A → List ℕ} {Good : A → Type 0} {reader : Lack → Reader A} (one : IsRead spelled Good reader) (same : (a : A) → spelled a ≡ other a) where
+module _ {A : Type 0} {spelled other : A → List ℕ} {Good : A → Type 0} {reader : SignFieldLack → Reader A} (one : IsRead spelled Good reader) (same : (a : A) → spelled a ≡ other a) where
   pub respelled : IsRead other Good reader
   respelled = record {
     found = λ lack text x e. let is = one.found lack text x e in (is.0, is.1 ∙ ap (λ front. front ++ x.1) (same x.0));

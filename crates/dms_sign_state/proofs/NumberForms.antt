@@ -6,10 +6,10 @@ use Rattle.dms_text_filling.proofs.Parts.{two, same}
 use Rattle.dms_face.specs.declared.defaults.Defaults.{Defaults}
 use Rattle.dms_sign_access.specs.declared.settings.Fallbacks.{Fallbacks}
 use Rattle.dms_sign_access.specs.declared.settings.SignSettings.{SignSettings}
-use Rattle.dms_sign_state.specs.declared.field.StateField.TheVariants as fields
-use Rattle.dms_sign_state.specs.declared.field.Lack.{Lack}
-use Rattle.dms_sign_state.specs.declared.field.Unread.{Unread}
-use Rattle.dms_sign_state.specs.declared.field.Unread.TheVariants as unread
+use Rattle.dms_sign_state.specs.declared.field.SignStateField.TheVariants as fields
+use Rattle.dms_sign_state.specs.declared.field.SignFieldLack.{SignFieldLack}
+use Rattle.dms_sign_state.specs.declared.field.UnreadSignField.{UnreadSignField}
+use Rattle.dms_sign_state.specs.declared.field.UnreadSignField.TheVariants as unread
 use Rattle.dms_sign_state.specs.declared.number_settings.NumberSetting.{NumberSetting}
 use Rattle.dms_sign_state.specs.NumberSettings.{all_numbers, number_word, number_of, with_number, greatest_number, numbers_room}
 use Rattle.dms_sign_state.specs.FieldsText.{number_line, setting_line}
@@ -18,7 +18,7 @@ use Rattle.dms_sign_state.specs.FieldReading.{defaults_field, fallbacks_at, sett
 use Rattle.dms_sign_state.proofs.Forms.{ok_is, goes_on}
 use Rattle.dms_sign_state.proofs.FieldForms.{Reads, Any, pair_reads}
 
-abbrev failed : {A : Type 0} → Lack → Result A Lack
+abbrev failed : {A : Type 0} → SignFieldLack → Result A SignFieldLack
 failed lack = Err lack
 
 -- ---- the values of these
@@ -66,11 +66,11 @@ values_reads one (number ∷ numbers) =
 -- ---- read among the settings
 
 -- a value with what is read behind it
-abbrev both : {A B : Type 0} → A → B × List ℕ → Result ((A × B) × List ℕ) Lack
+abbrev both : {A B : Type 0} → A → B × List ℕ → Result ((A × B) × List ℕ) SignFieldLack
 both a y = Ok ((a, y.0), y.1)
 
 -- what is made of a value that is read
-abbrev made_of : {A B : Type 0} → (A → B) → A × List ℕ → Result (B × List ℕ) Lack
+abbrev made_of : {A B : Type 0} → (A → B) → A × List ℕ → Result (B × List ℕ) SignFieldLack
 made_of make x = Ok (make x.0, x.1)
 
 module _ (number : NumberSetting) (numbers : List NumberSetting) (settings : SignSettings) where
@@ -83,18 +83,18 @@ module _ (number : NumberSetting) (numbers : List NumberSetting) (settings : Sig
   abbrev all_of : Values (number ∷ numbers) → SignSettings
   all_of values = with_values (number ∷ numbers) values settings
 
-  abbrev read_with : ℕ × List ℕ → Result (SignSettings × List ℕ) Lack
+  abbrev read_with : ℕ × List ℕ → Result (SignSettings × List ℕ) SignFieldLack
   read_with x = numbers_at numbers (with_first x.0) x.1
 
-  abbrev read_beside : ℕ × List ℕ → Result (Values (number ∷ numbers) × List ℕ) Lack
+  abbrev read_beside : ℕ × List ℕ → Result (Values (number ∷ numbers) × List ℕ) SignFieldLack
   read_beside x = values_at numbers x.1 >>= both x.0
 
-  with_others : (n : ℕ) (others : Result (Values numbers × List ℕ) Lack) → (others >>= made_of (others_of (with_first n))) ≡ ((others >>= both n) >>= made_of all_of)
+  with_others : (n : ℕ) (others : Result (Values numbers × List ℕ) SignFieldLack) → (others >>= made_of (others_of (with_first n))) ≡ ((others >>= both n) >>= made_of all_of)
   with_others n (Ok x) = refl
   with_others n (Err lack) = refl
 
   with_one : ((known : SignSettings) (text : List ℕ) → numbers_at numbers known text ≡ made (others_of known) (values_at numbers) text)
-      → (first : Result (ℕ × List ℕ) Lack) → (first >>= read_with) ≡ ((first >>= read_beside) >>= made_of all_of)
+      → (first : Result (ℕ × List ℕ) SignFieldLack) → (first >>= read_with) ≡ ((first >>= read_beside) >>= made_of all_of)
   with_one others (Ok x) = others (with_first x.0) x.1 ∙ with_others x.0 (values_at numbers x.1)
   with_one others (Err lack) = refl
 
@@ -119,29 +119,29 @@ parts_at = pair (defaults_field fields.Defaults (codes "defaults") (codes " ")) 
 abbrev begun_with : Defaults → Fallbacks → Values all_numbers → SignSettings
 begun_with d f values = with_values all_numbers values (begun_settings d f)
 
-abbrev behind_fallbacks : Defaults → Fallbacks × List ℕ → Result (SignSettings × List ℕ) Lack
+abbrev behind_fallbacks : Defaults → Fallbacks × List ℕ → Result (SignSettings × List ℕ) SignFieldLack
 behind_fallbacks d f = numbers_at all_numbers (begun_settings d f.0) f.1
 
-abbrev beside_fallbacks : Fallbacks × List ℕ → Result ((Fallbacks × Values all_numbers) × List ℕ) Lack
+abbrev beside_fallbacks : Fallbacks × List ℕ → Result ((Fallbacks × Values all_numbers) × List ℕ) SignFieldLack
 beside_fallbacks f = values_at all_numbers f.1 >>= both f.0
 
-abbrev behind_defaults : Defaults × List ℕ → Result (SignSettings × List ℕ) Lack
+abbrev behind_defaults : Defaults × List ℕ → Result (SignSettings × List ℕ) SignFieldLack
 behind_defaults d = fallbacks_at d.1 >>= behind_fallbacks d.0
 
-abbrev beside_defaults : Defaults × List ℕ → Result (Parts × List ℕ) Lack
+abbrev beside_defaults : Defaults × List ℕ → Result (Parts × List ℕ) SignFieldLack
 beside_defaults d = pair fallbacks_at (values_at all_numbers) d.1 >>= both d.0
 
-values_last : (d : Defaults) (f : Fallbacks) (values : Result (Values all_numbers × List ℕ) Lack)
+values_last : (d : Defaults) (f : Fallbacks) (values : Result (Values all_numbers × List ℕ) SignFieldLack)
     → (values >>= made_of (begun_with d f)) ≡ (((values >>= both f) >>= both d) >>= made_of settings_of)
 values_last d f (Ok x) = refl
 values_last d f (Err lack) = refl
 
-fallbacks_next : (d : Defaults) (fallbacks : Result (Fallbacks × List ℕ) Lack)
+fallbacks_next : (d : Defaults) (fallbacks : Result (Fallbacks × List ℕ) SignFieldLack)
     → (fallbacks >>= behind_fallbacks d) ≡ (((fallbacks >>= beside_fallbacks) >>= both d) >>= made_of settings_of)
 fallbacks_next d (Ok f) = numbers_are all_numbers (begun_settings d f.0) f.1 ∙ values_last d f.0 (values_at all_numbers f.1)
 fallbacks_next d (Err lack) = refl
 
-defaults_first : (defaults : Result (Defaults × List ℕ) Lack)
+defaults_first : (defaults : Result (Defaults × List ℕ) SignFieldLack)
     → (defaults >>= behind_defaults) ≡ ((defaults >>= beside_defaults) >>= made_of settings_of)
 defaults_first (Ok d) = fallbacks_next d.0 (fallbacks_at d.1)
 defaults_first (Err lack) = refl
@@ -166,7 +166,7 @@ abbrev pub number_after : ℕ → NumberSetting → NumberSetting
 number_after i other = get_or all_numbers i other
 
 -- what is read from the next on
-pub next_read : (i : ℕ) (other : NumberSetting) (settings : SignSettings) (text : List ℕ) (whole : Result (SignSettings × List ℕ) Lack) → i < length all_numbers
+pub next_read : (i : ℕ) (other : NumberSetting) (settings : SignSettings) (text : List ℕ) (whole : Result (SignSettings × List ℕ) SignFieldLack) → i < length all_numbers
     → numbers_at (drop i all_numbers) settings text ≡ whole
     → (setting_at (number_after i other) text >>= λ x. numbers_at (drop (i + 1) all_numbers) (with_number (number_after i other) x.0 settings) x.1) ≡ whole
 unfolding numbers_at
@@ -175,21 +175,21 @@ next_read i other settings text whole less is =
     ∙ ap (λ (numbers : List NumberSetting). numbers_at numbers settings text) (sym (drop-cons all_numbers i other less))
     ∙ is
 
-pub one_read : (i : ℕ) (other : NumberSetting) (settings : SignSettings) (text : List ℕ) (whole : Result (SignSettings × List ℕ) Lack) → i < length all_numbers
+pub one_read : (i : ℕ) (other : NumberSetting) (settings : SignSettings) (text : List ℕ) (whole : Result (SignSettings × List ℕ) SignFieldLack) → i < length all_numbers
     → numbers_at (drop i all_numbers) settings text ≡ whole → (n : ℕ) (rest : List ℕ) → setting_at (number_after i other) text ≡ Ok (n, rest)
     → numbers_at (drop (i + 1) all_numbers) (with_number (number_after i other) n settings) rest ≡ whole
 one_read i other settings text whole less is n rest read =
     sym (goes_on (setting_at (number_after i other) text) (λ x. numbers_at (drop (i + 1) all_numbers) (with_number (number_after i other) x.0 settings) x.1) (n, rest) read)
     ∙ next_read i other settings text whole less is
 
-pub one_lacks : (error : Unread) (i : ℕ) (other : NumberSetting) (settings : SignSettings) (text : List ℕ) (whole : Result (SignSettings × List ℕ) Lack) → i < length all_numbers
+pub one_lacks : (error : UnreadSignField) (i : ℕ) (other : NumberSetting) (settings : SignSettings) (text : List ℕ) (whole : Result (SignSettings × List ℕ) SignFieldLack) → i < length all_numbers
     → numbers_at (drop i all_numbers) settings text ≡ whole → Fails error (setting_at (number_after i other) text) → Fails error whole
 one_lacks unread.Memory i other settings text whole less is fails = tt
 one_lacks (unread.Lacks lack) i other settings text whole less is fails =
     sym (next_read i other settings text whole less is)
     ∙ ap (λ r. r >>= λ x. numbers_at (drop (i + 1) all_numbers) (with_number (number_after i other) x.0 settings) x.1) fails
 
-pub all_read : (i : ℕ) (settings : SignSettings) (text : List ℕ) (whole : Result (SignSettings × List ℕ) Lack) → length all_numbers ≤ i
+pub all_read : (i : ℕ) (settings : SignSettings) (text : List ℕ) (whole : Result (SignSettings × List ℕ) SignFieldLack) → length all_numbers ≤ i
     → numbers_at (drop i all_numbers) settings text ≡ whole → whole ≡ Ok (settings, text)
 unfolding numbers_at
 all_read i settings text whole more is =

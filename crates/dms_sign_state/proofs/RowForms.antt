@@ -5,10 +5,10 @@ use Rattle.std.proofs.lemmas.Bool.{cases_Bool, and_parts, and_from, and_right, l
 use Rattle.dms_codes.specs.declared.status.Status.TheVariants.{Modifying}
 use Rattle.dms_sign_state.specs.declared.field.Stored.{Stored}
 use Rattle.dms_sign_state.specs.declared.field.Stored.TheVariants.{Changeable, Volatile}
-use Rattle.dms_sign_state.specs.declared.field.StateField.TheVariants as fields
-use Rattle.dms_sign_state.specs.declared.field.Lack.{Lack}
-use Rattle.dms_sign_state.specs.declared.field.Unread.{Unread}
-use Rattle.dms_sign_state.specs.declared.field.Unread.TheVariants as unread
+use Rattle.dms_sign_state.specs.declared.field.SignStateField.TheVariants as fields
+use Rattle.dms_sign_state.specs.declared.field.SignFieldLack.{SignFieldLack}
+use Rattle.dms_sign_state.specs.declared.field.UnreadSignField.{UnreadSignField}
+use Rattle.dms_sign_state.specs.declared.field.UnreadSignField.TheVariants as unread
 use Rattle.dms_sign_state.specs.Fields.{UsedRow, IsUsedRow, AreUsedRows}
 use Rattle.dms_sign_state.specs.FieldsText.{row_line, row_lines}
 use Rattle.dms_sign_state.specs.FieldFaults.{stored_name, most_rows}
@@ -20,7 +20,7 @@ use Rattle.dms_sign_state.proofs.LineForms.{row_read}
 use Rattle.dms_sign_state.proofs.FieldForms.{Stops, Reads, Any, field_reads}
 use Rattle.dms_sign_state.proofs.SettingForms.{blank_message}
 
-abbrev failed : {A : Type 0} → Lack → Result A Lack
+abbrev failed : {A : Type 0} → SignFieldLack → Result A SignFieldLack
 failed lack = Err lack
 
 abbrev Rows : Type 0
@@ -44,10 +44,10 @@ module _ (stored : Stored) where
   abbrev one_row : ℕ → Reader UsedRow
   one_row least = row_field stored least
 
-  abbrev others : ℕ → UsedRow × List ℕ → Result Rows Lack
+  abbrev others : ℕ → UsedRow × List ℕ → Result Rows SignFieldLack
   others more row = rows_at stored more (row.0.number + 1) row.1 >>= λ others. Ok (row.0 ∷ others.0, others.1)
 
-  abbrev chosen : Bool → ℕ → ℕ → List ℕ → Result Rows Lack
+  abbrev chosen : Bool → ℕ → ℕ → List ℕ → Result Rows SignFieldLack
   chosen test more least text = cond test (one_row least text >>= λ row. others more row) (Ok ([], text))
 
   chosen_is : (more least : ℕ) (text : List ℕ) → rows_at stored (suc more) least text ≡ chosen (has_row stored least text) more least text
@@ -107,10 +107,10 @@ module _ (stored : Stored) where
       ∙ goes_on (rows_at stored more (row.number + 1) after) (λ others. Ok (row ∷ others.0, others.1)) (rows, rest)
       (rows_only more (row.number + 1) rows rest (omega (arith, bound, good.0.0.0)) good.1 next)
 
-  abbrev Stop : ℕ → List ℕ → Lack → Type 0
+  abbrev Stop : ℕ → List ℕ → SignFieldLack → Type 0
   Stop least text lack = Stops (row_lines name) (AreUsedRows least most) (NoRow stored) text lack
 
-  first_stop : (least : ℕ) (text : List ℕ) (lack : Lack) → Stops (row_line name) (IsUsedRow least most) Any text lack → Stop least text lack
+  first_stop : (least : ℕ) (text : List ℕ) (lack : SignFieldLack) → Stops (row_line name) (IsUsedRow least most) Any text lack → Stop least text lack
   first_stop least text lack stop = record {
     before = stop.before;
     rest = stop.rest;
@@ -122,7 +122,7 @@ module _ (stored : Stored) where
         (on.0 ∷ [], (on.1, tt), on.2, on.3, ap (λ line. line ++ more) (append-nil (row_line name on.0)) ∙ on.4);
   }
 
-  later_stop : (least : ℕ) (text rest : List ℕ) (row : UsedRow) (lack : Lack) → IsUsedRow least most row → text ≡ row_line name row ++ rest → Stop (row.number + 1) rest lack → Stop least text lack
+  later_stop : (least : ℕ) (text rest : List ℕ) (row : UsedRow) (lack : SignFieldLack) → IsUsedRow least most row → text ≡ row_line name row ++ rest → Stop (row.number + 1) rest lack → Stop least text lack
   later_stop least text rest row lack good is stop = record {
     before = row_line name row ++ stop.before;
     rest = stop.rest;
@@ -134,7 +134,7 @@ module _ (stored : Stored) where
         (row ∷ on.0, (good, on.1), on.2, on.3, append_assoc (row_line name row) (row_lines name on.0) more ∙ ap (λ rest. row_line name row ++ rest) on.4 ∙ sym (append_assoc (row_line name row) stop.before on.2));
   }
 
-  rows_stop : (more least : ℕ) (text : List ℕ) (lack : Lack) → rows_at stored more least text ≡ Err lack → Stop least text lack
+  rows_stop : (more least : ℕ) (text : List ℕ) (lack : SignFieldLack) → rows_at stored more least text ≡ Err lack → Stop least text lack
   unfolding rows_at
   rows_stop zero least text lack e = absurd (let never : Ok ([], text) ≡ failed {A = Rows} lack = e in cc)
   rows_stop (suc more) least text lack e =
@@ -165,15 +165,15 @@ module _ (stored : Stored) where
 -- ---- as a loop reads them
 
 -- what was read before, and what is still read
-abbrev pub with_front : List UsedRow → Result Rows Lack → Result Rows Lack
+abbrev pub with_front : List UsedRow → Result Rows SignFieldLack → Result Rows SignFieldLack
 with_front front read = read >>= λ x. Ok (front ++ x.0, x.1)
 
-regroup : (front : List UsedRow) (row : UsedRow) (read : Result Rows Lack) → with_front front (read >>= λ x. Ok (row ∷ x.0, x.1)) ≡ with_front (front ++ row ∷ []) read
+regroup : (front : List UsedRow) (row : UsedRow) (read : Result Rows SignFieldLack) → with_front front (read >>= λ x. Ok (row ∷ x.0, x.1)) ≡ with_front (front ++ row ∷ []) read
 regroup front row (Ok x) = ap (λ (rows : List UsedRow). Ok (rows, x.1)) (sym (append_assoc front (row ∷ []) x.0))
 regroup front row (Err lack) = refl
 
 -- a row more
-pub row_more : (stored : Stored) (front : List UsedRow) (count i least : ℕ) (text : List ℕ) (row : UsedRow) (after : List ℕ) (total : Result Rows Lack) → i < count
+pub row_more : (stored : Stored) (front : List UsedRow) (count i least : ℕ) (text : List ℕ) (row : UsedRow) (after : List ℕ) (total : Result Rows SignFieldLack) → i < count
     → has_row stored least text ≡ true → row_field stored least text ≡ Ok (row, after)
     → with_front front (rows_at stored (count - i) least text) ≡ total → with_front (front ++ row ∷ []) (rows_at stored (count - (i + 1)) (row.number + 1) after) ≡ total
 row_more stored front count i least text row after total less is read so_far =
@@ -185,7 +185,7 @@ row_more stored front count i least text row after total less is read so_far =
     ∙ so_far
 
 -- a row lacks
-pub row_lacks : (stored : Stored) (error : Unread) (front : List UsedRow) (count i least : ℕ) (text : List ℕ) (total : Result Rows Lack) → i < count
+pub row_lacks : (stored : Stored) (error : UnreadSignField) (front : List UsedRow) (count i least : ℕ) (text : List ℕ) (total : Result Rows SignFieldLack) → i < count
     → has_row stored least text ≡ true → Fails error (row_field stored least text)
     → with_front front (rows_at stored (count - i) least text) ≡ total → Fails error total
 row_lacks stored unread.Memory front count i least text total less is fails so_far = tt
@@ -196,7 +196,7 @@ row_lacks stored (unread.Lacks lack) front count i least text total less is fail
     ∙ ap (λ rows. with_front front rows) (chosen_is stored more least text ∙ ap (λ test. chosen stored test more least text) is ∙ ap (λ row. row >>= λ row. others stored more row) fails)
 
 -- no row is next
-pub no_row : (stored : Stored) (front : List UsedRow) (count i least : ℕ) (text : List ℕ) (total : Result Rows Lack) → i < count
+pub no_row : (stored : Stored) (front : List UsedRow) (count i least : ℕ) (text : List ℕ) (total : Result Rows SignFieldLack) → i < count
     → has_row stored least text ≡ false → with_front front (rows_at stored (count - i) least text) ≡ total → total ≡ Ok (front, text)
 no_row stored front count i least text total less not so_far =
     let more = count - (i + 1) in
@@ -206,7 +206,7 @@ no_row stored front count i least text total less not so_far =
     ∙ ap (λ (rows : List UsedRow). Ok (rows, text)) (append-nil front)
 
 -- all of them are read
-pub all_rows : (stored : Stored) (front : List UsedRow) (count i least : ℕ) (text : List ℕ) (total : Result Rows Lack) → count ≤ i
+pub all_rows : (stored : Stored) (front : List UsedRow) (count i least : ℕ) (text : List ℕ) (total : Result Rows SignFieldLack) → count ≤ i
     → with_front front (rows_at stored (count - i) least text) ≡ total → total ≡ Ok (front, text)
 unfolding rows_at
 all_rows stored front count i least text total le so_far =

@@ -7,9 +7,9 @@ use Rattle.dms_sign_access.specs.declared.settings.SignSettings.{SignSettings}
 use Rattle.dms_sign_access.specs.declared.reports.Reports.{Reports}
 use Rattle.dms_sign_state.specs.declared.field.Put.{Put}
 use Rattle.dms_sign_state.specs.declared.field.Put.TheVariants.{Shown, Kept}
-use Rattle.dms_sign_state.specs.declared.field.StateField.{StateField}
-use Rattle.dms_sign_state.specs.declared.field.StateField.TheVariants as fields
-use Rattle.dms_sign_state.specs.declared.field.Lack.{Lack}
+use Rattle.dms_sign_state.specs.declared.field.SignStateField.{SignStateField}
+use Rattle.dms_sign_state.specs.declared.field.SignStateField.TheVariants as fields
+use Rattle.dms_sign_state.specs.declared.field.SignFieldLack.{SignFieldLack}
 use Rattle.dms_sign_state.specs.declared.number_settings.NumberSetting.{NumberSetting}
 use Rattle.dms_sign_state.specs.NumberSettings.{all_numbers, number_word, greatest_number}
 use Rattle.dms_sign_state.specs.Fields.{MessageModel, PutModel, AreDefaults, AreFallbacks, AreSettings, AreReports, IsCode, IsMessage, IsPut}
@@ -27,10 +27,10 @@ use Rattle.dms_sign_state.proofs.LineForms.{respelled, number_line_read, code_li
 use Rattle.dms_sign_state.proofs.FieldForms.{Stops, Reads, Any, field_reads, pair_reads, made_reads}
 use Rattle.dms_sign_state.proofs.NumberForms.{Parts, values_text, values_of, values_reads, settings_of, settings_are, read_alike}
 
-abbrev failed : {A : Type 0} → Lack → Result A Lack
+abbrev failed : {A : Type 0} → SignFieldLack → Result A SignFieldLack
 failed lack = Err lack
 
-abbrev done : {A : Type 0} → A → Result A Lack
+abbrev done : {A : Type 0} → A → Result A SignFieldLack
 done x = Ok x
 
 -- one after the other, whatever follows the first
@@ -59,7 +59,7 @@ blank_message = (
 
 -- ---- fields of one kind
 
-pub number_reads : (wanted : StateField) (name : List ℕ) (high : ℕ) → high < 10 ^ 10 → ((text : List ℕ) → Stands wanted text → NumberStands name high text)
+pub number_reads : (wanted : SignStateField) (name : List ℕ) (high : ℕ) → high < 10 ^ 10 → ((text : List ℕ) → Stands wanted text → NumberStands name high text)
     → ((text : List ℕ) → NumberStands name high text → Stands wanted text) → Reads (number_line name) (λ n. n ≤ high) Any (number_at wanted name high)
 unfolding number_field
 number_reads wanted name high small begins stands =
@@ -68,7 +68,7 @@ number_reads wanted name high small begins stands =
 code_read : (name : List ℕ) (size : ℕ) → 0 < size → IsRead (octets_line name) (IsCode size) (code_line_at name (codes " ") size)
 code_read name size some = respelled (code_line_read name (codes " ") size some) (λ o. of_number name (codes " ") (octets_text o) (codes "\n"))
 
-pub code_reads : (wanted : StateField) (name : List ℕ) (size : ℕ) → 0 < size → ((text : List ℕ) → Stands wanted text → CodeStands name size text)
+pub code_reads : (wanted : SignStateField) (name : List ℕ) (size : ℕ) → 0 < size → ((text : List ℕ) → Stands wanted text → CodeStands name size text)
     → ((text : List ℕ) → CodeStands name size text → Stands wanted text) → Reads (octets_line name) (IsCode size) Any (code_field wanted name (codes " ") size)
 unfolding code_field
 code_reads wanted name size some begins stands = field_reads wanted (code_read name size some) (zeros size) begins stands
@@ -162,7 +162,7 @@ module _ (put : Put) where
   abbrev line : Reader ℕ
   line = number_field (fields.Remaining put) (put_name put) (codes "-remaining ") 4294967295
 
-  abbrev chosen : Bool → List ℕ → Result (Option ℕ × List ℕ) Lack
+  abbrev chosen : Bool → List ℕ → Result (Option ℕ × List ℕ) SignFieldLack
   chosen test text = cond test (made Some line text) (Ok (None, text))
 
   abbrev Found : List ℕ → Option ℕ × List ℕ → Type 0
@@ -174,7 +174,7 @@ module _ (put : Put) where
       subst (λ x. Found text x) (ok_is (Some first.0.0, first.0.1) x first.2) ((seconds_read put).found text first.0 first.1)
   chosen_found false text x e = subst (λ x. Found text x) (ok_is (None, text) x e) (tt, refl)
 
-  chosen_stops : (test : Bool) (text : List ℕ) (lack : Lack) → chosen test text ≡ Err lack → Stops (remaining_text (put_name put)) IsLeft (NoneLeft put) text lack
+  chosen_stops : (test : Bool) (text : List ℕ) (lack : SignFieldLack) → chosen test text ≡ Err lack → Stops (remaining_text (put_name put)) IsLeft (NoneLeft put) text lack
   chosen_stops true text lack e =
       elim (bind_err (line text) (λ x. Ok (Some x.0, x.1)) lack e) [
         | inl first ↦

@@ -7,10 +7,10 @@ use Rattle.dms_sign_access.specs.declared.settings.SignSettings.{SignSettings}
 use Rattle.dms_sign_access.specs.declared.reports.Reports.{Reports}
 use Rattle.dms_sign_state.specs.declared.field.Put.TheVariants.{Shown, Kept}
 use Rattle.dms_sign_state.specs.declared.field.Stored.TheVariants.{Changeable, Volatile}
-use Rattle.dms_sign_state.specs.declared.field.StateField.{StateField}
-use Rattle.dms_sign_state.specs.declared.field.StateField.TheVariants as fields
-use Rattle.dms_sign_state.specs.declared.field.StateFault.{StateFault}
-use Rattle.dms_sign_state.specs.declared.field.Lack.{Lack}
+use Rattle.dms_sign_state.specs.declared.field.SignStateField.{SignStateField}
+use Rattle.dms_sign_state.specs.declared.field.SignStateField.TheVariants as fields
+use Rattle.dms_sign_state.specs.declared.field.SignStateFault.{SignStateFault}
+use Rattle.dms_sign_state.specs.declared.field.SignFieldLack.{SignFieldLack}
 use Rattle.dms_sign_state.specs.Fields.{UsedRow, PutModel, FieldsModel, AreFields, AreUsedRows, AreSettings, AreReports, IsPut}
 use Rattle.dms_sign_state.specs.FieldsText.{number_line, row_lines, settings_text, put_text, reports_text, last_lines, powered_number, text_of_fields}
 use Rattle.dms_sign_state.specs.FieldFaults.{most_rows, Stands, IsFaultOf}
@@ -22,10 +22,10 @@ use Rattle.dms_sign_state.proofs.Groupings.{of_state}
 use Rattle.dms_sign_state.proofs.RowForms.{NoRow, rows_reads}
 use Rattle.dms_sign_state.proofs.SettingForms.{then_reads, number_reads, settings_reads, put_reads, reports_reads, powered_reads}
 
-abbrev failed : {A : Type 0} → Lack → Result A Lack
+abbrev failed : {A : Type 0} → SignFieldLack → Result A SignFieldLack
 failed lack = Err lack
 
-abbrev done : {A : Type 0} → A → Result A Lack
+abbrev done : {A : Type 0} → A → Result A SignFieldLack
 done x = Ok x
 
 -- ---- the first line and the last
@@ -50,37 +50,37 @@ form_reads = field_reads fields.Form (line_read (codes "state 1 sign\n")) (tt, t
 abbrev IsLast : List ℕ → Type 0
 IsLast rest = rest ≡ []
 
-abbrev nothing_left : Lack → List ℕ → Result (Unit {0} × List ℕ) Lack
+abbrev nothing_left : SignFieldLack → List ℕ → Result (Unit {0} × List ℕ) SignFieldLack
 nothing_left lack rest = cond (length rest == 0) (Ok (tt, [])) (Err lack)
 
 is_empty : (xs : List ℕ) → (length xs == 0) ≡ true → xs ≡ []
 is_empty [] e = refl
 is_empty (x ∷ xs) e = absurd (omega (arith, eqb-true (length (x ∷ xs)) 0 e))
 
-more_left : (lack : Lack) (y : ℕ) (rest : List ℕ) → nothing_left lack (y ∷ rest) ≡ failed {A = Unit {0} × List ℕ} lack
+more_left : (lack : SignFieldLack) (y : ℕ) (rest : List ℕ) → nothing_left lack (y ∷ rest) ≡ failed {A = Unit {0} × List ℕ} lack
 more_left lack y rest = ap (λ b. cond b (Ok (tt, [])) (failed {A = Unit {0} × List ℕ} lack)) (ne_eqb (length (y ∷ rest)) 0 (λ z. omega (arith, z)))
 
-ended_ok : (lack : Lack) (rest : List ℕ) (x : Unit {0} × List ℕ) → nothing_left lack rest ≡ Ok x → (rest ≡ []) × (x.1 ≡ [])
+ended_ok : (lack : SignFieldLack) (rest : List ℕ) (x : Unit {0} × List ℕ) → nothing_left lack rest ≡ Ok x → (rest ≡ []) × (x.1 ≡ [])
 ended_ok lack [] x e = (refl, ap (λ (x : Unit {0} × List ℕ). x.1) (sym (ok_is (tt, []) x e)))
 ended_ok lack (y ∷ rest) x e = absurd (let never : failed {A = Unit {0} × List ℕ} lack ≡ Ok x = sym (more_left lack y rest) ∙ e in cc)
 
-ended_err : (lack wrong : Lack) (rest : List ℕ) → nothing_left lack rest ≡ Err wrong → wrong ≡ lack
+ended_err : (lack wrong : SignFieldLack) (rest : List ℕ) → nothing_left lack rest ≡ Err wrong → wrong ≡ lack
 ended_err lack wrong [] e = absurd cc
 ended_err lack wrong (y ∷ rest) e = sym (err_is {A = Unit {0} × List ℕ} lack wrong (sym (more_left lack y rest) ∙ e))
 
-end_again : (lack : Lack) → end_at lack (codes "end\n") ≡ Ok (tt, [])
+end_again : (lack : SignFieldLack) → end_at lack (codes "end\n") ≡ Ok (tt, [])
 unfolding end_at
 end_again lack = goes_on (named_at (codes "end\n") lack (codes "end\n")) (nothing_left lack) [] (named_only (codes "end\n") lack [])
 
 end_found : (text : List ℕ) (x : Unit {0} × List ℕ) → end_field text ≡ Ok x → Unit {0} × (text ≡ codes "end\n" ++ x.1)
 unfolding end_field end_at
 end_found text x e =
-    let lack : Lack = record { wanted = fields.End; left = length text } in
+    let lack : SignFieldLack = record { wanted = fields.End; left = length text } in
     let first = bind_ok (named_at (codes "end\n") lack text) (nothing_left lack) x e in
     let is = ended_ok lack first.0 x first.2 in
     (tt, named_found (codes "end\n") lack text first.0 first.1 ∙ ap (λ rest. codes "end\n" ++ rest) (is.0 ∙ sym is.1))
 
-end_lacks : (lack wrong : Lack) (text : List ℕ) → end_at lack text ≡ Err wrong → wrong ≡ lack
+end_lacks : (lack wrong : SignFieldLack) (text : List ℕ) → end_at lack text ≡ Err wrong → wrong ≡ lack
 unfolding end_at
 end_lacks lack wrong text e =
     elim (bind_err (named_at (codes "end\n") lack text) (nothing_left lack) wrong e) [
@@ -88,20 +88,20 @@ end_lacks lack wrong text e =
       | inr x ↦ ended_err lack wrong x.0 x.2
     ]
 
-abbrev End : List ℕ → Lack → Type 0
+abbrev End : List ℕ → SignFieldLack → Type 0
 End text lack = Stops {A = Unit {0}} (λ u. codes "end\n") (λ u. Unit {0}) IsLast text lack
 
-end_not_there : (lack : Lack) (text : List ℕ) → end_at lack text ≡ Err lack → text ≡ codes "end\n" → ⊥
+end_not_there : (lack : SignFieldLack) (text : List ℕ) → end_at lack text ≡ Err lack → text ≡ codes "end\n" → ⊥
 end_not_there lack text e is =
     let read : done (tt, []) ≡ failed {A = Unit {0} × List ℕ} lack = sym (end_again lack) ∙ ap (end_at lack) (sym is) ∙ e in
     cc
 
-end_stops : (text : List ℕ) (lack : Lack) → end_field text ≡ Err lack → End text lack
+end_stops : (text : List ℕ) (lack : SignFieldLack) → end_field text ≡ Err lack → End text lack
 unfolding end_field
 end_stops text lack e =
-    let here : Lack = record { wanted = fields.End; left = length text } in
+    let here : SignFieldLack = record { wanted = fields.End; left = length text } in
     let is : lack ≡ here = end_lacks here lack text e in
-    subst (λ (l : Lack). End text l) (sym is) (record {
+    subst (λ (l : SignFieldLack). End text l) (sym is) (record {
       before = [];
       rest = text;
       parts = refl;
@@ -209,11 +209,11 @@ fields_reads =
 
 -- ---- what is answered of a text
 
-pub record TheFault (text : List ℕ) (lack : Lack) : Type 0 where
+pub record TheFault (text : List ℕ) (lack : SignFieldLack) : Type 0 where
   pub within : lack.left ≤ length text
-  pub fault : (fault : StateFault) → fault.wanted ≡ lack.wanted → fault.line ≡ count_by (λ octet. octet == byte "\n") (take (length text - lack.left) text) + 1 → IsFaultOf text fault
+  pub fault : (fault : SignStateFault) → fault.wanted ≡ lack.wanted → fault.line ≡ count_by (λ octet. octet == byte "\n") (take (length text - lack.left) text) + 1 → IsFaultOf text fault
 
-pub fault_is : (text : List ℕ) (lack : Lack) → fields_at text ≡ Err lack → TheFault text lack
+pub fault_is : (text : List ℕ) (lack : SignFieldLack) → fields_at text ≡ Err lack → TheFault text lack
 fault_is text lack e =
     let stop = fields_reads.stops text lack e in
     let size : length text ≡ length stop.before + length stop.rest = ap length stop.parts ∙ length-append stop.before stop.rest in
@@ -227,8 +227,8 @@ fault_is text lack e =
         rest = stop.rest;
         parts = stop.parts;
         line = line ∙ ap (λ front. count_by (λ octet. octet == byte "\n") front + 1) front;
-        goes_on = (on.2, subst (λ (w : StateField). Stands w on.2) (sym wanted) on.3, (on.0, on.1, sym (sym (append-nil (text_of_fields on.0)) ∙ on.4)));
-        lacks = λ stands. stop.lacks (subst (λ (w : StateField). Stands w stop.rest) wanted stands);
+        goes_on = (on.2, subst (λ (w : SignStateField). Stands w on.2) (sym wanted) on.3, (on.0, on.1, sym (sym (append-nil (text_of_fields on.0)) ∙ on.4)));
+        lacks = λ stands. stop.lacks (subst (λ (w : SignStateField). Stands w stop.rest) wanted stands);
       };
     }
 
@@ -246,7 +246,7 @@ one_text_each one other first second same =
 pub only_these : (text : List ℕ) (read : FieldsModel) → fields_at text ≡ Ok (read, []) → (fields : FieldsModel) → AreFields fields → text ≡ text_of_fields fields → read ≡ fields
 only_these text read e fields good is = ap (λ (x : FieldsModel × List ℕ). x.0) (ok_is (read, []) (fields, []) (sym e ∙ fields_only text fields good is))
 
-pub none_lacks : (text : List ℕ) (lack : Lack) → fields_at text ≡ Err lack → (fields : FieldsModel) → AreFields fields → text ≡ text_of_fields fields → ⊥
+pub none_lacks : (text : List ℕ) (lack : SignFieldLack) → fields_at text ≡ Err lack → (fields : FieldsModel) → AreFields fields → text ≡ text_of_fields fields → ⊥
 none_lacks text lack e fields good is =
     let never : done (fields, []) ≡ failed {A = FieldsModel × List ℕ} lack = sym (fields_only text fields good is) ∙ e in
     cc

@@ -7,7 +7,7 @@ use Rattle.dms_text_exact.proofs.DigitLaws.{octets_word_found, octets_word_only,
 use Rattle.dms_text_exact.proofs.NumberLaws.{number_word_found, number_word_only, decimal_free}
 use Rattle.dms_text_exact.proofs.AddressLaws.{address_word_found, address_word_only, address_free}
 use Rattle.dms_sign_state.specs.Fields.{AreOctets, IsCode, IsAddress}
-use Rattle.dms_sign_state.specs.declared.field.Lack.{Lack}
+use Rattle.dms_sign_state.specs.declared.field.SignFieldLack.{SignFieldLack}
 use Rattle.dms_sign_state.specs.WordReading.{Reader, number, small, octets, code, address}
 use Rattle.dms_sign_state.proofs.Forms.{IsRead, ended_read}
 
@@ -24,7 +24,7 @@ number_read low high end small low_end =
     (λ n good. decimal_free end n low_end (omega (arith, good.1, small)))
 
 -- the same, with less said
-module _ {A : Type 0} {spelled : A → List ℕ} {Good Other : A → Type 0} {reader : Lack → Reader A} (one : IsRead spelled Good reader) (there : (a : A) → Good a → Other a) (again : (a : A) → Other a → Good a) where
+module _ {A : Type 0} {spelled : A → List ℕ} {Good Other : A → Type 0} {reader : SignFieldLack → Reader A} (one : IsRead spelled Good reader) (there : (a : A) → Good a → Other a) (again : (a : A) → Other a → Good a) where
   pub in_other_words : IsRead spelled Other reader
   in_other_words = record {
     found = λ lack text x e. let is = one.found lack text x e in (there x.0 is.0, is.1);

@@ -6,9 +6,9 @@ use Rattle.dms_sign_state.specs.declared.field.Put.{Put}
 use Rattle.dms_sign_state.specs.declared.field.Put.TheVariants.{Shown, Kept}
 use Rattle.dms_sign_state.specs.declared.field.Stored.{Stored}
 use Rattle.dms_sign_state.specs.declared.field.Stored.TheVariants.{Changeable, Volatile}
-use Rattle.dms_sign_state.specs.declared.field.StateField.{StateField}
-use Rattle.dms_sign_state.specs.declared.field.StateField.TheVariants as fields
-use Rattle.dms_sign_state.specs.declared.field.StateFault.{StateFault}
+use Rattle.dms_sign_state.specs.declared.field.SignStateField.{SignStateField}
+use Rattle.dms_sign_state.specs.declared.field.SignStateField.TheVariants as fields
+use Rattle.dms_sign_state.specs.declared.field.SignStateFault.{SignStateFault}
 use Rattle.dms_sign_state.specs.declared.field.StateError.{StateError}
 use Rattle.dms_sign_state.specs.declared.field.StateError.TheVariants as errors
 use Rattle.dms_sign_state.specs.NumberSettings.{number_word, greatest_number}
@@ -39,7 +39,7 @@ abbrev pub CodeStands : List ℕ → ℕ → List ℕ → Type 0
 CodeStands name size = Begins (octets_line name) (IsCode size)
 
 -- the line of a field stands at the front of a text
-abbrev pub Stands : StateField → List ℕ → Type 0
+abbrev pub Stands : SignStateField → List ℕ → Type 0
 Stands fields.Form text = (rest : List ℕ) × (text ≡ codes "state 1 sign\n" ++ rest)
 Stands (fields.Row stored least) text = Begins (row_line (stored_name stored)) (IsUsedRow least (most_rows stored)) text
 Stands fields.Defaults text = Begins (λ d. codes "defaults" ++ defaults_words d) AreDefaults text
@@ -72,7 +72,7 @@ IsStateText text = (fields : FieldsModel) × AreFields fields × (text ≡ text_
 
 -- a text goes wrong: what stands before is the beginning of a state, which could go on with the wanted field, and that
 -- field does not stand there
-pub record IsFaultOf (text : List ℕ) (fault : StateFault) : Type 0 where
+pub record IsFaultOf (text : List ℕ) (fault : SignStateFault) : Type 0 where
   pub before : List ℕ
   pub rest : List ℕ
   pub parts : text ≡ before ++ rest

@@ -14,9 +14,9 @@ use Rattle.dms_sign_state.specs.declared.field.Put.{Put}
 use Rattle.dms_sign_state.specs.declared.field.Put.TheVariants.{Shown, Kept}
 use Rattle.dms_sign_state.specs.declared.field.Stored.{Stored}
 use Rattle.dms_sign_state.specs.declared.field.Stored.TheVariants.{Changeable, Volatile}
-use Rattle.dms_sign_state.specs.declared.field.StateField.{StateField}
-use Rattle.dms_sign_state.specs.declared.field.StateField.TheVariants as fields
-use Rattle.dms_sign_state.specs.declared.field.Lack.{Lack}
+use Rattle.dms_sign_state.specs.declared.field.SignStateField.{SignStateField}
+use Rattle.dms_sign_state.specs.declared.field.SignStateField.TheVariants as fields
+use Rattle.dms_sign_state.specs.declared.field.SignFieldLack.{SignFieldLack}
 use Rattle.dms_sign_state.specs.declared.number_settings.NumberSetting.{NumberSetting}
 use Rattle.dms_sign_state.specs.NumberSettings.{all_numbers, number_word, with_number, greatest_number}
 use Rattle.dms_sign_state.specs.Fields.{MessageModel, UsedRow, PutModel, FieldsModel}
@@ -26,34 +26,34 @@ use Rattle.dms_sign_state.specs.WordReading.{◌>>=◌, Reader, pair, made, name
 use Rattle.dms_sign_state.specs.WordReading.{address}
 
 -- a field, whose reader says what lacks
-abbrev pub field : {A : Type 0} → StateField → (Lack → Reader A) → Reader A
+abbrev pub field : {A : Type 0} → SignStateField → (SignFieldLack → Reader A) → Reader A
 field wanted reader text = reader (record { wanted = wanted; left = length text }) text
 
 -- ---- lines
 
 -- a number after a name of two parts
-abbrev pub number_line_at : List ℕ → List ℕ → ℕ → Lack → Reader ℕ
+abbrev pub number_line_at : List ℕ → List ℕ → ℕ → SignFieldLack → Reader ℕ
 number_line_at name part high lack = after name lack (after part lack (number 0 high (byte "\n") lack))
 
 -- a code after a name of two parts
-abbrev pub code_line_at : List ℕ → List ℕ → ℕ → Lack → Reader (List ℕ)
+abbrev pub code_line_at : List ℕ → List ℕ → ℕ → SignFieldLack → Reader (List ℕ)
 code_line_at name part size lack = after name lack (after part lack (code size (byte "\n") lack))
 
-unfoldable pub number_field : StateField → List ℕ → List ℕ → ℕ → Reader ℕ
+unfoldable pub number_field : SignStateField → List ℕ → List ℕ → ℕ → Reader ℕ
 number_field wanted name part high = field wanted (number_line_at name part high)
 
-unfoldable pub code_field : StateField → List ℕ → List ℕ → ℕ → Reader (List ℕ)
+unfoldable pub code_field : SignStateField → List ℕ → List ℕ → ℕ → Reader (List ℕ)
 code_field wanted name part size = field wanted (code_line_at name part size)
 
-abbrev pub colours_at : Lack → Reader (ℕ × (ℕ × (ℕ × ℕ)))
+abbrev pub colours_at : SignFieldLack → Reader (ℕ × (ℕ × (ℕ × ℕ)))
 colours_at lack =
     pair (small (byte " ") lack)
     (pair (small (byte " ") lack) (pair (small (byte " ") lack) (small (byte " ") lack)))
 
-abbrev pub layouts_at : Lack → Reader (ℕ × (ℕ × ℕ))
+abbrev pub layouts_at : SignFieldLack → Reader (ℕ × (ℕ × ℕ))
 layouts_at lack = pair (small (byte " ") lack) (pair (small (byte " ") lack) (small (byte " ") lack))
 
-abbrev pub times_at : Lack → Reader (ℕ × ℕ)
+abbrev pub times_at : SignFieldLack → Reader (ℕ × ℕ)
 times_at lack = pair (small (byte " ") lack) (small (byte "\n") lack)
 
 abbrev pub defaults_of : (ℕ × (ℕ × (ℕ × ℕ))) × ((ℕ × (ℕ × ℕ)) × (ℕ × ℕ)) → Defaults
@@ -69,20 +69,20 @@ defaults_of x = record {
   off = x.1.1.1;
 }
 
-unfoldable pub defaults_at : Lack → Reader Defaults
+unfoldable pub defaults_at : SignFieldLack → Reader Defaults
 defaults_at lack = made defaults_of (pair (colours_at lack) (pair (layouts_at lack) (times_at lack)))
 
-abbrev pub defaults_line_at : List ℕ → List ℕ → Lack → Reader Defaults
+abbrev pub defaults_line_at : List ℕ → List ℕ → SignFieldLack → Reader Defaults
 defaults_line_at name part lack = after name lack (after part lack (defaults_at lack))
 
-unfoldable pub defaults_field : StateField → List ℕ → List ℕ → Reader Defaults
+unfoldable pub defaults_field : SignStateField → List ℕ → List ℕ → Reader Defaults
 defaults_field wanted name part = field wanted (defaults_line_at name part)
 
 abbrev pub message_of : List ℕ × (List ℕ × (ℕ × (ℕ × ℕ))) → MessageModel
 message_of x =
     record { text = x.0; owner = x.1.0; beacon = x.1.1.0; pixel = x.1.1.1.0; priority = x.1.1.1.1 }
 
-unfoldable pub message_at : Lack → Reader MessageModel
+unfoldable pub message_at : SignFieldLack → Reader MessageModel
 message_at lack =
     made message_of (pair (octets longest_text (byte " ") lack) (pair (octets longest_owner (byte " ") lack)
     (pair (small (byte " ") lack) (pair (small (byte " ") lack) (small (byte "\n") lack)))))
@@ -97,14 +97,14 @@ used_status number =
     else if number == 4 then statuses.Valid
     else statuses.Error
 
-abbrev pub status_at : Lack → Reader Status
+abbrev pub status_at : SignFieldLack → Reader Status
 status_at lack = made used_status (number 2 5 (byte " ") lack)
 
 abbrev pub row_of : ℕ × (Status × MessageModel) → UsedRow
 row_of x = record { number = x.0; status = x.1.0; message = x.1.1 }
 
 -- a row of this number or a greater one
-unfoldable pub row_at : Stored → ℕ → Lack → Reader UsedRow
+unfoldable pub row_at : Stored → ℕ → SignFieldLack → Reader UsedRow
 row_at stored least lack =
     after (stored_name stored) lack (after (codes " ") lack (made row_of
     (pair (number least (most_rows stored) (byte " ") lack) (pair (status_at lack) (message_at lack)))))
@@ -136,7 +136,7 @@ fallbacks_of x = record {
   communications_loss = x.1.1.1.1;
 }
 
-abbrev pub fallback_at : StateField → List ℕ → Reader (List ℕ)
+abbrev pub fallback_at : SignStateField → List ℕ → Reader (List ℕ)
 fallback_at wanted name = code_field wanted name (codes " ") 5
 
 unfoldable pub fallbacks_at : Reader Fallbacks
@@ -147,7 +147,7 @@ fallbacks_at =
     (pair (fallback_at fields.EndDuration (codes "end-duration"))
     (fallback_at fields.CommunicationsLoss (codes "communications-loss"))))))
 
-abbrev pub number_at : StateField → List ℕ → ℕ → Reader ℕ
+abbrev pub number_at : SignStateField → List ℕ → ℕ → Reader ℕ
 number_at wanted name high = number_field wanted name (codes " ") high
 
 -- a setting that is a number
@@ -172,7 +172,7 @@ settings_at text =
 
 -- ---- what is shown
 
-unfoldable pub address_at : List ℕ → Lack → Reader (List ℕ)
+unfoldable pub address_at : List ℕ → SignFieldLack → Reader (List ℕ)
 address_at name lack =
     after name lack (after (codes "-address ") lack (address (byte "\n") lack))
 
@@ -193,7 +193,7 @@ put_of x = record {
   defaults = x.1.1.1.1.1;
 }
 
-abbrev pub message_line_at : Put → Lack → Reader MessageModel
+abbrev pub message_line_at : Put → SignFieldLack → Reader MessageModel
 message_line_at put lack = after (put_name put) lack (after (codes " ") lack (message_at lack))
 
 unfoldable pub message_field : Put → Reader MessageModel
@@ -235,14 +235,14 @@ reports_at =
 -- ---- the whole
 
 -- a line that has no value
-abbrev pub line_at : List ℕ → Lack → Reader (Unit {0})
+abbrev pub line_at : List ℕ → SignFieldLack → Reader (Unit {0})
 line_at line lack text = named_at line lack text >>= λ rest. Ok (tt, rest)
 
 unfoldable pub form_at : Reader (Unit {0})
 form_at = field fields.Form (line_at (codes "state 1 sign\n"))
 
 -- the last line, and nothing after it
-unfoldable pub end_at : Lack → Reader (Unit {0})
+unfoldable pub end_at : SignFieldLack → Reader (Unit {0})
 end_at lack text = named_at (codes "end\n") lack text >>= λ rest. if length rest == 0 then Ok (tt, []) else Err lack
 
 unfoldable pub end_field : Reader (Unit {0})

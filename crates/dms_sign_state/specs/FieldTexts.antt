@@ -1,14 +1,14 @@
 -- How it is said what is wrong with a state's text (this profile).
 use Rattle.std.specs.Prelude.{ℕ, List, ◌++◌, codes, decimal}
-use Rattle.dms_sign_state.specs.declared.field.StateField.{StateField}
-use Rattle.dms_sign_state.specs.declared.field.StateField.TheVariants as fields
-use Rattle.dms_sign_state.specs.declared.field.StateFault.{StateFault}
+use Rattle.dms_sign_state.specs.declared.field.SignStateField.{SignStateField}
+use Rattle.dms_sign_state.specs.declared.field.SignStateField.TheVariants as fields
+use Rattle.dms_sign_state.specs.declared.field.SignStateFault.{SignStateFault}
 use Rattle.dms_sign_state.specs.declared.field.StateError.{StateError}
 use Rattle.dms_sign_state.specs.declared.field.StateError.TheVariants as errors
 use Rattle.dms_sign_state.specs.NumberSettings.{number_word}
 use Rattle.dms_sign_state.specs.FieldFaults.{put_name, stored_name, most_rows}
 
-abbrev pub field_text : StateField → List ℕ
+abbrev pub field_text : SignStateField → List ℕ
 field_text fields.Form = codes "state 1 sign"
 field_text (fields.Row stored least) =
     stored_name stored ++ codes " and a row of a number from " ++ decimal least ++ codes " to "
@@ -36,7 +36,7 @@ field_text fields.FailedCode = codes "failed-code and twelve octets"
 field_text fields.Powered = codes "powered and 0 or 1"
 field_text fields.End = codes "end and nothing after it"
 
-abbrev pub fault_text : StateFault → List ℕ
+abbrev pub fault_text : SignStateFault → List ℕ
 fault_text fault = codes "line " ++ decimal fault.line ++ codes ": " ++ field_text fault.wanted ++ codes " wanted"
 
 abbrev pub error_text : StateError → List ℕ

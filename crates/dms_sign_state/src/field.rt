@@ -26,7 +26,7 @@ pub enum Stored {
 
 /// A field of a state's text: what a line is to be.
 #[derive(Clone, Copy, Debug, PartialEq, Eq)]
-pub enum StateField {
+pub enum SignStateField {
     /// The first line.
     Form,
     /// A row of a type of memory, of this number or a greater one.
@@ -67,11 +67,11 @@ pub enum StateField {
 
 /// The first field of a text that is not as it must be.
 #[derive(Clone, Copy, Debug, PartialEq, Eq)]
-pub struct StateFault {
+pub struct SignStateFault {
     /// Its line, from 1.
     pub line: usize,
     /// What is wanted there.
-    pub wanted: StateField,
+    pub wanted: SignStateField,
 }
 
 /// Why no fields are read of a text.
@@ -80,46 +80,46 @@ pub enum StateError {
     /// No memory.
     Memory,
     /// The text is no state's.
-    Fault(StateFault),
+    Fault(SignStateFault),
 }
 
 /// A field that does not stand where it is wanted, and how many octets are left there.
 #[derive(Clone, Copy, Debug, PartialEq, Eq)]
-pub(crate) struct Lack {
-    pub wanted: StateField,
+pub(crate) struct SignFieldLack {
+    pub wanted: SignStateField,
     pub left: usize,
 }
 
 /// Why no field was read.
 #[derive(Clone, Copy, Debug, PartialEq, Eq)]
-pub(crate) enum Unread {
+pub(crate) enum UnreadSignField {
     Memory,
-    Lacks(Lack),
+    Lacks(SignFieldLack),
 }
 
-impl From<AllocError> for Unread {
+impl From<AllocError> for UnreadSignField {
     ghost use Rattle.std.specs.Prelude.{◌≡◌};
-    ghost use Rattle.dms_sign_state.specs.declared.field.Unread.TheVariants.{Memory};
+    ghost use Rattle.dms_sign_state.specs.declared.field.UnreadSignField.TheVariants.{Memory};
 
     ghost from_gives = { λ _ e. e ≡ Memory };
 
-    fn from(_e: AllocError) -> Unread {
-        Unread::Memory
+    fn from(_e: AllocError) -> UnreadSignField {
+        UnreadSignField::Memory
     }
 }
 
-impl<T: Drop> From<AllocFailed<T>> for Unread {
+impl<T: Drop> From<AllocFailed<T>> for UnreadSignField {
     ghost use Rattle.std.specs.Prelude.{◌≡◌};
-    ghost use Rattle.dms_sign_state.specs.declared.field.Unread.TheVariants.{Memory};
+    ghost use Rattle.dms_sign_state.specs.declared.field.UnreadSignField.TheVariants.{Memory};
 
     ghost from_gives = { λ _ e. e ≡ Memory };
 
-    fn from(_e: AllocFailed<T>) -> Unread {
-        Unread::Memory
+    fn from(_e: AllocFailed<T>) -> UnreadSignField {
+        UnreadSignField::Memory
     }
 }
 
-impl fmt::Display for StateField {
+impl fmt::Display for SignStateField {
     ghost use Rattle.std.specs.Prelude.{Some};
     ghost use Rattle.dms_sign_state.specs.FieldTexts.{field_text};
 
@@ -127,45 +127,53 @@ impl fmt::Display for StateField {
 
     fn fmt<W: fmt::Write>(&self, f: &mut fmt::Formatter<W>) -> fmt::Result {
         match self {
-            StateField::Form => f.write_str("state 1 sign"),
-            StateField::Row(stored, least) => write!(
+            SignStateField::Form => f.write_str("state 1 sign"),
+            SignStateField::Row(stored, least) => write!(
                 f,
                 "{} and a row of a number from {} to {}",
                 stored_name(*stored),
                 least,
                 most_rows(*stored)
             ),
-            StateField::Defaults => f.write_str("defaults and nine numbers"),
-            StateField::ShortPowerRecovery => f.write_str("short-power-recovery and five octets"),
-            StateField::LongPowerRecovery => f.write_str("long-power-recovery and five octets"),
-            StateField::PowerLoss => f.write_str("power-loss and five octets"),
-            StateField::EndDuration => f.write_str("end-duration and five octets"),
-            StateField::CommunicationsLoss => f.write_str("communications-loss and five octets"),
-            StateField::Number(number) => write!(f, "{} and a number to 65535", number.word()),
-            StateField::Silent => f.write_str("silent and a number to 4294967295"),
-            StateField::Message(put) => write!(f, "{} and a message", put_name(*put)),
-            StateField::Source(put) => write!(f, "{}-source and five octets", put_name(*put)),
-            StateField::Mode(put) => write!(f, "{}-mode and a number to 255", put_name(*put)),
-            StateField::Address(put) => write!(f, "{}-address and an address", put_name(*put)),
-            StateField::Remaining(put) => {
+            SignStateField::Defaults => f.write_str("defaults and nine numbers"),
+            SignStateField::ShortPowerRecovery => f.write_str(
+                "short-power-recovery and five octets",
+            ),
+            SignStateField::LongPowerRecovery => f.write_str("long-power-recovery and five octets"),
+            SignStateField::PowerLoss => f.write_str("power-loss and five octets"),
+            SignStateField::EndDuration => f.write_str("end-duration and five octets"),
+            SignStateField::CommunicationsLoss => f.write_str(
+                "communications-loss and five octets",
+            ),
+            SignStateField::Number(number) => write!(f, "{} and a number to 65535", number.word()),
+            SignStateField::Silent => f.write_str("silent and a number to 4294967295"),
+            SignStateField::Message(put) => write!(f, "{} and a message", put_name(*put)),
+            SignStateField::Source(put) => write!(f, "{}-source and five octets", put_name(*put)),
+            SignStateField::Mode(put) => write!(f, "{}-mode and a number to 255", put_name(*put)),
+            SignStateField::Address(put) => write!(f, "{}-address and an address", put_name(*put)),
+            SignStateField::Remaining(put) => {
                 write!(f, "{}-remaining and a number to 4294967295", put_name(*put))
             }
-            StateField::Copied(put) => write!(f, "{}-defaults and nine numbers", put_name(*put)),
-            StateField::ValidateError => f.write_str("validate-error and a number to 255"),
-            StateField::ActivateError => f.write_str("activate-error and a number to 255"),
-            StateField::SyntaxError => f.write_str("syntax-error and a number to 255"),
-            StateField::SyntaxErrorPosition => {
+            SignStateField::Copied(put) => write!(
+                f,
+                "{}-defaults and nine numbers",
+                put_name(*put)
+            ),
+            SignStateField::ValidateError => f.write_str("validate-error and a number to 255"),
+            SignStateField::ActivateError => f.write_str("activate-error and a number to 255"),
+            SignStateField::SyntaxError => f.write_str("syntax-error and a number to 255"),
+            SignStateField::SyntaxErrorPosition => {
                 f.write_str("syntax-error-position and a number to 65535")
             }
-            StateField::AcceptedCode => f.write_str("accepted-code and twelve octets"),
-            StateField::FailedCode => f.write_str("failed-code and twelve octets"),
-            StateField::Powered => f.write_str("powered and 0 or 1"),
-            StateField::End => f.write_str("end and nothing after it"),
+            SignStateField::AcceptedCode => f.write_str("accepted-code and twelve octets"),
+            SignStateField::FailedCode => f.write_str("failed-code and twelve octets"),
+            SignStateField::Powered => f.write_str("powered and 0 or 1"),
+            SignStateField::End => f.write_str("end and nothing after it"),
         }
     }
 }
 
-impl fmt::Display for StateFault {
+impl fmt::Display for SignStateFault {
     ghost use Rattle.std.specs.Prelude.{Some};
     ghost use Rattle.dms_sign_state.specs.FieldTexts.{fault_text};
 
@@ -190,6 +198,6 @@ impl fmt::Display for StateError {
     }
 }
 
-impl Error for StateFault {}
+impl Error for SignStateFault {}
 
 impl Error for StateError {}

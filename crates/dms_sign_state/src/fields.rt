@@ -33,14 +33,14 @@ impl Model for MessageFields {
 
 /// A row that is used.
 #[derive(Debug, Drop)]
-pub struct RowFields {
+pub struct UsedRowFields {
     /// Its number in its type of memory.
     pub number: u16,
     pub status: Status,
     pub message: MessageFields,
 }
 
-impl Model for RowFields {
+impl Model for UsedRowFields {
     ghost use Rattle.dms_sign_state.specs.Fields.{UsedRow};
 
     ghost Value = { UsedRow };
@@ -83,9 +83,9 @@ impl Model for PutFields {
 #[derive(Debug, Drop)]
 pub struct StateFields {
     /// The changeable rows that are used, by their numbers.
-    pub changeable: Vec<RowFields>,
+    pub changeable: Vec<UsedRowFields>,
     /// The volatile rows that are used, by their numbers.
-    pub volatile: Vec<RowFields>,
+    pub volatile: Vec<UsedRowFields>,
     pub settings: SignSettings,
     /// The seconds since a datagram was answered.
     pub silent_seconds: u32,

@@ -54,8 +54,8 @@ mod reading;
 mod saving;
 mod words;
 
-pub use field::{Put, StateError, StateFault, StateField, Stored};
-pub use fields::{MessageFields, PutFields, RowFields, StateFields};
+pub use field::{Put, SignStateFault, SignStateField, StateError, Stored};
+pub use fields::{MessageFields, PutFields, StateFields, UsedRowFields};
 pub use number_settings::{NumberSetting, settings_lines};
 pub use reading::state_fields;
 pub use saving::{most_saved, put_saved, saved};

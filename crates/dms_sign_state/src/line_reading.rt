@@ -9,8 +9,8 @@ ghost use Rattle.dms_sign_state.specs.FieldReading.{number_line_at, colours_at, 
 ghost use Rattle.dms_sign_state.specs.FieldReading.{times_at, defaults_at, message_at, used_status};
 ghost use Rattle.dms_sign_state.specs.FieldReading.{status_at, row_at, has_row};
 
-use crate::field::{Lack, Put, StateField, Stored, Unread};
-use crate::fields::{MessageFields, RowFields};
+use crate::field::{Put, SignFieldLack, SignStateField, Stored, UnreadSignField};
+use crate::fields::{MessageFields, UsedRowFields};
 use crate::words::{address, code, named, number, octets, small};
 use dms_codes::{MAX_CHANGEABLE, MAX_OWNER, MAX_TEXT, MAX_VOLATILE, Status};
 use dms_face::Defaults;
@@ -52,9 +52,9 @@ fn number_after<'a>(
     name: &str,
     part: &str,
     high: u32,
-    lack: Lack,
+    lack: SignFieldLack,
     text: &'a [u8],
-) -> Result<(u32, &'a [u8]), Unread>
+) -> Result<(u32, &'a [u8]), UnreadSignField>
     ensures value { Gives (λ x. (x.0, x.1.now)) result (number_line_at name.now part.now high lack text.now) }
     ensures most { IfOk result (λ x. x.0 ≤ high) }
 {
@@ -65,17 +65,17 @@ fn number_after<'a>(
 
 #[tactic(auto, unfolding(crate::specs::FieldReading::number_field))]
 pub(crate) fn number_line<'a>(
-    wanted: StateField,
+    wanted: SignStateField,
     name: &str,
     part: &str,
     high: u32,
     text: &'a [u8],
-) -> Result<(u32, &'a [u8]), Unread>
+) -> Result<(u32, &'a [u8]), UnreadSignField>
     ensures value { Gives (λ x. (x.0, x.1.now)) result
         (number_field wanted name.now part.now high text.now) }
     ensures most { IfOk result (λ x. x.0 ≤ high) }
 {
-    let lack = Lack {
+    let lack = SignFieldLack {
         wanted,
         left: text.len(),
     };
@@ -84,11 +84,11 @@ pub(crate) fn number_line<'a>(
 
 /// A number of one octet.
 pub(crate) fn octet_line<'a>(
-    wanted: StateField,
+    wanted: SignStateField,
     name: &str,
     part: &str,
     text: &'a [u8],
-) -> Result<(u8, &'a [u8]), Unread>
+) -> Result<(u8, &'a [u8]), UnreadSignField>
     ensures { Gives (λ x. (x.0, x.1.now)) result
         (number_field wanted name.now part.now 255 text.now) }
 {
@@ -98,11 +98,11 @@ pub(crate) fn octet_line<'a>(
 
 /// A number of two octets.
 pub(crate) fn two_octets_line<'a>(
-    wanted: StateField,
+    wanted: SignStateField,
     name: &str,
     part: &str,
     text: &'a [u8],
-) -> Result<(u16, &'a [u8]), Unread>
+) -> Result<(u16, &'a [u8]), UnreadSignField>
     ensures { Gives (λ x. (x.0, x.1.now)) result
         (number_field wanted name.now part.now 65535 text.now) }
 {
@@ -113,15 +113,15 @@ pub(crate) fn two_octets_line<'a>(
 /// A code after a name of two parts.
 #[tactic(auto, unfolding(crate::specs::FieldReading::code_field))]
 pub(crate) fn code_line<'a, const N: usize>(
-    wanted: StateField,
+    wanted: SignStateField,
     name: &str,
     part: &str,
     text: &'a [u8],
-) -> Result<([u8; N], &'a [u8]), Unread>
+) -> Result<([u8; N], &'a [u8]), UnreadSignField>
     ensures { Gives (λ x. (x.0, x.1.now)) result
         (code_field wanted name.now part.now N text.now) }
 {
-    let lack = Lack {
+    let lack = SignFieldLack {
         wanted,
         left: text.len(),
     };
@@ -154,7 +154,7 @@ struct TimeParts {
     off: u8,
 }
 
-fn colours(lack: Lack, text: &[u8]) -> Result<(ColourParts, &[u8]), Unread>
+fn colours(lack: SignFieldLack, text: &[u8]) -> Result<(ColourParts, &[u8]), UnreadSignField>
     ensures { Gives (λ x. ((x.0.background, (x.0.foreground, (x.0.on, x.0.off))), x.1.now)) result
         (colours_at lack text.now) }
 {
@@ -171,7 +171,7 @@ fn colours(lack: Lack, text: &[u8]) -> Result<(ColourParts, &[u8]), Unread>
     Ok((colours, rest))
 }
 
-fn layout(lack: Lack, text: &[u8]) -> Result<(LayoutParts, &[u8]), Unread>
+fn layout(lack: SignFieldLack, text: &[u8]) -> Result<(LayoutParts, &[u8]), UnreadSignField>
     ensures { Gives (λ x. ((x.0.font, (x.0.line, x.0.page)), x.1.now)) result (layouts_at lack text.now) }
 {
     let (font, rest) = small(b' ', lack, text)?;
@@ -180,7 +180,7 @@ fn layout(lack: Lack, text: &[u8]) -> Result<(LayoutParts, &[u8]), Unread>
     Ok((LayoutParts { font, line, page }, rest))
 }
 
-fn times(lack: Lack, text: &[u8]) -> Result<(TimeParts, &[u8]), Unread>
+fn times(lack: SignFieldLack, text: &[u8]) -> Result<(TimeParts, &[u8]), UnreadSignField>
     ensures { Gives (λ x. ((x.0.on, x.0.off), x.1.now)) result (times_at lack text.now) }
 {
     let (on, rest) = small(b' ', lack, text)?;
@@ -189,7 +189,7 @@ fn times(lack: Lack, text: &[u8]) -> Result<(TimeParts, &[u8]), Unread>
 }
 
 #[tactic(auto, unfolding(crate::specs::FieldReading::defaults_at))]
-fn defaults(lack: Lack, text: &[u8]) -> Result<(Defaults, &[u8]), Unread>
+fn defaults(lack: SignFieldLack, text: &[u8]) -> Result<(Defaults, &[u8]), UnreadSignField>
     ensures { Gives (λ x. (x.0, x.1.now)) result (defaults_at lack text.now) }
 {
     let (colours, rest) = colours(lack, text)?;
@@ -212,15 +212,15 @@ fn defaults(lack: Lack, text: &[u8]) -> Result<(Defaults, &[u8]), Unread>
 /// The nine defaults after a name of two parts.
 #[tactic(auto, unfolding(crate::specs::FieldReading::defaults_field))]
 pub(crate) fn defaults_line<'a>(
-    wanted: StateField,
+    wanted: SignStateField,
     name: &str,
     part: &str,
     text: &'a [u8],
-) -> Result<(Defaults, &'a [u8]), Unread>
+) -> Result<(Defaults, &'a [u8]), UnreadSignField>
     ensures { Gives (λ x. (x.0, x.1.now)) result
         (defaults_field wanted name.now part.now text.now) }
 {
-    let lack = Lack {
+    let lack = SignFieldLack {
         wanted,
         left: text.len(),
     };
@@ -230,7 +230,11 @@ pub(crate) fn defaults_line<'a>(
 }
 
 #[tactic(auto, unfolding(crate::specs::FieldReading::message_at))]
-fn message(alloc: Global, lack: Lack, text: &[u8]) -> Result<(MessageFields, &[u8]), Unread>
+fn message(
+    alloc: Global,
+    lack: SignFieldLack,
+    text: &[u8],
+) -> Result<(MessageFields, &[u8]), UnreadSignField>
     ensures { Gives (λ x. (x.0, x.1.now)) result (message_at lack text.now) }
 {
     let (message, rest) = octets(alloc, MAX_TEXT, b' ', lack, text)?;
@@ -253,11 +257,11 @@ pub(crate) fn message_line(
     alloc: Global,
     put: Put,
     text: &[u8],
-) -> Result<(MessageFields, &[u8]), Unread>
+) -> Result<(MessageFields, &[u8]), UnreadSignField>
     ensures { Gives (λ x. (x.0, x.1.now)) result (message_field put text.now) }
 {
-    let lack = Lack {
-        wanted: StateField::Message(put),
+    let lack = SignFieldLack {
+        wanted: SignStateField::Message(put),
         left: text.len(),
     };
     let rest = named(put_name(put).as_bytes(), lack, text)?;
@@ -276,7 +280,7 @@ fn used_status(number: u32) -> Status
     }
 }
 
-fn status(lack: Lack, text: &[u8]) -> Result<(Status, &[u8]), Unread>
+fn status(lack: SignFieldLack, text: &[u8]) -> Result<(Status, &[u8]), UnreadSignField>
     ensures { Gives (λ x. (x.0, x.1.now)) result (status_at lack text.now) }
 {
     let (number, rest) = number(2, 5, b' ', lack, text)?;
@@ -289,9 +293,9 @@ pub(crate) fn row(
     alloc: Global,
     stored: Stored,
     least: u16,
-    lack: Lack,
+    lack: SignFieldLack,
     text: &[u8],
-) -> Result<(RowFields, &[u8]), Unread>
+) -> Result<(UsedRowFields, &[u8]), UnreadSignField>
     ensures value { Gives (λ x. (x.0, x.1.now)) result (row_at stored least lack text.now) }
     ensures few { IfOk result (λ x. x.0.number ≤ 64) }
 {
@@ -306,7 +310,7 @@ pub(crate) fn row(
     )?;
     let (status, rest) = status(lack, rest)?;
     let (message, rest) = message(alloc, lack, rest)?;
-    let row = RowFields {
+    let row = UsedRowFields {
         number: number as u16,
         status,
         message,
@@ -332,11 +336,11 @@ fn row_name(stored: Stored) -> &'static str
 
 /// Who put up what is shown or was kept.
 #[tactic(auto, unfolding(crate::specs::FieldReading::address_field, crate::specs::FieldReading::address_at))]
-pub(crate) fn address_line(put: Put, text: &[u8]) -> Result<([u8; 4], &[u8]), Unread>
+pub(crate) fn address_line(put: Put, text: &[u8]) -> Result<([u8; 4], &[u8]), UnreadSignField>
     ensures { Gives (λ x. (x.0, x.1.now)) result (address_field put text.now) }
 {
-    let lack = Lack {
-        wanted: StateField::Address(put),
+    let lack = SignFieldLack {
+        wanted: SignStateField::Address(put),
         left: text.len(),
     };
     let rest = named(put_name(put).as_bytes(), lack, text)?;

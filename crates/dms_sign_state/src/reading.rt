@@ -12,8 +12,10 @@ ghost use Rattle.dms_sign_state.specs.FieldReading.{settings_at, remaining_at};
 ghost use Rattle.dms_sign_state.specs.FieldReading.{put_at, verdicts_at, reports_at, form_at, end_field, powered_at};
 ghost use Rattle.dms_sign_state.specs.FieldReading.{set_at, seen_at, rows_of, fields_at};
 
-use crate::field::{Lack, Put, StateError, StateFault, StateField, Stored, Unread};
-use crate::fields::{PutFields, RowFields, StateFields};
+use crate::field::{
+    Put, SignFieldLack, SignStateFault, SignStateField, StateError, Stored, UnreadSignField,
+};
+use crate::fields::{PutFields, StateFields, UsedRowFields};
 use crate::line_reading::{
     address_line, code_line, defaults_line, has_row, message_line, most_rows, number_line,
     octet_line, put_name, row, two_octets_line,
@@ -30,19 +32,23 @@ fn row_field(
     stored: Stored,
     least: u16,
     text: &[u8],
-) -> Result<(RowFields, &[u8]), Unread>
+) -> Result<(UsedRowFields, &[u8]), UnreadSignField>
     ensures value { Gives (λ x. (x.0, x.1.now)) result (row_field stored least text.now) }
     ensures few { IfOk result (λ x. x.0.number ≤ 64) }
 {
-    let lack = Lack {
-        wanted: StateField::Row(stored, least),
+    let lack = SignFieldLack {
+        wanted: SignStateField::Row(stored, least),
         left: text.len(),
     };
     row(alloc, stored, least, lack, text)
 }
 
 /// The rows of a type of memory that are used.
-fn rows(alloc: Global, stored: Stored, text: &[u8]) -> Result<(Vec<RowFields>, &[u8]), Unread>
+fn rows(
+    alloc: Global,
+    stored: Stored,
+    text: &[u8],
+) -> Result<(Vec<UsedRowFields>, &[u8]), UnreadSignField>
     ensures { Gives (λ x. (x.0.items, x.1.now)) result (rows_at stored (most_rows stored) 1 text.now) }
 {
     let mut rows = Vec::new(alloc);
@@ -62,16 +68,16 @@ fn rows(alloc: Global, stored: Stored, text: &[u8]) -> Result<(Vec<RowFields>, &
 }
 
 #[tactic(auto, unfolding(crate::specs::FieldReading::fallbacks_at))]
-fn fallbacks(text: &[u8]) -> Result<(Fallbacks, &[u8]), Unread>
+fn fallbacks(text: &[u8]) -> Result<(Fallbacks, &[u8]), UnreadSignField>
     ensures { Gives (λ x. (x.0, x.1.now)) result (fallbacks_at text.now) }
 {
-    let wanted = StateField::ShortPowerRecovery;
+    let wanted = SignStateField::ShortPowerRecovery;
     let (short_power_recovery, rest) = code_line(wanted, "short-power-recovery", " ", text)?;
-    let wanted = StateField::LongPowerRecovery;
+    let wanted = SignStateField::LongPowerRecovery;
     let (long_power_recovery, rest) = code_line(wanted, "long-power-recovery", " ", rest)?;
-    let (power_loss, rest) = code_line(StateField::PowerLoss, "power-loss", " ", rest)?;
-    let (end_duration, rest) = code_line(StateField::EndDuration, "end-duration", " ", rest)?;
-    let wanted = StateField::CommunicationsLoss;
+    let (power_loss, rest) = code_line(SignStateField::PowerLoss, "power-loss", " ", rest)?;
+    let (end_duration, rest) = code_line(SignStateField::EndDuration, "end-duration", " ", rest)?;
+    let wanted = SignStateField::CommunicationsLoss;
     let (communications_loss, rest) = code_line(wanted, "communications-loss", " ", rest)?;
     let fallbacks = Fallbacks {
         short_power_recovery,
@@ -83,14 +89,14 @@ fn fallbacks(text: &[u8]) -> Result<(Fallbacks, &[u8]), Unread>
     Ok((fallbacks, rest))
 }
 
-fn setting(number: NumberSetting, text: &[u8]) -> Result<(u16, &[u8]), Unread>
+fn setting(number: NumberSetting, text: &[u8]) -> Result<(u16, &[u8]), UnreadSignField>
     ensures { Gives (λ x. (x.0, x.1.now)) result (setting_at number text.now) }
 {
-    two_octets_line(StateField::Number(number), number.word(), " ", text)
+    two_octets_line(SignStateField::Number(number), number.word(), " ", text)
 }
 
 /// The settings that are numbers, put among those that are known.
-fn numbers(known: SignSettings, text: &[u8]) -> Result<(SignSettings, &[u8]), Unread>
+fn numbers(known: SignSettings, text: &[u8]) -> Result<(SignSettings, &[u8]), UnreadSignField>
     ensures { Gives (λ x. (x.0, x.1.now)) result (numbers_at all_numbers known text.now) }
 {
     let mut settings = known;
@@ -104,10 +110,10 @@ fn numbers(known: SignSettings, text: &[u8]) -> Result<(SignSettings, &[u8]), Un
 }
 
 #[tactic(auto, unfolding(crate::specs::FieldReading::settings_at))]
-fn settings(text: &[u8]) -> Result<(SignSettings, &[u8]), Unread>
+fn settings(text: &[u8]) -> Result<(SignSettings, &[u8]), UnreadSignField>
     ensures { Gives (λ x. (x.0, x.1.now)) result (settings_at text.now) }
 {
-    let (defaults, rest) = defaults_line(StateField::Defaults, "defaults", " ", text)?;
+    let (defaults, rest) = defaults_line(SignStateField::Defaults, "defaults", " ", text)?;
     let (fallbacks, rest) = fallbacks(rest)?;
     let mut settings = SignSettings::new(defaults);
     settings.fallbacks = fallbacks;
@@ -124,11 +130,11 @@ fn remaining_name(put: Put) -> &'static str
 }
 
 #[tactic(auto, unfolding(crate::specs::FieldReading::remaining_at))]
-fn remaining(put: Put, text: &[u8]) -> Result<(Option<u32>, &[u8]), Unread>
+fn remaining(put: Put, text: &[u8]) -> Result<(Option<u32>, &[u8]), UnreadSignField>
     ensures { Gives (λ x. (x.0, x.1.now)) result (remaining_at put text.now) }
 {
     if starts_with(remaining_name(put).as_bytes(), text) {
-        let wanted = StateField::Remaining(put);
+        let wanted = SignStateField::Remaining(put);
         let (seconds, rest) = number_line(
             wanted,
             put_name(put),
@@ -143,16 +149,16 @@ fn remaining(put: Put, text: &[u8]) -> Result<(Option<u32>, &[u8]), Unread>
 }
 
 #[tactic(auto, unfolding(crate::specs::FieldReading::put_at))]
-fn put(alloc: Global, put: Put, text: &[u8]) -> Result<(PutFields, &[u8]), Unread>
+fn put(alloc: Global, put: Put, text: &[u8]) -> Result<(PutFields, &[u8]), UnreadSignField>
     ensures { Gives (λ x. (x.0, x.1.now)) result (put_at put text.now) }
 {
     let name = put_name(put);
     let (message, rest) = message_line(alloc, put, text)?;
-    let (source, rest) = code_line(StateField::Source(put), name, "-source ", rest)?;
-    let (mode, rest) = octet_line(StateField::Mode(put), name, "-mode ", rest)?;
+    let (source, rest) = code_line(SignStateField::Source(put), name, "-source ", rest)?;
+    let (mode, rest) = octet_line(SignStateField::Mode(put), name, "-mode ", rest)?;
     let (address, rest) = address_line(put, rest)?;
     let (remaining, rest) = remaining(put, rest)?;
-    let (defaults, rest) = defaults_line(StateField::Copied(put), name, "-defaults ", rest)?;
+    let (defaults, rest) = defaults_line(SignStateField::Copied(put), name, "-defaults ", rest)?;
     let put = PutFields {
         message,
         source,
@@ -174,14 +180,14 @@ struct VerdictParts {
 }
 
 #[tactic(auto, unfolding(crate::specs::FieldReading::verdicts_at))]
-fn verdicts(text: &[u8]) -> Result<(VerdictParts, &[u8]), Unread>
+fn verdicts(text: &[u8]) -> Result<(VerdictParts, &[u8]), UnreadSignField>
     ensures { Gives (λ x. ((x.0.validated, (x.0.activated, (x.0.syntax, x.0.position))), x.1.now))
         result (verdicts_at text.now) }
 {
-    let (validated, rest) = octet_line(StateField::ValidateError, "validate-error", " ", text)?;
-    let (activated, rest) = octet_line(StateField::ActivateError, "activate-error", " ", rest)?;
-    let (syntax, rest) = octet_line(StateField::SyntaxError, "syntax-error", " ", rest)?;
-    let wanted = StateField::SyntaxErrorPosition;
+    let (validated, rest) = octet_line(SignStateField::ValidateError, "validate-error", " ", text)?;
+    let (activated, rest) = octet_line(SignStateField::ActivateError, "activate-error", " ", rest)?;
+    let (syntax, rest) = octet_line(SignStateField::SyntaxError, "syntax-error", " ", rest)?;
+    let wanted = SignStateField::SyntaxErrorPosition;
     let (position, rest) = two_octets_line(wanted, "syntax-error-position", " ", rest)?;
     let verdicts = VerdictParts {
         validated,
@@ -193,12 +199,17 @@ fn verdicts(text: &[u8]) -> Result<(VerdictParts, &[u8]), Unread>
 }
 
 #[tactic(auto, unfolding(crate::specs::FieldReading::reports_at))]
-fn reports(text: &[u8]) -> Result<(Reports, &[u8]), Unread>
+fn reports(text: &[u8]) -> Result<(Reports, &[u8]), UnreadSignField>
     ensures { Gives (λ x. (x.0, x.1.now)) result (reports_at text.now) }
 {
     let (verdicts, rest) = verdicts(text)?;
-    let (accepted_code, rest) = code_line(StateField::AcceptedCode, "accepted-code", " ", rest)?;
-    let (failed_code, rest) = code_line(StateField::FailedCode, "failed-code", " ", rest)?;
+    let (accepted_code, rest) = code_line(
+        SignStateField::AcceptedCode,
+        "accepted-code",
+        " ",
+        rest,
+    )?;
+    let (failed_code, rest) = code_line(SignStateField::FailedCode, "failed-code", " ", rest)?;
     let reports = Reports {
         validate_error: verdicts.validated,
         activate_error: verdicts.activated,
@@ -211,11 +222,11 @@ fn reports(text: &[u8]) -> Result<(Reports, &[u8]), Unread>
 }
 
 #[tactic(auto, unfolding(crate::specs::FieldReading::form_at))]
-fn first_line(text: &[u8]) -> Result<&[u8], Unread>
+fn first_line(text: &[u8]) -> Result<&[u8], UnreadSignField>
     ensures { Gives (λ x. (tt, x.now)) result (form_at text.now) }
 {
-    let lack = Lack {
-        wanted: StateField::Form,
+    let lack = SignFieldLack {
+        wanted: SignStateField::Form,
         left: text.len(),
     };
     let rest = named(b"state 1 sign\n", lack, text)?;
@@ -223,33 +234,33 @@ fn first_line(text: &[u8]) -> Result<&[u8], Unread>
 }
 
 #[tactic(auto, unfolding(crate::specs::FieldReading::end_field, crate::specs::FieldReading::end_at))]
-fn last_line(text: &[u8]) -> Result<(), Unread>
+fn last_line(text: &[u8]) -> Result<(), UnreadSignField>
     ensures { Gives (λ _. (tt, [])) result (end_field text.now) }
 {
-    let lack = Lack {
-        wanted: StateField::End,
+    let lack = SignFieldLack {
+        wanted: SignStateField::End,
         left: text.len(),
     };
     let rest = named(b"end\n", lack, text)?;
     if rest.is_empty() {
         Ok(())
     } else {
-        Err(Unread::Lacks(lack))
+        Err(UnreadSignField::Lacks(lack))
     }
 }
 
 #[tactic(auto, unfolding(crate::specs::FieldReading::powered_at))]
-fn powered(text: &[u8]) -> Result<(bool, &[u8]), Unread>
+fn powered(text: &[u8]) -> Result<(bool, &[u8]), UnreadSignField>
     ensures { Gives (λ x. (x.0, x.1.now)) result (powered_at text.now) }
 {
-    let (number, rest) = number_line(StateField::Powered, "powered", " ", 1, text)?;
+    let (number, rest) = number_line(SignStateField::Powered, "powered", " ", 1, text)?;
     Ok((number == 1, rest))
 }
 
 #[derive(Drop)]
 struct SetParts {
-    changeable: Vec<RowFields>,
-    volatile: Vec<RowFields>,
+    changeable: Vec<UsedRowFields>,
+    volatile: Vec<UsedRowFields>,
     settings: SignSettings,
     silent_seconds: u32,
 }
@@ -264,7 +275,7 @@ struct SeenParts {
 
 /// The rows, and what was set.
 #[tactic(auto, unfolding(crate::specs::FieldReading::set_at))]
-fn set(alloc: Global, text: &[u8]) -> Result<(SetParts, &[u8]), Unread>
+fn set(alloc: Global, text: &[u8]) -> Result<(SetParts, &[u8]), UnreadSignField>
     ensures { Gives (λ x. ((x.0.changeable.items, (x.0.volatile.items, (x.0.settings, x.0.silent_seconds))), x.1.now))
         result (set_at text.now) }
 {
@@ -272,7 +283,7 @@ fn set(alloc: Global, text: &[u8]) -> Result<(SetParts, &[u8]), Unread>
     let (volatile, rest) = rows(alloc, Stored::Volatile, rest)?;
     let (settings, rest) = settings(rest)?;
     let (silent_seconds, rest) = number_line(
-        StateField::Silent,
+        SignStateField::Silent,
         "silent",
         " ",
         4_294_967_295,
@@ -289,7 +300,7 @@ fn set(alloc: Global, text: &[u8]) -> Result<(SetParts, &[u8]), Unread>
 
 /// What is shown, and what is reported.
 #[tactic(auto, unfolding(crate::specs::FieldReading::seen_at))]
-fn seen(alloc: Global, text: &[u8]) -> Result<(SeenParts, &[u8]), Unread>
+fn seen(alloc: Global, text: &[u8]) -> Result<(SeenParts, &[u8]), UnreadSignField>
     ensures { Gives (λ x. ((x.0.shown, (x.0.kept, (x.0.reports, x.0.powered))), x.1.now)) result (seen_at text.now) }
 {
     let (shown, rest) = put(alloc, Put::Shown, text)?;
@@ -307,7 +318,7 @@ fn seen(alloc: Global, text: &[u8]) -> Result<(SeenParts, &[u8]), Unread>
 
 /// All of a text.
 #[tactic(auto, unfolding(crate::specs::FieldReading::fields_at))]
-fn whole(alloc: Global, text: &[u8]) -> Result<StateFields, Unread>
+fn whole(alloc: Global, text: &[u8]) -> Result<StateFields, UnreadSignField>
     ensures { Gives (λ x. (x, [])) result (fields_at text.now) }
 {
     let rest = first_line(text)?;
@@ -340,13 +351,13 @@ fn line_after(text: &[u8]) -> usize
 }
 
 /// The fault of a text in which a field lacks.
-fn fault_of(text: &[u8], lack: Lack) -> StateFault
+fn fault_of(text: &[u8], lack: SignFieldLack) -> SignStateFault
     requires { lack.left ≤ length text.now }
     ensures wanted { result.wanted ≡ lack.wanted }
     ensures line { result.line
         ≡ count_by (λ octet. octet == byte "\n") (take (length text.now - lack.left) text.now) + 1 }
 {
-    StateFault {
+    SignStateFault {
         line: line_after(&text[..text.len() - lack.left]),
         wanted: lack.wanted,
     }
@@ -362,7 +373,7 @@ pub fn state_fields(alloc: Global, text: &[u8]) -> Result<StateFields, StateErro
 {
     match whole(alloc, text) {
         Ok(fields) => Ok(fields),
-        Err(Unread::Memory) => Err(StateError::Memory),
-        Err(Unread::Lacks(lack)) => Err(StateError::Fault(fault_of(text, lack))),
+        Err(UnreadSignField::Memory) => Err(StateError::Memory),
+        Err(UnreadSignField::Lacks(lack)) => Err(StateError::Fault(fault_of(text, lack))),
     }
 }

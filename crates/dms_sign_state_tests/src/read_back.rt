@@ -2,7 +2,7 @@
 
 use super::saved::{BUSY_STATE, STATES};
 use dms_sign_state::{
-    NumberSetting, Put, StateError, StateFault, StateField, Stored, state_fields,
+    NumberSetting, Put, SignStateFault, SignStateField, StateError, Stored, state_fields,
 };
 use dms_table::Status;
 use std::alloc::{AllocError, Global};
@@ -66,7 +66,7 @@ pub(super) fn with_line(alloc: Global, number: usize, line: &str) -> Result<Vec<
     Ok(text)
 }
 
-fn fault_of(alloc: Global, text: &[u8]) -> Option<StateFault> {
+fn fault_of(alloc: Global, text: &[u8]) -> Option<SignStateFault> {
     match state_fields(alloc, text) {
         Err(StateError::Fault(fault)) => Some(fault),
         _ => None,
@@ -76,9 +76,9 @@ fn fault_of(alloc: Global, text: &[u8]) -> Option<StateFault> {
 /// The line at fault is told, and the field that is wanted there.
 #[test]
 fn the_first_fault_is_told(rt: HostRuntime) -> Result<(), Fail> {
-    let row = StateField::Row(Stored::Changeable, 2);
+    let row = SignStateField::Row(Stored::Changeable, 2);
     for (line, new, wanted) in [
-        (1, "state 2 sign", StateField::Form),
+        (1, "state 2 sign", SignStateField::Form),
         (3, "changeable 1 5 5b6e6c - 0 0 1", row),
         (3, "changeable 02 5 5b6e6c - 0 0 1", row),
         (3, "changeable 65 5 5b6e6c - 0 0 1", row),
@@ -88,29 +88,36 @@ fn the_first_fault_is_told(rt: HostRuntime) -> Result<(), Fail> {
         (
             4,
             "volatile 17 4 4142 6f70 1 0 7",
-            StateField::Row(Stored::Volatile, 1),
+            SignStateField::Row(Stored::Volatile, 1),
         ),
-        (5, "defaults 0 9 5 5 256 3 2 30 0", StateField::Defaults),
-        (8, "power-loss 00021234", StateField::PowerLoss),
+        (5, "defaults 0 9 5 5 256 3 2 30 0", SignStateField::Defaults),
+        (8, "power-loss 00021234", SignStateField::PowerLoss),
         (
             12,
             "time-comm-loss +2",
-            StateField::Number(NumberSetting::TimeCommLoss),
+            SignStateField::Number(NumberSetting::TimeCommLoss),
         ),
-        (13, "silent 4294967296", StateField::Silent),
+        (13, "silent 4294967296", SignStateField::Silent),
         (
             17,
             "shown-address 192.0.2.256",
-            StateField::Address(Put::Shown),
+            SignStateField::Address(Put::Shown),
         ),
-        (18, "shown-remaining ", StateField::Remaining(Put::Shown)),
-        (20, "shown - - 0 0 1", StateField::Message(Put::Kept)),
-        (31, "powered 2", StateField::Powered),
-        (32, "end\nend", StateField::End),
+        (
+            18,
+            "shown-remaining ",
+            SignStateField::Remaining(Put::Shown),
+        ),
+        (20, "shown - - 0 0 1", SignStateField::Message(Put::Kept)),
+        (31, "powered 2", SignStateField::Powered),
+        (32, "end\nend", SignStateField::End),
     ] {
         let text = with_line(rt.alloc(), line, new)?;
         let found = fault_of(rt.alloc(), text.as_slice());
-        assert!(rt; found == Some(StateFault { line, wanted }), "of {new:?}");
+        assert!(rt;
+            found == Some(SignStateFault { line, wanted }),
+            "of {new:?}"
+        );
     }
     Ok(())
 }

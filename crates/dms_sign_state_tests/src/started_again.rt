@@ -5,21 +5,21 @@ use super::read_back::with_line;
 use super::saved::{BUSY_STATE, STATES};
 use dms_sign::{Config, ConfigFault, Sign};
 use dms_sign_bench::{B, stock};
-use dms_sign_restored::{RestoreFault, StateRefusal, put_state, restored};
+use dms_sign_restored::{SignRestoreFault, SignStateRefusal, put_state, restored};
 use dms_sign_state::{StateError, saved};
 use dms_table::{Order, Stock};
 use std::alloc::Global;
 use std::test::Fail;
 
 /// The bench sign but for the order of the octets of its checksums, in this state.
-fn again(alloc: Global, order: Order, text: &[u8]) -> Result<Sign, RestoreFault> {
+fn again(alloc: Global, order: Order, text: &[u8]) -> Result<Sign, SignRestoreFault> {
     let stock = Stock {
         order,
         ..stock(&[B])
     };
     match config_of(alloc, stock) {
         Some(config) => restored(alloc, config, text),
-        None => Err(RestoreFault::State(StateRefusal::Text(StateError::Memory))),
+        None => Err(SignRestoreFault::State(SignStateRefusal::Text(StateError::Memory))),
     }
 }
 
@@ -153,7 +153,7 @@ fn no_sign_is_restored_of_a_configuration_that_is_none(rt: HostRuntime) -> Resul
         ..config
     };
     let fault = restored(rt.alloc(), config, BUSY_STATE.as_bytes()).err();
-    assert!(rt; fault == Some(RestoreFault::Config(ConfigFault::Community)));
+    assert!(rt; fault == Some(SignRestoreFault::Config(ConfigFault::Community)));
     Ok(())
 }
 
@@ -179,7 +179,7 @@ fn a_refused_line_is_told(rt: HostRuntime) -> Result<(), Fail> {
         let refusal = put_state(rt.alloc(), made, text.as_bytes()).err();
         assert_eq!(rt; refusal.and_then(|refusal| refusal.line()), Some(line));
     }
-    assert_eq!(rt; StateRefusal::Text(StateError::Memory).line(), None);
+    assert_eq!(rt; SignStateRefusal::Text(StateError::Memory).line(), None);
     Ok(())
 }
 
@@ -194,7 +194,7 @@ fn put_in_a_state_or_out_of_memory(rt: HostRuntime) -> Result<(), Fail> {
         match put_state(rt.alloc(), made, text) {
             Ok(sign) => assert!(rt; sign.is_powered()),
             Err(refusal) => {
-                assert!(rt; refusal == StateRefusal::Text(StateError::Memory));
+                assert!(rt; refusal == SignStateRefusal::Text(StateError::Memory));
             }
         }
     }

@@ -5,7 +5,7 @@ use Rattle.dms_sign.specs.State.{SignState}
 use Rattle.dms_text_streams.specs.DescriptionText.{TakesDescription}
 use Rattle.dms_sign_restored.specs.Restored.{IsPut, IsStateRefusal}
 use Rattle.dms_sign_restored.specs.RestoredTexts.{refused_line, refusal_text}
-use Rattle.dms_sign_restored.specs.declared.restoring.StateRefusal.{StateRefusal}
+use Rattle.dms_sign_restored.specs.declared.restoring.SignStateRefusal.{SignStateRefusal}
 use Rattle.dms_sign_text.specs.ReadingFaults.{replay_fault}
 use Rattle.dms_sign_text.specs.declared.reading_fault.ReplayFault.TheVariants as faults
 use Rattle.signtool_calls.specs.declared.call.StateWanted.{StateWanted}
@@ -19,7 +19,7 @@ abbrev pub PutBefore : Option (List ℕ) → SignState → SignState → Option 
 PutBefore before sign s after = (text : List ℕ) × TakesDescription before text after × IsPut sign text s
 
 -- that text is taken, and this is why the sign is not put in a state that it says
-abbrev pub IsRefusedState : Option (List ℕ) → SignState → StateRefusal → Option (List ℕ) → Type 0
+abbrev pub IsRefusedState : Option (List ℕ) → SignState → SignStateRefusal → Option (List ℕ) → Type 0
 IsRefusedState before sign refusal after =
     (text : List ℕ) × TakesDescription before text after × IsStateRefusal sign text refusal
 
@@ -40,6 +40,6 @@ restore_line (refusals.Input fault) = fault_line (replay_fault fault)
 restore_line (refusals.State refusal) = state_line (refused_line refusal)
 
 -- and what is said of it, where memory did not run out
-abbrev pub state_said : StateRefusal → Option ℕ → List ℕ
+abbrev pub state_said : SignStateRefusal → Option ℕ → List ℕ
 state_said refusal None = []
 state_said refusal (Some line) = codes "state " ++ refusal_text refusal ++ codes "\n"

@@ -7,8 +7,8 @@ use Rattle.dms_centre_restored.specs.Restored.{IsRestored, IsNoneOf, IsToldOf}
 use Rattle.dms_centre_restored.specs.Faults.{IsWrongTold}
 use Rattle.dms_centre_restored.specs.FirstFault.{IsFirstTold}
 use Rattle.dms_centre_restored.specs.RestoredTexts.{refused_line, refusal_text}
-use Rattle.dms_centre_restored.specs.declared.refusal.StateRefusal.{StateRefusal}
-use Rattle.dms_centre_restored.specs.declared.refusal.RestoreFault.TheVariants.{State}
+use Rattle.dms_centre_restored.specs.declared.refusal.CentreStateRefusal.{CentreStateRefusal}
+use Rattle.dms_centre_restored.specs.declared.refusal.CentreRestoreFault.TheVariants.{State}
 use Rattle.dms_sign_text.specs.ReadingFaults.{replay_fault}
 use Rattle.dms_sign_text.specs.declared.setup.Setup.{Setup}
 use Rattle.dms_text_streams.specs.DescriptionText.{TakesDescription}
@@ -30,7 +30,7 @@ CentreBefore before setup s after =
 
 -- That text is taken, and no central system of the settings comes to its state, or memory ran out. What is told is its
 -- first fault: up to its line the text is the beginning of a state's, and with that line it is none's.
-abbrev pub IsRefusedCentre : Option (List ℕ) → Setup → StateRefusal → Option (List ℕ) → Type 0
+abbrev pub IsRefusedCentre : Option (List ℕ) → Setup → CentreStateRefusal → Option (List ℕ) → Type 0
 IsRefusedCentre before setup refusal after =
     (text : List ℕ) × TakesDescription before text after × IsNoneOf (settings_in setup) text (State refusal)
     × IsToldOf text refusal × IsFirstTold (settings_in setup) text refusal
@@ -49,6 +49,6 @@ centre_line (refusals.Input fault) = fault_line (replay_fault fault)
 centre_line (refusals.State refusal) = state_line (refused_line refusal)
 
 -- and what is said of it, where memory did not run out
-abbrev pub centre_said : StateRefusal → Option ℕ → List ℕ
+abbrev pub centre_said : CentreStateRefusal → Option ℕ → List ℕ
 centre_said refusal None = []
 centre_said refusal (Some line) = codes "state " ++ refusal_text refusal ++ codes "\n"

@@ -14,7 +14,7 @@ ghost use Rattle.signtool_acts.specs.declared.restored.RestoreRefusal.TheVariant
 
 use crate::refusal::InputRefusal;
 use dms_sign::Sign;
-use dms_sign_restored::{StateRefusal, put_state};
+use dms_sign_restored::{SignStateRefusal, put_state};
 use dms_sign_text::ReplayFault;
 use dms_text_streams::{Failed, Input, InputFault, Sink, Source, description_text};
 use signtool_print::{ExitStatus, print_made, print_memory};
@@ -28,7 +28,7 @@ pub enum RestoreRefusal {
     /// It gives no text.
     Input(InputFault),
     /// Its text is not of a state of this sign.
-    State(StateRefusal),
+    State(SignStateRefusal),
 }
 
 /// The sign in the state that the input says before a conversation: its text is the lines up to and with the first line
@@ -39,7 +39,7 @@ pub fn restored_before<S: Source>(
     input: &mut Input<S>,
 ) -> Result<Sign, RestoreRefusal>
     ensures state { IfOk result (λ s. PutBefore (left S.remaining input.old) sign s (left S.remaining input.new)) }
-    ensures refused { (refusal : StateRefusal) → result ≡ Err (refusals.State refusal)
+    ensures refused { (refusal : SignStateRefusal) → result ≡ Err (refusals.State refusal)
         → IsRefusedState (left S.remaining input.old) sign refusal (left S.remaining input.new) }
     ensures too_long { result ≡ Err (refusals.Input faults.TooLong)
         → IfSome (left S.remaining input.old) (λ octets. longest_input < length octets) }
@@ -87,7 +87,7 @@ impl RestoreRefusal {
 }
 
 /// Says why a state is refused. What is said where memory ran out is said as that is printed.
-fn say_state<E: Write>(refusal: &StateRefusal, errors: &mut E) -> io::Result<()>
+fn say_state<E: Write>(refusal: &SignStateRefusal, errors: &mut E) -> io::Result<()>
     ensures { OnOk result (Appends (E.contents errors.old) (E.contents errors.new)
         (state_said refusal.now (refused_line refusal.now))) }
 {

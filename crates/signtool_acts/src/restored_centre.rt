@@ -14,7 +14,7 @@ use crate::centre::settings_of;
 use crate::refusal::InputRefusal;
 use crate::restored::print_line;
 use dms_centre_lines::LiveCentre;
-use dms_centre_restored::{RestoreFault, StateRefusal, restored};
+use dms_centre_restored::{CentreRestoreFault, CentreStateRefusal, restored};
 use dms_sign_text::{ReplayFault, Setup};
 use dms_text_streams::{Failed, Input, InputFault, Sink, Source, description_text};
 use signtool_print::ExitStatus;
@@ -28,7 +28,7 @@ pub enum CentreRefusal {
     /// It gives no text.
     Input(InputFault),
     /// Its text is of no state of a central system.
-    State(StateRefusal),
+    State(CentreStateRefusal),
 }
 
 /// The central system of a sign in the state that the input says before a conversation: its text is the lines up to and
@@ -40,7 +40,7 @@ pub fn centre_restored_before<S: Source>(
 ) -> Result<LiveCentre, CentreRefusal>
     ensures state { IfOk result
         (λ s. CentreBefore (left S.remaining input.old) setup.now s (left S.remaining input.new)) }
-    ensures refused { (refusal : StateRefusal) → result ≡ Err (refusals.State refusal)
+    ensures refused { (refusal : CentreStateRefusal) → result ≡ Err (refusals.State refusal)
         → IsRefusedCentre (left S.remaining input.old) setup.now refusal (left S.remaining input.new) }
     ensures too_long { result ≡ Err (refusals.Input faults.TooLong)
         → IfSome (left S.remaining input.old) (λ octets. longest_input < length octets) }
@@ -55,9 +55,11 @@ pub fn centre_restored_before<S: Source>(
     };
     match restored(alloc, settings_of(setup), text.as_slice()) {
         Ok(centre) => Ok(LiveCentre::new(centre)),
-        Err(RestoreFault::State(refusal)) => Err(CentreRefusal::State(refusal)),
+        Err(CentreRestoreFault::State(refusal)) => Err(CentreRefusal::State(refusal)),
         // a sign's communities are a centre's
-        Err(RestoreFault::Settings(_)) => Err(CentreRefusal::State(StateRefusal::Memory)),
+        Err(CentreRestoreFault::Settings(_)) => Err(CentreRefusal::State(
+            CentreStateRefusal::Memory,
+        )),
     }
 }
 
@@ -90,7 +92,7 @@ impl CentreRefusal {
 }
 
 /// Says why a state is refused. What is said where memory ran out is said as that is printed.
-fn say_state<E: Write>(refusal: &StateRefusal, errors: &mut E) -> io::Result<()>
+fn say_state<E: Write>(refusal: &CentreStateRefusal, errors: &mut E) -> io::Result<()>
     ensures { OnOk result (Appends (E.contents errors.old) (E.contents errors.new)
         (centre_said refusal.now (refused_line refusal.now))) }
 {

@@ -2,9 +2,9 @@
 use Rattle.std.specs.Prelude.{◌≡◌, ℕ, List, Option, Some, None}
 use Rattle.dms_centre_jobs.specs.Job.{SettingsModel}
 use Rattle.dms_centre.specs.Room.{CentreModel}
-use Rattle.dms_centre_restored.specs.declared.refusal.RestoreFault.{RestoreFault}
-use Rattle.dms_centre_restored.specs.declared.refusal.RestoreFault.TheVariants as faults
-use Rattle.dms_centre_restored.specs.declared.refusal.StateRefusal.{StateRefusal}
+use Rattle.dms_centre_restored.specs.declared.refusal.CentreRestoreFault.{CentreRestoreFault}
+use Rattle.dms_centre_restored.specs.declared.refusal.CentreRestoreFault.TheVariants as faults
+use Rattle.dms_centre_restored.specs.declared.refusal.CentreStateRefusal.{CentreStateRefusal}
 use Rattle.dms_centre_restored.specs.Restored.{IsRestored}
 use Rattle.dms_centre_restored.specs.Faults.{IsWrongTold}
 use Rattle.dms_centre_restored.specs.FirstFault.{IsFirstTold}
@@ -20,14 +20,14 @@ IsPlacedIn settings text (Some centre) = IsRestored settings text centre.state
 -- no central system of these settings goes on from the text, for this line of it, which is that of its first fault
 abbrev pub IsRefusedAt : SettingsModel → List ℕ → ℕ → Type 0
 IsRefusedAt settings text line =
-    (refusal : StateRefusal) × IsFirstTold settings text refusal × IsWrongTold settings text refusal
+    (refusal : CentreStateRefusal) × IsFirstTold settings text refusal × IsWrongTold settings text refusal
     × (refused_line refusal ≡ Some line)
 
-abbrev pub restore_answer : RestoreFault → ℕ
+abbrev pub restore_answer : CentreRestoreFault → ℕ
 restore_answer (faults.Settings fault) = at_fault
 restore_answer (faults.State refusal) = line_answer (refused_line refusal)
 
 -- the line of the state that is refused; where there is none what is old stays
-abbrev pub line_after_restore : RestoreFault → ℕ → ℕ
+abbrev pub line_after_restore : CentreRestoreFault → ℕ → ℕ
 line_after_restore (faults.Settings fault) old = old
 line_after_restore (faults.State refusal) old = told_line (refused_line refusal) old

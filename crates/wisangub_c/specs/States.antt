@@ -7,7 +7,7 @@ use Rattle.dms_sign.specs.State.{start}
 use Rattle.dms_sign_text.specs.Description.{Description, SpellsSign}
 use Rattle.dms_sign_text.specs.RefusedLine.{all_numbered, IsRefusedLine, NamesLine}
 use Rattle.dms_sign_text.specs.declared.fault.DescriptionFault.TheVariants as faults
-use Rattle.dms_sign_restored.specs.declared.restoring.StateRefusal.{StateRefusal}
+use Rattle.dms_sign_restored.specs.declared.restoring.SignStateRefusal.{SignStateRefusal}
 use Rattle.dms_sign_restored.specs.Restored.{IsStateRefusal}
 use Rattle.dms_sign_restored.specs.RestoredTexts.{refused_line}
 use Rattle.dms_wire.specs.Message.{VarBind}
@@ -35,14 +35,14 @@ IsNoSign text state (reasons.State refusal) =
 abbrev pub IsRefusedAt : List ℕ → List ℕ → ℕ → Type 0
 IsRefusedAt text state line =
     (it : Description) × SpellsSign (kept_lines text) it
-    × ((refusal : StateRefusal) × IsStateRefusal (start it.config it.table) state refusal
+    × ((refusal : SignStateRefusal) × IsStateRefusal (start it.config it.table) state refusal
     × (refused_line refusal ≡ Some line))
 
 abbrev pub line_answer : Option ℕ → ℕ
 line_answer None = no_memory
 line_answer (Some line) = state_refused
 
-abbrev pub refusal_answer : StateRefusal → ℕ
+abbrev pub refusal_answer : SignStateRefusal → ℕ
 refusal_answer refusal = line_answer (refused_line refusal)
 
 -- out of memory what is old stays
@@ -50,7 +50,7 @@ abbrev pub told_line : Option ℕ → ℕ → ℕ
 told_line None old = old
 told_line (Some line) old = line
 
-abbrev pub line_after_refusal : StateRefusal → ℕ → ℕ
+abbrev pub line_after_refusal : SignStateRefusal → ℕ → ℕ
 line_after_refusal refusal old = told_line (refused_line refusal) old
 
 -- the text says some values of objects, and this is the sign to whose objects they are put back

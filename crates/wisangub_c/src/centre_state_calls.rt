@@ -15,7 +15,7 @@ ghost use Rattle.wisangub_c.specs.States.{state_refused};
 ghost use Rattle.wisangub_c.specs.CentreStates.{IsPlacedIn, IsRefusedAt, restore_answer, line_after_restore};
 
 use dms_centre::{Centre, Settings};
-use dms_centre_restored::{RestoreFault, StateRefusal, restored};
+use dms_centre_restored::{CentreRestoreFault, CentreStateRefusal, restored};
 use dms_centre_state::put_saved;
 use std::alloc::Global;
 use wisangub_c_places::{CentreHandle, CentrePlace};
@@ -71,7 +71,11 @@ pub extern "C" fn wisangub_centre_save_size_at(centre: &mut CentreHandle, size: 
 }
 
 /// A central system of the settings in the state of a text, on the heap.
-fn gone_on(alloc: Global, settings: Settings<'_>, state: &[u8]) -> Result<Box<Centre>, RestoreFault>
+fn gone_on(
+    alloc: Global,
+    settings: Settings<'_>,
+    state: &[u8],
+) -> Result<Box<Centre>, CentreRestoreFault>
     ensures made { IfOk result (λ centre. IsRestored (settings_model settings.entry) state.now centre.value.state) }
     ensures community { IfOk result (λ centre. IsTrue (has_community_size settings.entry.community.now)) }
     ensures fault { IfErr result
@@ -83,7 +87,7 @@ fn gone_on(alloc: Global, settings: Settings<'_>, state: &[u8]) -> Result<Box<Ce
     let centre = restored(alloc, settings, state)?;
     match Box::new(alloc, centre) {
         Ok(centre) => Ok(centre),
-        Err(_) => Err(RestoreFault::State(StateRefusal::Memory)),
+        Err(_) => Err(CentreRestoreFault::State(CentreStateRefusal::Memory)),
     }
 }
 
@@ -125,14 +129,14 @@ pub extern "C" fn wisangub_centre_restore_at(
 }
 
 /// What is answered where no central system goes on, with the number of the line for which its state is refused.
-fn fault_answer(fault: RestoreFault, line: &mut usize) -> u32
+fn fault_answer(fault: CentreRestoreFault, line: &mut usize) -> u32
     ensures answer { result ≡ restore_answer fault }
     ensures line { line.new ≡ line_after_restore fault line.old }
     ensures settings { (result == at_fault) ≡ is_of_settings fault }
 {
     let refusal = match fault {
-        RestoreFault::Settings(_) => return AT_FAULT,
-        RestoreFault::State(refusal) => refusal,
+        CentreRestoreFault::Settings(_) => return AT_FAULT,
+        CentreRestoreFault::State(refusal) => refusal,
     };
     match refusal.line() {
         Some(number) => {

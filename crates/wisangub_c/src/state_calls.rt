@@ -22,7 +22,7 @@ use crate::sign_calls::{NewSign, fault_answer};
 use dms_agent::Agent;
 use dms_agent_state::{SetError, put_saved, saved_values, state_parts};
 use dms_agent_watched::Watched;
-use dms_sign_restored::{StateRefusal, put_state};
+use dms_sign_restored::{SignStateRefusal, put_state};
 use dms_sign_state::most_saved;
 use dms_sign_text::{DescriptionFault, Setup, description};
 use std::alloc::Global;
@@ -77,7 +77,7 @@ pub(crate) enum NoSign {
     /// The description is at fault, or there is no memory.
     Description(DescriptionFault),
     /// The state is none of this sign, or there is no memory to read it.
-    State(StateRefusal),
+    State(SignStateRefusal),
 }
 
 /// The sign of a description in the state of a text, on the heap.
@@ -137,7 +137,7 @@ pub extern "C" fn wisangub_sign_restore_at(
 }
 
 /// What is answered where a state is refused, with the number of its line.
-fn refusal_answer(refusal: &StateRefusal, line: &mut usize) -> u32
+fn refusal_answer(refusal: &SignStateRefusal, line: &mut usize) -> u32
     ensures answer { result ≡ refusal_answer refusal.now }
     ensures line { line.new ≡ line_after_refusal refusal.now line.old }
 {

@@ -1,5 +1,5 @@
 use Rattle.std.proofs.Common.{◌≡◌, ℕ, List, Result, ◌+◌, ◌-◌, ◌++◌, ◌∷◌, [], false, true, ap, sym, ◌∙◌, arith}
-use Rattle.dms_sign_state.specs.declared.field.Lack.{Lack}
+use Rattle.dms_sign_state.specs.declared.field.SignFieldLack.{SignFieldLack}
 use Rattle.dms_sign_state.specs.Fields.{UsedRow}
 use Rattle.dms_sign_state.specs.FieldReading.{has_row, rows_at}
 use Rattle.dms_sign_state.proofs.RowForms.{with_front, row_more, row_lacks, no_row, all_rows}
@@ -29,7 +29,7 @@ loop-preserved c =
     let row = c.in_ok-row.row in
     let is : has_row stored c.loop.least c.loop.rest.now ≡ true = grind (arith, c.if-not-has_row.false, c.has_row.ensures) in
     let number : c.row.inside.number ≡ row.number = omega (arith, ap (λ (r : UsedRow). r.number) c.row.view_is) in
-    let rest : ℕ → Result (List UsedRow × List ℕ) Lack = λ n. rows_at stored (most - (c.loop.counter + 1)) (n + 1) c.in_ok-row.after.now in
+    let rest : ℕ → Result (List UsedRow × List ℕ) SignFieldLack = λ n. rows_at stored (most - (c.loop.counter + 1)) (n + 1) c.in_ok-row.after.now in
     ap (λ rows. with_front rows (rest c.row.inside.number)) c.in_ok-push.ensures.items
     ∙ ap (λ n. with_front (c.loop.rows.items ++ row ∷ []) (rest n)) number
     ∙ row_more stored c.loop.rows.items most c.loop.counter c.loop.least c.loop.rest.now row c.in_ok-row.after.now (rows_at stored most 1 c.args.text.now) c.loop-test.true is

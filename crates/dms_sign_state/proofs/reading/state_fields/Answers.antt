@@ -1,6 +1,6 @@
 use Rattle.std.proofs.Common.{◌≡◌, subst}
-use Rattle.dms_sign_state.specs.declared.field.Unread.{Unread}
-use Rattle.dms_sign_state.specs.declared.field.Unread.TheVariants as unread
+use Rattle.dms_sign_state.specs.declared.field.UnreadSignField.{UnreadSignField}
+use Rattle.dms_sign_state.specs.declared.field.UnreadSignField.TheVariants as unread
 use Rattle.dms_sign_state.specs.WordReading.{Fails}
 use Rattle.dms_sign_state.specs.FieldReading.{fields_at}
 use Rattle.dms_sign_state.proofs.StateForms.{fields_found, only_these, none_lacks, fault_is}
@@ -12,7 +12,7 @@ fault_of-requires c =
     let field = c.in-Err-Lacks.field-0-is in
     let lack = c.in-Err-Lacks.lack-is in
     let error : c.in-Err-Lacks.field-0 ≡ unread.Lacks c.in-Err-Lacks.lack = cc in
-    let e = subst (λ (u : Unread). Fails u (fields_at c.args.text.now)) error c.in-Err-Lacks.ensures in
+    let e = subst (λ (u : UnreadSignField). Fails u (fields_at c.args.text.now)) error c.in-Err-Lacks.ensures in
     (fault_is c.args.text.now c.in-Err-Lacks.lack e).within
 
 pub returns-in-Ok-clause-found : goal.returns-in-Ok-clause-found
@@ -27,7 +27,7 @@ returns-in-Err-Lacks-clause-only c =
     let field = c.in-Err-Lacks.field-0-is in
     let lack = c.in-Err-Lacks.lack-is in
     let error : c.in-Err-Lacks.field-0 ≡ unread.Lacks c.in-Err-Lacks.lack = cc in
-    let e = subst (λ (u : Unread). Fails u (fields_at c.args.text.now)) error c.in-Err-Lacks.ensures in
+    let e = subst (λ (u : UnreadSignField). Fails u (fields_at c.args.text.now)) error c.in-Err-Lacks.ensures in
     none_lacks c.args.text.now c.in-Err-Lacks.lack e
 
 pub returns-in-Err-Lacks-clause-fault : goal.returns-in-Err-Lacks-clause-fault
@@ -36,5 +36,5 @@ returns-in-Err-Lacks-clause-fault c =
     let field = c.in-Err-Lacks.field-0-is in
     let lack = c.in-Err-Lacks.lack-is in
     let error : c.in-Err-Lacks.field-0 ≡ unread.Lacks c.in-Err-Lacks.lack = cc in
-    let e = subst (λ (u : Unread). Fails u (fields_at c.args.text.now)) error c.in-Err-Lacks.ensures in
+    let e = subst (λ (u : UnreadSignField). Fails u (fields_at c.args.text.now)) error c.in-Err-Lacks.ensures in
     (fault_is c.args.text.now c.in-Err-Lacks.lack e).fault c.fault_of.result c.fault_of.ensures.wanted c.fault_of.ensures.line
