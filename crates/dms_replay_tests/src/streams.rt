@@ -55,7 +55,7 @@ enum WriteRefusal {
 
 /// Keeps at most so many octets a call, and refuses them once so many calls were made.
 #[derive(Drop)]
-struct Narrow {
+struct NarrowSink {
     octets: Vec<u8>,
     piece: usize,
     calls: usize,
@@ -63,7 +63,7 @@ struct Narrow {
     failed: u64,
 }
 
-impl Sink for Narrow {
+impl Sink for NarrowSink {
     ghost failed = { λ narrow. narrow.failed };
 
     fn write_some(&mut self, octets: &[u8]) -> Result<usize, Failed> {
@@ -113,8 +113,8 @@ fn reader_of(text: &str, padding: usize, piece: usize, calls: usize) -> Slow<'_>
     }
 }
 
-fn writer_of(alloc: Global, piece: usize, calls: usize, refusal: WriteRefusal) -> Narrow {
-    Narrow {
+fn writer_of(alloc: Global, piece: usize, calls: usize, refusal: WriteRefusal) -> NarrowSink {
+    NarrowSink {
         octets: Vec::new(alloc),
         piece,
         calls,

@@ -39,13 +39,13 @@ impl Party for Echo {
 
 /// Gives an octet a call, and fails where it has none left, or ends there.
 #[derive(Drop)]
-struct Narrow<'a> {
+struct NarrowSource<'a> {
     octets: &'a [u8],
     fails: bool,
     failed: u64,
 }
 
-impl Source for Narrow<'_> {
+impl Source for NarrowSource<'_> {
     ghost failed = { λ narrow. narrow.failed };
 
     fn read_some(&mut self, buffer: &mut [u8]) -> Result<usize, Failed> {
@@ -113,7 +113,7 @@ fn said(
     room: usize,
     wanted: &[u8],
 ) -> Result<Ended, AllocError> {
-    let source = Narrow {
+    let source = NarrowSource {
         octets,
         fails,
         failed: 0,
@@ -271,7 +271,7 @@ fn taken(alloc: Global, octets: &[u8]) -> Result<Result<usize, InputFault>, Allo
 
 /// How the taking of a description ends whose reader fails.
 fn fault_within(alloc: Global) -> Result<Option<InputFault>, AllocError> {
-    let source = Narrow {
+    let source = NarrowSource {
         octets: b"size",
         fails: true,
         failed: 0,

@@ -40,11 +40,11 @@ impl Source for Endless {
 
 /// A writer of std that takes an octet a call, so long as it has room.
 #[derive(Drop)]
-struct Narrow {
+struct NarrowWriter {
     room: usize,
 }
 
-impl Write for Narrow {
+impl Write for NarrowWriter {
     fn write(&mut self, buf: &[u8]) -> std::io::Result<usize> {
         if buf.is_empty() || self.room == 0 {
             return Ok(0);
@@ -148,7 +148,7 @@ fn a_description_that_never_ends_is_too_long(rt: HostRuntime) -> Result<(), Fail
 #[test]
 fn a_writer_without_room_fails(rt: HostRuntime) {
     for (room, written, failures) in [(3, true, 0), (2, false, 1), (0, false, 1)] {
-        let mut sink = Counted::new(Narrow { room });
+        let mut sink = Counted::new(NarrowWriter { room });
         let whole = write_whole(&mut sink, b"abc").is_ok();
         assert_eq!(rt; (whole, sink.failures()), (written, failures));
     }
