@@ -7,3 +7,4 @@ pub mod Promises
 pub mod GlyphSearch
 pub mod Limits
 pub mod Bitmaps
+pub mod WidthLaws

@@ -1,6 +1,7 @@
 -- what a reader must believe: a font, its pictures, and the text that spells it (this profile)
 pub mod Glyph
 pub mod Font
+pub mod Widths
 pub mod FontText
 pub mod Fault
 pub mod FaultTexts

@@ -13,7 +13,7 @@ ghost use Rattle.dms_face_font.specs.FontReading.{glyph_read, glyph_added, glyph
 ghost use Rattle.dms_face_font.specs.FontView.{glyph_line, GivesOrMemory, ReadsOrMemory};
 
 use crate::fault::{FontFault, FontFaultKind};
-use crate::font::{Font, MAX_GLYPHS, has_glyph, set_place};
+use crate::font::{Font, MAX_GLYPHS, no_widths, set_place, set_width};
 use crate::glyph::Glyph;
 use dms_text::{Lines, Words, octets, version};
 use std::alloc::Global;
@@ -142,6 +142,7 @@ impl Font {
             version,
             glyphs: Vec::new(alloc),
             places: [0; 256],
+            plain: no_widths(),
         })
     }
 
@@ -154,17 +155,19 @@ impl Font {
         ensures same { OnErr result (self.new ≡ self.old) }
     {
         let glyph = glyph(alloc, self.height, line)?;
-        if has_glyph(self.glyphs.as_slice(), glyph.character()) {
+        let character = glyph.character();
+        if self.has(character) {
             return Err(FontFaultKind::Twice);
         }
         if self.glyphs.len() >= MAX_GLYPHS {
             return Err(FontFaultKind::TooMany);
         }
-        let character = glyph.character();
+        let width = glyph.width();
         let place = self.glyphs.len() as u8;
         match self.glyphs.push(glyph) {
             Ok(()) => {
                 set_place(&mut self.places, character, place);
+                set_width(&mut self.plain, character, width);
                 Ok(())
             }
             Err(_) => Err(FontFaultKind::Memory),

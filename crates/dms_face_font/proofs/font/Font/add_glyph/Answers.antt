@@ -1,5 +1,6 @@
 use Rattle.std.proofs.Common.{◌≡◌, ◌<◌, length, false, sym, ap, subst, ◌∙◌, arith}
-use Rattle.dms_face_font.specs.Font.{FontModel, IsFont, has_glyph}
+use Rattle.dms_face_font.specs.Font.{FontModel, has_glyph}
+use Rattle.dms_face_font.specs.Widths.{IsKept}
 use Rattle.dms_face_font.proofs.Limits.{with_one_more}
 use Rattle.dms_face_font.proofs.font.Font.add_glyph.Goals as goal
 
@@ -13,7 +14,13 @@ invariant_of-self c =
       version = c.self.inside.version;
       glyphs = c.self.inside.glyphs.items;
     } in
-    let new : has_glyph font.glyphs c.in_ok-glyph.glyph.character ≡ false =
-    ap (has_glyph font.glyphs) (sym c.character.ensures.value) ∙ ap (λ glyphs. has_glyph glyphs c.character.result) (sym c.as_slice.ensures.value) ∙ sym c.has_glyph.ensures ∙ c.if-has_glyph.false in
+    let added = c.in_ok-glyph.glyph in
+    let is = c.character-character.ensures.value in
+    let none : has_glyph font.glyphs c.character-character.result ≡ false =
+    ap (λ (f : FontModel). has_glyph f.glyphs c.character-character.result) c.self.view_is ∙ sym c.has.ensures ∙ c.if-has.false in
+    let new : has_glyph font.glyphs added.character ≡ false = ap (has_glyph font.glyphs) (sym is) ∙ none in
     let room : length font.glyphs < 255 = omega (arith, c.len.ensures, c.if-len-ge-MAX_GLYPHS.false) in
-    subst (λ glyphs. IsFont (record font { glyphs = glyphs })) (sym c.in-Ok.ensures.items) (with_one_more font c.in_ok-glyph.glyph c.self.invariant c.in_ok-glyph.ensures.limits new room)
+    subst (λ glyphs. IsKept (record font { glyphs = glyphs }) c.set_width.new.widths) (sym c.in-Ok.ensures.items) (record {
+      limits = with_one_more font added c.self.invariant.limits c.in_ok-glyph.ensures.limits new room;
+      plain = c.set_width.ensures font.glyphs added c.self.invariant.plain (sym is) (sym c.width-width.ensures.value) none;
+    })
