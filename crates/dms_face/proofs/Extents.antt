@@ -1,5 +1,5 @@
 -- What one more block at the end of a row changes.
-use Rattle.std.proofs.Common.{◌≡◌, ℕ, ◌+◌, true, false, List, [], ◌∷◌, ◌++◌, refl, ◌∙◌, arith, unwrap_or}
+use Rattle.std.proofs.Common.{◌≡◌, ℕ, ◌+◌, true, false, List, [], ◌∷◌, ◌++◌, refl, arith, unwrap_or}
 use Rattle.dms_face.specs.declared.room.Block.{Block}
 use Rattle.dms_face.specs.declared.room.Run.{Run}
 use Rattle.dms_face.specs.Layout.{is_blank}
@@ -22,3 +22,5 @@ pub sums_more : (total : ℕ) (run : Run) (blocks : List Block) (block : Block) 
     → total ≡ run.size + unwrap_or block.gap (average run.spacing block.spacing) + block.size
     → Sums (record { any = run.any; size = total; spacing = block.spacing }) (blocks ++ block ∷ [])
 sums_more total run blocks block sums some is = grind (arith, unwrap_or, extent_push, last_spacing_push)
+
+pub ruleset pushing = (last_spacing_push, extent_push)

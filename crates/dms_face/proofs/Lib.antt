@@ -14,3 +14,4 @@ pub mod ReadingLaws
 pub mod RuleLaws
 pub mod ApartLaws
 pub mod RunLaws
+pub mod WidthRuns

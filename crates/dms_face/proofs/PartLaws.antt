@@ -1,5 +1,5 @@
 -- Where a page has a line.
-use Rattle.std.proofs.Common.{◌≡◌, not, ◌||◌, List, [], ◌∷◌, map, refl, arith}
+use Rattle.std.proofs.Common.{◌≡◌, not, List, [], ◌∷◌, map, refl, arith}
 use Rattle.dms_face.specs.declared.justification.Part.{Part}
 use Rattle.dms_face.specs.Justification.{place_of_part}
 use Rattle.dms_face.specs.Layout.{Character, Line, is_blank, has_line_in}

@@ -3,7 +3,7 @@
 ghost use Rattle.std.specs.Prelude.{◌≡◌, ℕ, ◌<◌, ◌≤◌, true, not, List, [], ◌∷◌, ◌++◌, IsTrue};
 ghost use Rattle.dms_face.specs.declared.justification.Place.TheVariants.{Start, Halfway, End};
 ghost use Rattle.dms_face.specs.Layout.{is_blank};
-ghost use Rattle.dms_face.specs.Room.{average, is_at, at_place, span, have_room, blocks_fit};
+ghost use Rattle.dms_face.specs.Room.{average, is_at, at_place, extent, span, have_room, blocks_fit};
 ghost use Rattle.dms_face.specs.Runs.{run_at, sized, IsLimit};
 ghost use Rattle.dms_face.specs.Fit.{goes_back, is_taken};
 ghost use Rattle.dms_face.specs.Totals.{Sums, MatchesBlocks, AreWithin};
@@ -59,24 +59,34 @@ impl Run {
         spacing: 0,
     };
 
+    /// The room that the row takes with one more block at its end.
+    #[tactic(auto, using(crate::proofs::Extents::pushing))]
+    #[inline(always)]
+    fn size_with(&self, block: Block) -> u32
+        requires { self.now.size ≤ 256 }
+        ensures size { (blocks : List Block) → Sums self.now blocks → result ≡ extent (blocks ++ block ∷ []) }
+        ensures within { result ≤ 766 }
+    {
+        if !self.any {
+            return u32::from(block.size);
+        }
+        let gap = match block.gap {
+            Some(gap) => gap,
+            None => average(self.spacing, block.spacing),
+        };
+        self.size + u32::from(gap) + u32::from(block.size)
+    }
+
     /// One more block stands at the row's end.
+    #[tactic(auto, using(crate::proofs::Extents::pushing))]
     #[inline(always)]
     pub fn push(&mut self, block: Block)
         requires { self.old.size ≤ 256 }
         ensures sums { (blocks : List Block) → Sums self.old blocks → Sums self.new (blocks ++ block ∷ []) }
         ensures within { self.new.size ≤ 766 }
     {
-        if !self.any {
-            self.any = true;
-            self.size = u32::from(block.size);
-            self.spacing = block.spacing;
-            return;
-        }
-        let gap = match block.gap {
-            Some(gap) => gap,
-            None => average(self.spacing, block.spacing),
-        };
-        self.size += u32::from(gap) + u32::from(block.size);
+        self.size = self.size_with(block);
+        self.any = true;
         self.spacing = block.spacing;
     }
 }
@@ -203,6 +213,22 @@ impl Places {
         ensures within { IsTrue result → AreWithin 256 self.now }
     {
         have_room(whole, self.start.size, self.halfway.size, self.end.size)
+    }
+
+    /// Whether the places have room beside each other with one block more.
+    #[inline]
+    pub(crate) fn fit_with(&self, block: Block, whole: u32) -> bool
+        requires whole { whole ≤ 256 }
+        requires within { AreWithin 256 self.now }
+        ensures { (blocks : List Block) → MatchesBlocks self.now blocks
+            → result ≡ blocks_fit whole (blocks ++ block ∷ []) }
+    {
+        let (start, halfway, end) = (self.start.size, self.halfway.size, self.end.size);
+        match block.place {
+            Place::Start => have_room(whole, self.start.size_with(block), halfway, end),
+            Place::Halfway => have_room(whole, start, self.halfway.size_with(block), end),
+            Place::End => have_room(whole, start, halfway, self.end.size_with(block)),
+        }
     }
 }
 

@@ -1,7 +1,8 @@
 //! What is known of a text while its items are walked: running sums of the open line and the open page.
 
 ghost use Rattle.std.specs.Prelude.{◌≡◌, ℕ, ◌<◌, ◌≤◌, List, [], ◌∷◌, ◌++◌, length, map, true, false, not};
-ghost use Rattle.std.specs.Prelude.{Some, None, Result, IsTrue, IfNone};
+ghost use Rattle.std.specs.Prelude.{Some, None, Result, IsTrue, IfNone, if◌then◌else◌};
+ghost use Rattle.dms_face.specs.declared.room.Places.{Places as PlacesModel};
 ghost use Rattle.dms_multi.specs.Outcomes.{outcomes_from};
 ghost use Rattle.dms_face.specs.declared.multi_fault.MultiFault.{MultiFault};
 ghost use Rattle.dms_face.specs.Runs.{run_after, IsRunning};
@@ -67,30 +68,17 @@ impl<'a> Totals<'a> {
         }
     }
 
-    /// The open page's lines with the open line closed.
-    #[inline(always)]
-    fn lines_with_open(&self) -> Places
-        requires within { AreWithin 256 self.now.lines }
-        ensures matches { (layout : Layout) → Matches self.now layout
-            → MatchesBlocks result (map line_block (layout.lines ++ open_line layout ∷ [])) }
-        ensures within { AreWithin 766 result }
+    /// Whether the open page has room for its lines while the open line is open.
+    #[inline]
+    fn standing_fits(&self, face: &Face) -> bool
+        requires { AreWithin 256 self.now.lines }
+        ensures { (layout : Layout) → Matches self.now layout → result ≡ lines_fit face.now (standing layout) }
     {
-        let mut lines = self.lines;
-        lines.push(self.line_block());
-        lines
-    }
-
-    /// The open page's lines while the open line is open.
-    fn standing(&self) -> Places
-        requires within { AreWithin 256 self.now.lines }
-        ensures matches { (layout : Layout) → Matches self.now layout
-            → MatchesBlocks result (map line_block (standing layout)) }
-        ensures within { AreWithin 766 result }
-    {
+        let whole = u32::from(face.height());
         if !self.holds_character() {
-            return self.lines;
+            return self.lines.fit(whole);
         }
-        self.lines_with_open()
+        self.lines.fit_with(self.line_block(), whole)
     }
 
     /// Whether the open page has a line in the part of the open line.
@@ -102,29 +90,52 @@ impl<'a> Totals<'a> {
         self.lines.any_at(self.part.place())
     }
 
-    /// The open page's lines with the open line and its part closed.
-    fn closed(&self) -> Places
-        requires within { AreWithin 256 self.now.lines }
-        ensures matches { (layout : Layout) → Matches self.now layout
-            → MatchesBlocks result (map line_block (closed layout)) }
-        ensures within { AreWithin 766 result }
+    /// Whether the open line is one of its page's where its part is closed: a single line without a character is none.
+    fn counts(&self) -> bool
+        requires { AreWithin 256 self.now.lines }
+        ensures { (layout : Layout) → Matches self.now layout
+            → closed layout ≡ (if result then layout.lines ++ open_line layout ∷ [] else layout.lines) }
     {
-        if self.holds_character() || self.holds_line() {
-            self.lines_with_open()
-        } else {
-            self.lines
+        self.holds_character() || self.holds_line()
+    }
+
+    /// The open line joins the closed lines of its page. Until another opens, nothing else is asked of the sums.
+    #[inline]
+    fn close_line(&mut self)
+        requires { AreWithin 256 self.old.lines }
+        ensures matches { (layout : Layout) → Matches self.old layout
+            → MatchesBlocks self.new.lines (map line_block (layout.lines ++ open_line layout ∷ [])) }
+        ensures within { AreWithin 766 self.new.lines }
+        ensures same { self.old ≡ record self.new { lines = self.old.lines } }
+    {
+        let block = self.line_block();
+        self.lines.push(block);
+    }
+
+    /// The open line joins the closed lines of its page, where it counts.
+    #[inline]
+    fn close_part(&mut self)
+        requires { AreWithin 256 self.old.lines }
+        ensures matches { (layout : Layout) → Matches self.old layout
+            → MatchesBlocks self.new.lines (map line_block (closed layout)) }
+        ensures within { AreWithin 766 self.new.lines }
+        ensures same { self.old ≡ record self.new { lines = self.old.lines } }
+    {
+        if self.counts() {
+            self.close_line();
         }
     }
 
-    /// These are the closed lines of the open page, and after them a line opens, with this gap above it.
-    fn open_line(&mut self, lines: Places, gap: Option<u8>)
-        ensures matches { (layout : Layout) (closed_lines : List Line)
-            → Matches self.old layout → MatchesBlocks lines (map line_block closed_lines)
+    /// After the closed lines of the open page a line opens, with this gap above it.
+    #[inline]
+    fn open_line(&mut self, gap: Option<u8>)
+        ensures matches { (before : PlacesModel) (layout : Layout) (closed_lines : List Line)
+            → Matches (record self.old { lines = before }) layout
+            → MatchesBlocks self.old.lines (map line_block closed_lines)
             → Matches self.new (record layout { lines = closed_lines; characters = []; gap = gap }) }
-        ensures small { AreSmall self.old → AreWithin 256 lines → AreSmall self.new }
-        ensures pages { self.new.pages ≡ self.old.pages }
+        ensures small { self.old.pages ≤ 5 → AreWithin 256 self.old.lines → AreSmall self.new }
+        ensures same { self.new.pages ≡ self.old.pages }
     {
-        self.lines = lines;
         self.characters = Places::empty();
         self.height = 0;
         self.spacing = 0;
@@ -169,8 +180,7 @@ impl<'a> Totals<'a> {
             → (grown ≡ false → lines_fit face.now (standing layout) ≡ true) → result ≡ open_fits face.now layout }
         ensures within { IsTrue result → AreWithin 256 self.now.characters }
     {
-        self.characters.fit(u32::from(face.width()))
-            && (!grown || self.standing().fit(u32::from(face.height())))
+        self.characters.fit(u32::from(face.width())) && (!grown || self.standing_fits(face))
     }
 
     /// A character joins the open line, or does not fit.
@@ -244,11 +254,11 @@ impl<'a> Totals<'a> {
             (λ (layout : Layout). room_fault (lines_fit face.now (layout.lines ++ open_line layout ∷ [])))
             (λ (layout : Layout). with_line layout gap) }
     {
-        let lines = self.lines_with_open();
-        if !lines.fit(u32::from(face.height())) {
+        self.close_line();
+        if !self.lines.fit(u32::from(face.height())) {
             return Some(MultiFaultCode::TextTooBig);
         }
-        self.open_line(lines, gap);
+        self.open_line(gap);
         None
     }
 
@@ -257,7 +267,12 @@ impl<'a> Totals<'a> {
         requires small { AreSmall self.now }
         ensures { (layout : Layout) → Matches self.now layout → result ≡ lines_fit face.now (closed layout) }
     {
-        self.closed().fit(u32::from(face.height()))
+        let whole = u32::from(face.height());
+        if self.counts() {
+            self.lines.fit_with(self.line_block(), whole)
+        } else {
+            self.lines.fit(whole)
+        }
     }
 
     /// The open page is closed and the next one opens, or it does not fit, or there are pages enough.
@@ -273,7 +288,8 @@ impl<'a> Totals<'a> {
         if self.pages + 1 >= MAX_PAGES {
             return Some(MultiFaultCode::TooManyPages);
         }
-        self.open_line(Places::empty(), None);
+        self.lines = Places::empty();
+        self.open_line(None);
         self.pages += 1;
         None
     }
@@ -287,14 +303,14 @@ impl<'a> Totals<'a> {
         if part.is(self.part) {
             return None;
         }
-        let lines = self.closed();
-        if lines.is_taken(part.place()) {
+        self.close_part();
+        if self.lines.is_taken(part.place()) {
             return Some(MultiFaultCode::TagConflict);
         }
-        if !lines.fit(u32::from(face.height())) {
+        if !self.lines.fit(u32::from(face.height())) {
             return Some(MultiFaultCode::TextTooBig);
         }
-        self.open_line(lines, None);
+        self.open_line(None);
         self.part = part;
         None
     }
@@ -445,7 +461,7 @@ fn begins_plainly(text: &[u8]) -> bool {
 
 /// The octets after those that spell characters of the font by themselves, each behind the ones before it, as long as
 /// these take less room than the limit; and how much they take.
-#[tactic(auto, unfolding(crate::specs::Runs::run_after))]
+#[tactic(auto, using(crate::proofs::WidthRuns::steps), unfolding(crate::specs::Runs::run_after))]
 #[inline(never)]
 fn run_after<'t>(font: &Font, limit: u32, text: &'t [u8], size: u32) -> (&'t [u8], u32)
     requires size { size ≤ 256 }
@@ -458,13 +474,7 @@ fn run_after<'t>(font: &Font, limit: u32, text: &'t [u8], size: u32) -> (&'t [u8
     let mut rest = text;
     let mut size = size;
     'octets: while let [octet, more @ ..] = rest {
-        if *octet == b'[' || *octet == b']' {
-            return (rest, size);
-        }
-        let Some(glyph) = font.glyph(u16::from(*octet)) else {
-            return (rest, size);
-        };
-        let longer = size + spacing + u32::from(glyph.width());
+        let longer = size + spacing + u32::from(font.plain_width(*octet));
         if longer >= limit {
             return (rest, size);
         }

@@ -1,4 +1,4 @@
-use Rattle.std.proofs.Common.{◌∷◌, ◌∙◌, arith}
+use Rattle.std.proofs.Common.{arith}
 use Rattle.dms_face.proofs.checking.walk.Goals as goal
 
 pub loop-outcome-preserved : goal.loop-outcome-preserved

@@ -1,4 +1,4 @@
-use Rattle.std.proofs.Common.{◌||◌, ◌∙◌, arith}
+use Rattle.std.proofs.Common.{arith}
 use Rattle.dms_face.proofs.PlaceLaws.{taken_here}
 use Rattle.dms_face.proofs.room.Places.is_taken.Goals as goal
 
