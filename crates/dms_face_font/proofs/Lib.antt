@@ -8,3 +8,4 @@ pub mod GlyphSearch
 pub mod Limits
 pub mod Bitmaps
 pub mod WidthLaws
+pub mod HeldLaws

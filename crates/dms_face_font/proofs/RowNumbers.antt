@@ -31,7 +31,7 @@ pub half_is : (bit : Bool) (n : ℕ) → (bit_value bit + 2 * n) / 2 ≡ n
 half_is bit n = omega (arith, bit_value_below bit)
 
 -- the bits of a number above its lowest are those of its half
-next_bits : (n a width : ℕ) → map (is_bit n) (range_with_len (a + 1) width) ≡ map (is_bit (n / 2)) (range_with_len a width)
+pub next_bits : (n a width : ℕ) → map (is_bit n) (range_with_len (a + 1) width) ≡ map (is_bit (n / 2)) (range_with_len a width)
 next_bits n a zero = refl
 next_bits n a (suc width) =
     let next : a + 1 ≡ suc a = omega arith in

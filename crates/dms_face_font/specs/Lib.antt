@@ -2,6 +2,7 @@
 pub mod Glyph
 pub mod Font
 pub mod Widths
+pub mod Held
 pub mod FontText
 pub mod Fault
 pub mod FaultTexts

@@ -4,6 +4,7 @@ ghost use Rattle.std.specs.Prelude.{◌≡◌, ℕ, ◌+◌, ◌*◌, ◌/◌, �
 ghost use Rattle.dms_face_font.specs.Glyph.{lit_at, is_bit, bits_of, rows_of, row_number, glyph_from, IsPicture};
 ghost use Rattle.std.specs.Int.Digits.{AllBelowBase};
 ghost use Rattle.dms_face_font.specs.Glyph.{bitmap_octets, octets_holding};
+ghost use Rattle.dms_face_font.specs.Held.{left_of, AreHeld};
 ghost use Rattle.dms_face_font.specs.Font.{IsGlyph};
 
 use std::marker::Model;
@@ -135,20 +136,6 @@ fn cleared(octets: Vec<u8>, count: usize) -> Vec<u8>
     octets
 }
 
-/// The rows of a picture whose bits these octets are, as numbers.
-fn rows(width: u8, height: u8, bits: &[u8]) -> [u32; MAX_HEIGHT]
-    requires width { width ≤ 32 }
-    requires height { height ≤ 32 }
-    requires room { width * height ≤ 8 * length bits.now }
-    ensures { take height result ≡ map row_number (rows_of width height (bits_of bits.now)) }
-{
-    let mut rows = [0; MAX_HEIGHT];
-    for row in 0..usize::from(height) {
-        rows[row] = row_at(bits, row * usize::from(width), width);
-    }
-    rows
-}
-
 /// For each octet the number whose lowest bit is its high one.
 const REVERSED: [u8; 256] = [
     0x00, 0x80, 0x40, 0xc0, 0x20, 0xa0, 0x60, 0xe0, 0x10, 0x90, 0x50, 0xd0, 0x30, 0xb0, 0x70, 0xf0,
@@ -169,28 +156,80 @@ const REVERSED: [u8; 256] = [
     0x0f, 0x8f, 0x4f, 0xcf, 0x2f, 0xaf, 0x6f, 0xef, 0x1f, 0x9f, 0x5f, 0xdf, 0x3f, 0xbf, 0x7f, 0xff,
 ];
 
-/// The row that begins at this bit, as a number.
-fn row_at(bits: &[u8], first: usize, width: u8) -> u32
-    requires width { width ≤ 32 }
-    requires room { first + width ≤ 8 * length bits.now }
-    requires small { first ≤ 1024 }
-    ensures { result ≡ row_number (take width (drop first (bits_of bits.now))) }
-{
-    let end = (first + usize::from(width) + 7) / 8;
-    let number = number_of(&bits[first / 8..end]);
-    ((number >> (first % 8)) % (1 << width)) as u32
+/// Bits that are read from the first: those that are held, the lowest one first, and the octets behind them, the high
+/// bit of each first.
+#[derive(Drop)]
+struct HeldBits<'a> {
+    held: u64,
+    /// How many bits are held.
+    count: u32,
+    octets: &'a [u8],
 }
 
-/// The bits of a few octets as one number: its lowest bit is the high one of the first octet.
-fn number_of(octets: &[u8]) -> u64
-    requires { length octets.now ≤ 5 }
-    ensures { result ≡ row_number (bits_of octets.now) }
+/// Holds the bits of one octet more.
+#[inline]
+fn hold_octet(bits: &mut HeldBits<'_>)
+    requires held { AreHeld bits.old }
+    requires few { bits.old.count < 32 }
+    requires some { 1 ≤ length bits.old.octets.now }
+    ensures left { left_of bits.new ≡ left_of bits.old }
+    ensures held { AreHeld bits.new }
+    ensures more { bits.new.count ≡ bits.old.count + 8 }
 {
-    let mut number = 0_u64;
-    let mut index = octets.len();
-    'octets: while index > 0 {
-        index -= 1;
-        number = 256 * number + u64::from(REVERSED[usize::from(octets[index])]);
+    let digit = REVERSED[usize::from(bits.octets[0])];
+    bits.held += u64::from(digit) << bits.count;
+    bits.count += 8;
+    bits.octets = &bits.octets[1..];
+}
+
+/// Holds octets until there are so many bits.
+#[inline]
+fn hold(bits: &mut HeldBits<'_>, width: u32)
+    requires held { AreHeld bits.old }
+    requires width { width ≤ 32 }
+    requires room { width ≤ length (left_of bits.old) }
+    ensures left { left_of bits.new ≡ left_of bits.old }
+    ensures held { AreHeld bits.new }
+    ensures enough { width ≤ bits.new.count }
+{
+    'octets: while bits.count < width {
+        hold_octet(bits);
     }
-    number
+}
+
+/// Takes so many bits, as a number.
+#[inline]
+fn take_row(bits: &mut HeldBits<'_>, width: u32) -> u32
+    requires held { AreHeld bits.old }
+    requires width { width ≤ 32 }
+    requires room { width ≤ length (left_of bits.old) }
+    ensures row { result ≡ row_number (take width (left_of bits.old)) }
+    ensures left { left_of bits.new ≡ drop width (left_of bits.old) }
+    ensures held { AreHeld bits.new }
+{
+    hold(bits, width);
+    let row = bits.held % (1 << width);
+    bits.held >>= width;
+    bits.count -= width;
+    row as u32
+}
+
+/// The rows of a picture whose bits these octets are, as numbers.
+fn rows(width: u8, height: u8, bits: &[u8]) -> [u32; MAX_HEIGHT]
+    requires width { width ≤ 32 }
+    requires height { height ≤ 32 }
+    requires room { width * height ≤ 8 * length bits.now }
+    ensures { take height result ≡ map row_number (rows_of width height (bits_of bits.now)) }
+{
+    let width = u32::from(width);
+    let mut left = HeldBits {
+        held: 0,
+        count: 0,
+        octets: bits,
+    };
+    let mut rows = [0; MAX_HEIGHT];
+    for row in 0..usize::from(height) {
+        rows[row] = take_row(&mut left, width);
+    }
+    rows
 }
