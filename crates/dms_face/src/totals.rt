@@ -9,10 +9,12 @@ ghost use Rattle.dms_face.specs.Runs.{run_after, IsRunning};
 ghost use Rattle.dms_face.specs.Walked.{IsWalkedTo};
 ghost use Rattle.dms_multi.specs.declared.item.Item.TheVariants.{JustLine};
 ghost use Rattle.dms_face.specs.Face.{fit};
+ghost use Rattle.dms_face.specs.Justification.{place_of_part};
+ghost use Rattle.dms_face.specs.declared.room.Block.{Block as BlockModel};
 ghost use Rattle.dms_face.specs.Layout.{Layout, Line, is_blank, under, open_line, standing, closed, has_line_in};
 ghost use Rattle.dms_face.specs.Layout.{with_character, with_line, with_page, with_part, with_item, blank_layout};
 ghost use Rattle.dms_face.specs.Room.{line_block, lines_fit};
-ghost use Rattle.dms_face.specs.Fit.{misuse};
+ghost use Rattle.dms_face.specs.Fit.{is_taken, misuse};
 ghost use Rattle.dms_face.specs.OnePass.{room_fault, open_fits, page_fault, part_fault, local_fault};
 ghost use Rattle.dms_face.specs.Totals.{MatchesBlocks, AreWithin, Matches, Holds, AreSmall, Takes};
 
@@ -294,6 +296,15 @@ impl<'a> Totals<'a> {
         None
     }
 
+    /// Whether a closed line of the open page stands in a part or after it.
+    #[inline]
+    fn is_taken(&self, part: Part) -> bool
+        ensures { (blocks : List BlockModel) → MatchesBlocks self.now.lines blocks
+            → result ≡ is_taken (place_of_part part) blocks }
+    {
+        self.lines.is_taken(part.place())
+    }
+
     /// A line opens in another part of the page, or may not, or what is closed does not fit.
     fn take_part(&mut self, face: &Face, part: Part) -> Option<MultiFaultCode>
         requires { AreSmall self.old }
@@ -304,7 +315,7 @@ impl<'a> Totals<'a> {
             return None;
         }
         self.close_part();
-        if self.lines.is_taken(part.place()) {
+        if self.is_taken(part) {
             return Some(MultiFaultCode::TagConflict);
         }
         if !self.lines.fit(u32::from(face.height())) {

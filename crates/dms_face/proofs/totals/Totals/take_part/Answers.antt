@@ -16,8 +16,7 @@ returns c =
     let apart : (layout : Layout) → Holds face before layout → same_part part layout.style.part ≡ false = λ layout holds.
     ap (same_part part) (sym holds.matches.part) ∙ sym c.is.ensures ∙ c.if-is.false in
     let free : (layout : Layout) → Holds face before layout → is_taken (place_of_part part) (map line_block (closed layout)) ≡ false = λ layout holds.
-    ap (λ place. is_taken place (map line_block (closed layout))) (sym c.place.ensures)
-    ∙ sym (c.is_taken.ensures (map line_block (closed layout)) (c.close_part.ensures.matches layout holds.matches)) ∙ c.if-is_taken.false in
+    sym (c.is_taken.ensures (map line_block (closed layout)) (c.close_part.ensures.matches layout holds.matches)) ∙ c.if-is_taken.false in
     let room : (layout : Layout) → Holds face before layout → lines_fit face (closed layout) ≡ true = λ layout holds.
     ap (λ whole. blocks_fit whole (map line_block (closed layout))) (sym (c.from.ensures ∙ c.height.ensures.value))
     ∙ sym (c.fit.ensures.fit (map line_block (closed layout)) (c.close_part.ensures.matches layout holds.matches)) ∙ c.if-not-fit.false in
