@@ -1,5 +1,6 @@
 -- The octets that are written of a name are those of its content.
-use Rattle.std.proofs.Common.{append-nil, ◌≡◌, ℕ, ◌^◌, ◌<◌, ◌≤◌, length, length-append, List, [], ◌∷◌, ◌++◌, refl, sym, ◌∙◌, ap, subst, arith}
+use Rattle.std.proofs.Math.Seq.{take-append_seam}
+use Rattle.std.proofs.Common.{append-nil, take, ◌≡◌, ℕ, ◌^◌, ◌<◌, ◌≤◌, length, length-append, List, [], ◌∷◌, ◌++◌, refl, sym, ◌∙◌, ap, subst, arith}
 use Rattle.dms_wire_ber.specs.ObjectIdentifier.{IsName}
 use Rattle.dms_wire_ber.specs.ObjectIdentifier.{sub_identifier_octets, name_octets}
 use Rattle.dms_wire_ber.specs.ObjectIdentifier.{IsNameInLimits}
@@ -95,3 +96,9 @@ numbered ns octets last few small number is =
     let spelled : IsName name octets =
     subst (λ xs. IsName name xs) (numbered_octets ns last small ∙ sym is) (name_spelled name (numbered_in_limits ns last few small number)) in
     (spelled, (name_only name octets spelled).1)
+
+-- ---- octets with others behind them
+
+pub padded : (n : ℕ) (octets front behind : List ℕ) → n ≡ length octets → front ≡ octets → take n (front ++ behind) ≡ octets
+padded n octets front behind is same =
+    ap (λ k. take k (front ++ behind)) is ∙ ap (λ xs. take (length octets) (xs ++ behind)) same ∙ take-append_seam octets behind

@@ -1,6 +1,6 @@
 //! The names of instances as the content octets of object identifiers.
 
-ghost use Rattle.std.specs.Prelude.{◌≡◌, ◌++◌, ◌+◌, ◌≤◌, ◌∷◌, length};
+ghost use Rattle.std.specs.Prelude.{◌≡◌, ◌++◌, ◌+◌, ◌≤◌, ◌<◌, ◌∷◌, length};
 ghost use Rattle.arrayvec.specs.ArrayVec.{array_vec_len};
 ghost use Rattle.dms_wire_ber.specs.ObjectIdentifier.{sub_identifier_octets};
 ghost use Rattle.dms_mib.specs.declared.instance.Instance.TheVariants as kinds;
@@ -26,11 +26,15 @@ type Octets = ArrayVec<u8, MAX_NAME>;
 /// An instance with the content octets of its name (X.690, 8.19).
 #[derive(Drop)]
 pub struct Name {
+    /// The octets of the name, and zeros behind them.
+    octets: [u8; MAX_NAME],
     instance: Instance,
-    octets: Octets,
+    /// How many octets the name has.
+    length: u8,
 }
 
 impl Model for Name {
+    ghost use Rattle.std.specs.Prelude.{◌≤◌, take};
     ghost use Rattle.dms_mib.specs.declared.instance.Instance.{Instance};
     ghost use Rattle.dms_mib.specs.NameOctets.{IsNamed};
 
@@ -38,11 +42,12 @@ impl Model for Name {
 
     ghost view = { λ n. n.instance };
 
-    ghost invariant = { λ n. IsNamed n.instance n.octets.items };
+    ghost invariant = { λ n. (n.length ≤ 20) × IsNamed n.instance (take n.length n.octets) };
 }
 
 impl Name {
     /// The name of an instance.
+    #[inline(always)]
     pub fn of(instance: Instance) -> Name
         ensures { result ≡ instance }
     {
@@ -63,7 +68,7 @@ impl Name {
     pub fn oid(&self) -> Oid<'_>
         ensures { result ≡ name_of self.now }
     {
-        Oid::known(self.octets.as_slice())
+        Oid::known(&self.octets[..usize::from(self.length)])
     }
 }
 
@@ -105,25 +110,72 @@ impl NumberedName {
     }
 }
 
+#[inline(never)]
 fn of_scalar(object: Scalar) -> Name
     ensures { result ≡ kinds.Scalar object }
 {
     let (group, number) = object.number();
+    let [a, b, c, d, e, f, g, h, i, j] = DMS;
     Name {
         instance: Instance::Scalar(object),
-        octets: below_dms(&[group, number, 0]),
+        octets: [
+            a, b, c, d, e, f, g, h, i, j, group, number, 0, 0, 0, 0, 0, 0, 0, 0,
+        ],
+        length: 13,
     }
 }
 
+/// The name of a cell: both numbers of its row have one octet, but for rows from number 128.
+#[inline(always)]
 fn of_cell(column: Column, memory: u8, number: u16) -> Name
+    ensures { result ≡ kinds.Cell column (record { memory = memory; number = number }) }
+{
+    if memory < 128 && number < 128 {
+        of_short_cell(column, memory, number as u8)
+    } else {
+        of_long_cell(column, memory, number)
+    }
+}
+
+/// The name of a cell where both numbers of its row are below 128.
+#[inline(never)]
+fn of_short_cell(column: Column, memory: u8, number: u8) -> Name
+    requires memory { memory < 128 }
+    requires number { number < 128 }
+    ensures { result ≡ kinds.Cell column (record { memory = memory; number = number }) }
+{
+    let [a, b, c, d, e, f, g, h, i, j] = DMS;
+    let entry = column.number();
+    Name {
+        instance: Instance::Cell(
+            column,
+            RowId {
+                memory,
+                number: u16::from(number),
+            },
+        ),
+        octets: [
+            a, b, c, d, e, f, g, h, i, j, 5, 8, 1, entry, memory, number, 0, 0, 0, 0,
+        ],
+        length: 16,
+    }
+}
+
+/// The name of a cell, its numbers as long as they are.
+#[inline(never)]
+fn of_long_cell(column: Column, memory: u8, number: u16) -> Name
     ensures { result ≡ kinds.Cell column (record { memory = memory; number = number }) }
 {
     let mut octets = below_dms(&[5, 8, 1, column.number()]);
     push_sub_identifier(&mut octets, u16::from(memory));
     push_sub_identifier(&mut octets, number);
+    let length = octets.len();
+    let mut padded = [0; MAX_NAME];
+    padded[..length].copy_from_slice(octets.as_slice());
     Name {
         instance: Instance::Cell(column, RowId { memory, number }),
-        octets,
+        octets: padded,
+        length: length as u8,
     }
 }
 
