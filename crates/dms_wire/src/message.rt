@@ -269,7 +269,7 @@ fn after_version(octets: &[u8], end: usize) -> Result<&[u8], WireFault>
 }
 
 /// The octets after a version in any form, which is 0, as `after_version`.
-#[inline(never)]
+#[inline]
 #[tactic(auto, unfolding(crate::specs::Reading::version_at))]
 fn after_any_version(octets: &[u8], end: usize) -> Result<&[u8], WireFault>
     requires { length octets.now ≤ end }

@@ -107,7 +107,7 @@ pub fn read_integer(octets: &[u8], end: usize) -> Result<(i64, &[u8]), WireFault
 }
 
 /// An INTEGER in any form, and the octets after it, as `read_integer`.
-#[inline(never)]
+#[inline]
 #[tactic(auto, unfolding(crate::specs::Reading::integer_at))]
 fn read_any_integer(octets: &[u8], end: usize) -> Result<(i64, &[u8]), WireFault>
     requires { length octets.now ≤ end }

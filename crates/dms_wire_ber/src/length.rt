@@ -1,6 +1,7 @@
 //! The length of an element's content: reading it in any form, writing it in the shortest (X.690, 8.1.3).
 
-ghost use Rattle.std.specs.Prelude.{◌≡◌, ◌+◌, ◌<◌, ◌≤◌, ◌++◌, length, slice_index, IfOk};
+ghost use Rattle.std.specs.Prelude.{◌≡◌, ℕ, ◌+◌, ◌-◌, ◌<◌, ◌≤◌, ◌++◌, ◌∷◌, length, drop, Ok, Err};
+ghost use Rattle.std.specs.Prelude.{IfOk, IfSome, IfNone};
 ghost use Rattle.arrayvec.specs.ArrayVec.{array_vec_len};
 ghost use Rattle.std.specs.Int.Digits.{number_from_digits, digits_of};
 ghost use Rattle.dms_wire_ber.specs.Length.{short_length};
@@ -25,35 +26,54 @@ pub fn read_length(octets: &[u8], end: usize) -> Result<(usize, &[u8]), WireFaul
         [] => Err(fault_at(FaultKind::Truncated, end)),
         [first, rest @ ..] => {
             if *first < 128 {
-                Ok((*first as usize, rest))
-            } else {
-                long_length(octets, end)
+                return Ok((*first as usize, rest));
             }
+            let Some(count) = long_length(*first, rest) else {
+                return Err(length_fault(*first, rest, end));
+            };
+            Ok((count, &rest[usize::from(*first - 128)..]))
         }
     }
 }
 
-/// The length where its first octet is 128 or more. Such lengths are rare: out of line, they cost the others nothing.
+/// The length of which the first octet is 128 or more, where it has an accepted form; `rest` is what follows that octet,
+/// and begins with as many digits as it says. Such lengths are rare: out of line, and answered as a number alone, they
+/// cost the others nothing.
 #[cold]
 #[inline(never)]
 #[tactic(auto, unfolding(crate::specs::Reading::length_at))]
-fn long_length(octets: &[u8], end: usize) -> Result<(usize, &[u8]), WireFault>
-    requires within { length octets.now ≤ end }
-    requires some { 0 < length octets.now }
-    requires long { 128 ≤ slice_index octets.now 0 }
-    ensures exact { Gives (λ x. (x.0, x.1.now)) result (length_at end octets.now) }
-    ensures rest { IfOk result (λ x. length x.1.now < length octets.now) }
+fn long_length(first: u8, rest: &[u8]) -> Option<usize>
+    requires { 128 ≤ first }
+    ensures found { IfSome result (λ n. (end : ℕ) → length_at end (first ∷ rest.now)
+        ≡ Ok (n, drop (first - 128) rest.now)) }
+    ensures digits { IfSome result (λ _. first - 128 ≤ length rest.now) }
+    ensures none { IfNone result (128 < first → first ≤ 132 → length rest.now < first - 128) }
 {
-    let (first, rest) = (octets[0], &octets[1..]);
     if first > 132 || first == 128 {
-        return Err(fault_at(FaultKind::BadLength, offset_of(octets, end)));
+        return None;
     }
-    let count = (first - 128) as usize;
+    let count = usize::from(first - 128);
     if rest.len() < count {
-        return Err(fault_at(FaultKind::Truncated, end));
+        return None;
     }
-    let (digits, rest) = rest.split_at(count);
-    Ok((big_endian(digits) as usize, rest))
+    let (digits, _) = rest.split_at(count);
+    Some(big_endian(digits) as usize)
+}
+
+/// What is wrong with a length of which `long_length` is none.
+#[cold]
+#[inline(never)]
+#[tactic(auto, unfolding(crate::specs::Reading::length_at))]
+fn length_fault(first: u8, rest: &[u8], end: usize) -> WireFault
+    requires within { length rest.now < end }
+    requires long { 128 ≤ first }
+    requires none { 128 < first → first ≤ 132 → length rest.now < first - 128 }
+    ensures { length_at end (first ∷ rest.now) ≡ Err result }
+{
+    if first > 132 || first == 128 {
+        return fault_at(FaultKind::BadLength, offset_of(rest, end) - 1);
+    }
+    fault_at(FaultKind::Truncated, end)
 }
 
 /// How many octets the shortest form of the length of a content takes.

@@ -292,6 +292,7 @@ pub fn read_name(octets: &[u8], end: usize) -> Result<(Oid<'_>, &[u8]), WireFaul
 
 /// The object identifier with this content, as `Oid::of`; its clauses say it by `is_name` and `numbers_of`, which
 /// compute.
+#[inline(always)]
 pub fn name_of(content: &[u8]) -> Option<Oid<'_>>
     ensures some { IfSome result (λ o. o ≡ numbers_of content.now) }
     ensures exact { IsSome result ↔ IsTrue (is_name content.now) }
