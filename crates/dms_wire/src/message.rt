@@ -601,16 +601,21 @@ fn size_of_pdu_content(header: &Header<'_>, size: usize) -> usize
     size_of_numbers(header) + size_of_element(size)
 }
 
-/// How many octets the request-id, the error-status and the error-index take.
+/// How many octets the request-id, the error-status and the error-index take: most often three the last two.
 #[inline]
 #[tactic(auto, using(crate::proofs::Sizes::sizes), unfolding(crate::specs::Canonical::numbers_octets))]
 fn size_of_numbers(header: &Header<'_>) -> usize
     ensures exact { result ≡ length (numbers_octets (message_around header.now [])) }
     ensures small { result < 60 }
 {
-    size_of_integer(&header.request)
-        + size_of_integer(&header.status)
-        + size_of_integer(&header.index)
+    match octets_of_status(header) {
+        Some(_) => size_of_integer(&header.request) + 6,
+        None => {
+            size_of_integer(&header.request)
+                + size_of_integer(&header.status)
+                + size_of_integer(&header.index)
+        }
+    }
 }
 
 /// Writes the request-id, the error-status and the error-index.

@@ -141,6 +141,7 @@ pub(crate) fn put_value(out: &mut Out, value: &Value<'_>)
 {
     match value {
         Value::Integer(number) => put_integer(out, number),
+        Value::Octets(octets) => put_octets(out, universal::OCTET_STRING, octets),
         Value::Null => put_empty(out, universal::NULL),
         _ => put_any_value(out, value),
     }
