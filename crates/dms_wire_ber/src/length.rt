@@ -36,9 +36,9 @@ pub fn read_length(octets: &[u8], end: usize) -> Result<(usize, &[u8]), WireFaul
     }
 }
 
-/// The length of which the first octet is 128 or more, where it has an accepted form; `rest` is what follows that octet,
-/// and begins with as many digits as it says. Such lengths are rare: out of line, and answered as a number alone, they
-/// cost the others nothing.
+/// The length of which the first octet is 128 or more, where its form is accepted; `rest` follows that octet and begins
+/// with as many digits as it says. Such lengths are rare: out of line, and answered as a number alone, they cost the
+/// others nothing.
 #[cold]
 #[inline(never)]
 #[tactic(auto, unfolding(crate::specs::Reading::length_at))]
