@@ -20,10 +20,11 @@ ghost use Rattle.dms_sign.specs.Events.{after_settling, restored};
 
 use crate::config::{Config, ConfigFault, are_communities};
 use crate::known_texts::KnownTexts;
+use crate::sign::typed::matrix_is_typed;
 use arrayvec::ArrayVec;
 use dms_codes::{Activation, MAX_COMMUNITY, Order};
 use dms_face::{Defaults, Face};
-use dms_sign_access::{Fallbacks, Reports, SignSettings};
+use dms_sign_access::{BLANK_CODE, Fallbacks, Reports, SignSettings};
 use dms_table::row::copy_of;
 use dms_table::{Cause, Mode, Shown, Table};
 use std::alloc::Global;
@@ -111,8 +112,7 @@ impl Sign {
         ensures { result ≡ start (record { face = face; reader = reader.items; writer = writer.items }) table }
     {
         let defaults = face.defaults();
-        // what their clauses say, how large a matrix is at most, is part of the invariant of a sign
-        let _ = (face.width(), face.height());
+        matrix_is_typed(&face);
         Sign {
             face,
             reader,
@@ -121,7 +121,7 @@ impl Sign {
             settings: SignSettings::new(defaults),
             silent_seconds: 0,
             shown: Shown::blank(&defaults, Mode::PowerRecovery),
-            source: [7, 0, 1, 0, 0],
+            source: BLANK_CODE,
             shown_at_power_loss: Shown::blank(&defaults, Mode::PowerRecovery),
             reports: Reports::new(),
             powered: true,

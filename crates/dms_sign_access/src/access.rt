@@ -11,7 +11,7 @@ ghost use Rattle.dms_sign_access.specs.Access.{is_command, number_in, octets_in,
 ghost use Rattle.dms_sign_access.specs.Access.{Activate, SetRemaining, setting_of, object_write, cell_write, write_of};
 ghost use Rattle.dms_sign_access.specs.ChangeView.{write_by, IsNumberOf, IsChange};
 
-use dms_codes::{Ask, MAX_OWNER, MAX_TEXT, RowId, memory};
+use dms_codes::{Ask, MAX_OWNER, MAX_TEXT, Memory, RowId};
 use dms_face::Face;
 use dms_mib::{Access, Column, Instance, Scalar, Syntax};
 use dms_table::Field;
@@ -47,10 +47,10 @@ impl<'a> Change<'a> {
 }
 
 /// Changeable and volatile rows can be written.
-fn has_writable_rows(kind: u8) -> bool
-    ensures { result ≡ has_writable_rows kind }
+fn is_writable_row(id: RowId) -> bool
+    ensures { result ≡ has_writable_rows id.memory }
 {
-    kind == memory::CHANGEABLE || kind == memory::VOLATILE
+    matches!(id.memory(), Some(Memory::Changeable | Memory::Volatile))
 }
 
 fn is_settable_column(column: Column) -> bool
@@ -72,7 +72,7 @@ pub fn is_settable(instance: Instance) -> bool
 {
     match instance {
         Instance::Scalar(object) => is_settable_object(object),
-        Instance::Cell(column, id) => is_settable_column(column) && has_writable_rows(id.memory),
+        Instance::Cell(column, id) => is_settable_column(column) && is_writable_row(id),
     }
 }
 

@@ -23,4 +23,4 @@ pub use access::{Change, is_settable, write_of};
 pub use cells::{cell_value, number_value, shown_value, small_value};
 pub use met_names::{Slots, mark_name, was_given};
 pub use reports::{ReportFault, Reports};
-pub use settings::{Fallbacks, SignSettings};
+pub use settings::{BLANK_CODE, Fallbacks, SignSettings};

@@ -1,6 +1,6 @@
 //! What a SET assigns beside the fields of rows.
 
-ghost use Rattle.std.specs.Prelude.{◌≡◌, [], ◌∷◌};
+ghost use Rattle.std.specs.Prelude.{◌≡◌, ◌≤◌, [], ◌∷◌};
 ghost use Rattle.dms_sign_access.specs.declared.access.Change.TheVariants as changes;
 ghost use Rattle.dms_sign_access.specs.Access.{SetNumber, SetCode};
 ghost use Rattle.dms_sign_access.specs.ChangeView.{write_by, IsChange};
@@ -11,6 +11,10 @@ use crate::access::Change;
 use dms_codes::memory;
 use dms_face::Defaults;
 use dms_mib::Scalar;
+
+/// The code of blank message 1, which a sign shows as it is made: its type of memory, its number and its checksum
+/// (MessageIDCode).
+pub const BLANK_CODE: [u8; 5] = [memory::BLANK, 0, 1, 0, 0];
 
 /// The codes of the messages that a sign activates by itself, each the five octets that were written (MessageIDCode).
 #[derive(Clone, Copy, Debug, PartialEq, Eq)]
@@ -45,14 +49,13 @@ impl SignSettings {
         ensures octets { AreDefaultsInRange defaults }
     {
         are_octets(&defaults);
-        let code = [memory::BLANK, 0, 1, 0, 0];
         SignSettings {
             fallbacks: Fallbacks {
-                short_power_recovery: code,
-                long_power_recovery: code,
-                power_loss: code,
-                end_duration: code,
-                communications_loss: code,
+                short_power_recovery: BLANK_CODE,
+                long_power_recovery: BLANK_CODE,
+                power_loss: BLANK_CODE,
+                end_duration: BLANK_CODE,
+                communications_loss: BLANK_CODE,
             },
             short_power_loss_time: 0,
             time_comm_loss: 0,
@@ -108,43 +111,21 @@ fn assign_code(fallbacks: &mut Fallbacks, object: Scalar, code: &[u8; 5])
     }
 }
 
-/// Each default is an octet.
+/// Each default is an octet, as its type says.
 fn are_octets(defaults: &Defaults)
     ensures { AreDefaultsInRange defaults.now }
 {
-    nine_octets(
-        defaults.background,
-        defaults.foreground,
-        defaults.flash_on,
-        defaults.flash_off,
-        defaults.font,
-        defaults.line,
-        defaults.page,
-        defaults.on,
-        defaults.off,
-    );
+    is_octet(defaults.background);
+    is_octet(defaults.foreground);
+    is_octet(defaults.flash_on);
+    is_octet(defaults.flash_off);
+    is_octet(defaults.font);
+    is_octet(defaults.line);
+    is_octet(defaults.page);
+    is_octet(defaults.on);
+    is_octet(defaults.off);
 }
 
-fn nine_octets(
-    background: u8,
-    foreground: u8,
-    flash_on: u8,
-    flash_off: u8,
-    font: u8,
-    line: u8,
-    page: u8,
-    on: u8,
-    off: u8,
-)
-    ensures { AreDefaultsInRange (record {
-      background = background;
-      foreground = foreground;
-      flash_on = flash_on;
-      flash_off = flash_off;
-      font = font;
-      line = line;
-      page = page;
-      on = on;
-      off = off;
-    }) }
+fn is_octet(number: u8)
+    ensures { number ≤ 255 }
 {}

@@ -3,14 +3,23 @@
 ghost use Rattle.std.specs.Prelude.{◌≤◌};
 ghost use Rattle.std.specs.Int.Digits.{AllBelowBase};
 ghost use Rattle.dms_codes.specs.Codes.{IsMessageId};
+ghost use Rattle.dms_codes.specs.Limits.{widest_matrix, highest_matrix};
 ghost use Rattle.dms_sign_access.specs.Ranges.{AreDefaultsInRange};
 ghost use Rattle.dms_sign.specs.InRange.{AreOctets, AreFallbacksInRange, AreSettingsInRange};
 ghost use Rattle.dms_sign.specs.Typed.{IsTyped, AreTyped};
 
 use dms_codes::MessageId;
-use dms_face::Defaults;
+use dms_face::{Defaults, Face};
 use dms_sign_access::{Fallbacks, Reports, SignSettings};
 use dms_table::Shown;
+
+/// Of the matrix of a face: how large it is at most.
+pub(super) fn matrix_is_typed(face: &Face)
+    ensures width { face.now.width ≤ widest_matrix }
+    ensures height { face.now.height ≤ highest_matrix }
+{
+    let _ = (face.width(), face.height());
+}
 
 /// Of what is shown.
 pub(super) fn shown_is_typed(shown: &Shown)

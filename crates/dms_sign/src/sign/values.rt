@@ -1,6 +1,7 @@
 //! What the objects of a sign read.
 
 ghost use Rattle.std.specs.Prelude.{◌≡◌, ◌<◌, ◌*◌, option_map};
+ghost use Rattle.dms_codes.specs.Memory.{memory_number};
 ghost use Rattle.dms_table.specs.Activation.{message_at};
 ghost use Rattle.dms_table.specs.Rows.{valid_count, row_count};
 ghost use Rattle.dms_wire.specs.View.{object_value};
@@ -10,7 +11,7 @@ ghost use Rattle.dms_sign_access.specs.Cells.{number_value, cell_value};
 ghost use Rattle.dms_sign.specs.Values.{free_octets, scalar_value, value_at};
 
 use crate::sign::Sign;
-use dms_codes::{MAX_TEXT, RowId, memory};
+use dms_codes::{MAX_TEXT, Memory, RowId, memory};
 use dms_mib::{Column, Instance, Name, Scalar};
 use dms_mib_instances::Counts;
 use dms_mib_replies::{Next, NextName, Objects};
@@ -84,10 +85,10 @@ impl Sign {
     }
 
     /// The octets that are free in a type of memory.
-    fn free_octets(&self, kind: u8) -> usize
-        ensures value { result ≡ free_octets self.now.table kind }
+    fn free_octets(&self, memory: Memory) -> usize
+        ensures value { result ≡ free_octets self.now.table (memory_number memory) }
     {
-        MAX_TEXT * self.table.unused_count(kind)
+        MAX_TEXT * self.table.unused_count(memory.number())
     }
 
     /// What an object with one instance reads.
@@ -114,10 +115,10 @@ impl Sign {
             Scalar::NumPermanentMsg => count(self.table.row_count(memory::PERMANENT)),
             Scalar::NumChangeableMsg => count(self.table.valid_count(memory::CHANGEABLE)),
             Scalar::MaxChangeableMsg => count(self.table.row_count(memory::CHANGEABLE)),
-            Scalar::FreeChangeableMemory => count(self.free_octets(memory::CHANGEABLE)),
+            Scalar::FreeChangeableMemory => count(self.free_octets(Memory::Changeable)),
             Scalar::NumVolatileMsg => count(self.table.valid_count(memory::VOLATILE)),
             Scalar::MaxVolatileMsg => count(self.table.row_count(memory::VOLATILE)),
-            Scalar::FreeVolatileMemory => count(self.free_octets(memory::VOLATILE)),
+            Scalar::FreeVolatileMemory => count(self.free_octets(Memory::Volatile)),
             Scalar::ValidateMessageError => small_value(reports.validate_error),
             Scalar::ActivateMessage => Value::Octets(&reports.accepted_code),
             Scalar::MessageTimeRemaining => minutes(self.shown.minutes_left()),

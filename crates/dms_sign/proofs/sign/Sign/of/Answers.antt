@@ -13,8 +13,7 @@ pub invariant_of-result : goal.invariant_of-result
 invariant_of-result c =
     let config : ConfigModel = record { face = c.args.face; reader = c.args.reader.items; writer = c.args.writer.items } in
     let kept =
-    made_kept config c.args.table (subst (λ n. n ≤ 256) c.width.ensures.value c.width.ensures.most)
-    (subst (λ n. n ≤ 64) c.height.ensures.value c.height.ensures.most)
+    made_kept config c.args.table c.matrix_is_typed.ensures.width c.matrix_is_typed.ensures.height
     (subst (λ (d : Defaults). IsTrue (fit c.args.face.fonts d)) c.defaults-defaults.ensures.value c.defaults-defaults.ensures.fit)
     c.requires.communities (subst AreDefaultsInRange c.defaults-defaults.ensures.value c.new.ensures.octets) c.requires.reader c.requires.writer c.requires.stocked
     c.requires.octets
