@@ -14,13 +14,13 @@ _LIMITS = {"longest_text": "MAX_TEXT as u16", "longest_owner": "MAX_OWNER as u16
 _BETWEEN_WORDS = re.compile(r"(?<=[a-z])(?=[A-Z])")
 
 
-def _comment(said: str, indent: int) -> str:
+def commented(said: str, indent: int) -> str:
     """A comment of documentation, before what it is about."""
     begin = " " * indent + "/// "
     return textwrap.fill(said, 120, initial_indent=begin, subsequent_indent=begin, break_on_hyphens=False)
 
 
-def _first_sentence(said: str) -> str:
+def first_sentence(said: str) -> str:
     return re.split(r"(?<=\.) ", said.replace(" (own)", ""))[0].rstrip(".")
 
 
@@ -33,10 +33,10 @@ def _syntax(row: Object) -> str:
 def enum(name: str, said: str, rows: Iterable[Object]) -> str:
     """A type whose values are these objects."""
     variants = "\n".join(
-        f"{_comment(f'{row.name}: {_first_sentence(row.said)}', 4)}\n    {row.variant}," for row in rows
+        f"{commented(f'{row.name}: {first_sentence(row.said)}', 4)}\n    {row.variant}," for row in rows
     )
     return f"""\
-{_comment(said, 0)}
+{commented(said, 0)}
 #[derive(Clone, Copy, Debug, PartialEq, Eq)]
 pub enum {name} {{
 {variants}
@@ -46,7 +46,7 @@ pub enum {name} {{
 def _method(name: str, said: str, result: str, clause: str, inline: bool, arms: Iterable[str]) -> str:
     lines = "\n".join(f"            {arm}," for arm in arms)
     return f"""\
-{_comment(said, 4)}
+{commented(said, 4)}
 {"    #[inline]" + chr(10) if inline else ""}\
     pub fn {name}(self) -> {result}
         ensures {{ result ≡ {clause} }}
@@ -150,7 +150,7 @@ def _function(head: str, said: str, clauses: Iterable[str], matched: str, arms: 
     ensures = "\n".join(f"    ensures {clause}" for clause in clauses)
     lines = "\n".join(f"        {arm}," for arm in arms)
     return f"""\
-{_comment(said, 0)}
+{commented(said, 0)}
 #[inline]
 {head}
 {ensures}

@@ -1,19 +1,38 @@
-"""What is made of the table of objects for the settings that are numbers, for tools/objects.py: the type of them, and
-what is said of each, in the code and in the definitions of dms_sign_state."""
+"""What is made of the table of objects for the settings that are numbers, for tools/objects.py: in dms_sign_access the
+settings and what a SET assigns, in dms_sign their ranges, and in dms_sign_state the type of them and what is said of
+each; in the code, and in the definitions."""
 
 from __future__ import annotations
 
 import re
 from collections.abc import Callable, Iterable
 
-from mib_table.code import enum, impl
+from mib_table.code import commented, enum, first_sentence, impl
 from mib_table.table import BadTable, Object
 
+ASSIGNED, ASSIGNED_DEFINITIONS = (
+    f"crates/dms_sign_access/{name}" for name in ("src/settings.rt", "specs/Settings.antt")
+)
+TYPED, RANGES = (f"crates/dms_sign/{name}" for name in ("src/sign/typed.rt", "specs/InRange.antt"))
 NUMBER_SETTINGS, NUMBER_DEFINITIONS = (
     f"crates/dms_sign_state/{name}" for name in ("src/number_settings.rt", "specs/NumberSettings.antt")
 )
 _BOUNDS = (0, 65535)
+_MOST_DEFAULT = 255
 _BETWEEN_WORDS = re.compile(r"(?<=[a-z])(?=[A-Z])")
+
+# What the code calls the defaults (Defaults of dms_face).
+_DEFAULTS = {
+    "DefaultBackgroundColor": "background",
+    "DefaultForegroundColor": "foreground",
+    "DefaultFlashOn": "flash_on",
+    "DefaultFlashOff": "flash_off",
+    "DefaultFont": "font",
+    "DefaultJustificationLine": "line",
+    "DefaultJustificationPage": "page",
+    "DefaultPageOnTime": "on",
+    "DefaultPageOffTime": "off",
+}
 
 
 def _numbers(rows: list[Object]) -> list[Object]:
@@ -24,6 +43,15 @@ def _numbers(rows: list[Object]) -> list[Object]:
         if row.syntax.bounds != _BOUNDS:
             raise BadTable(f"{row.name}: a setting that is a number is one from {_BOUNDS[0]} to {_BOUNDS[1]}")
     return numbers
+
+
+def _defaults(rows: list[Object]) -> list[tuple[str, str]]:
+    """The objects that a SET assigns one of the defaults, each with what the code calls it."""
+    of = [row for row in rows if row.access == "Write" and row.node == "MultiCfg"]
+    for row in of:
+        if row.variant not in _DEFAULTS or row.syntax.kind != "Range" or row.syntax.numbers[-1] > _MOST_DEFAULT:
+            raise BadTable(f"{row.name}: no default of dms_face, which are octets")
+    return [(row.variant, _DEFAULTS[row.variant]) for row in of]
 
 
 def _words(row: Object, between: str) -> str:
@@ -109,7 +137,117 @@ abbrev pub with_number : NumberSetting → ℕ → SignSettings → SignSettings
 {puts}"""
 
 
+def _assigned(rows: list[Object]) -> str:
+    """The settings, those of a sign as it is made, and what a SET assigns one that is a number."""
+    of = _numbers(rows)
+    fields = "\n".join(
+        f"{commented(f'{row.name}: {first_sentence(row.said)}', 4)}\n    pub {_words(row, '_')}: u16," for row in of
+    )
+    first = "\n".join(f"            {_words(row, '_')}: 0," for row in of)
+    arms = [f"Scalar::{row.variant} => settings.{_words(row, '_')} = number," for row in of]
+    arms += [f"Scalar::{name} => settings.defaults.{field} = number as u8," for name, field in _defaults(rows)]
+    assigns = "\n".join(f"        {arm}" for arm in arms)
+    return f"""\
+/// The values of the objects that can be set, but for those of the message table.
+#[derive(Clone, Copy, Debug, PartialEq, Eq)]
+pub struct SignSettings {{
+    pub fallbacks: Fallbacks,
+{fields}
+    pub defaults: Defaults,
+}}
+
+impl SignSettings {{
+    /// The settings as a sign is made: each code is that of blank message 1, and the numbers are 0.
+    pub fn new(defaults: Defaults) -> SignSettings
+        ensures first {{ result ≡ first_settings defaults }}
+        ensures octets {{ AreDefaultsInRange defaults }}
+    {{
+        are_octets(&defaults);
+        SignSettings {{
+            fallbacks: blank_codes(),
+{first}
+            defaults,
+        }}
+    }}
+}}
+
+#[tactic(auto, unfolding(crate::specs::Settings::set_by))]
+fn assign_number(settings: &mut SignSettings, object: Scalar, number: u16)
+    requires {{ IsChange (changes.Number object number) }}
+    ensures {{ settings.new ≡ set_by settings.old (SetNumber object number ∷ []) }}
+{{
+    match object {{
+{assigns}
+        _ => {{}}
+    }}
+}}"""
+
+
+def _assigned_definitions(rows: list[Object]) -> str:
+    """The same in the words of clauses."""
+    of = _numbers(rows)
+    first = "\n".join(f"  {_words(row, '_')} = 0;" for row in of)
+    defaults = "\n".join(
+        f"  {field} = given (number_for scalars.{name}) writes d.{field};" for name, field in _defaults(rows)
+    )
+    numbers = "\n".join(
+        f"  {_words(row, '_')} = given (number_for scalars.{row.variant}) writes s.{_words(row, '_')};" for row in of
+    )
+    return f"""\
+-- the settings as a sign is made: the numbers are 0
+abbrev pub first_settings : Defaults → SignSettings
+first_settings defaults = record {{
+  fallbacks = first_fallbacks;
+{first}
+  defaults = defaults;
+}}
+
+-- the defaults after these writes (NTCIP 1203, multiCfg)
+abbrev pub defaults_by : Defaults → List Write → Defaults
+defaults_by d writes = record {{
+{defaults}
+}}
+
+-- the settings after these writes
+unfoldable pub set_by : SignSettings → List Write → SignSettings
+set_by s writes = record {{
+  fallbacks = codes_by s.fallbacks writes;
+{numbers}
+  defaults = defaults_by s.defaults writes;
+}}"""
+
+
+def _typed(rows: list[Object]) -> str:
+    """What the types of the settings say of their ranges."""
+    numbers = "\n".join(f"    is_of_two_octets(settings.{_words(row, '_')});" for row in _numbers(rows))
+    return f"""\
+/// Of what was set.
+pub(super) fn settings_are_typed(settings: &SignSettings)
+    ensures {{ AreSettingsInRange settings.now }}
+{{
+    fallbacks_are_typed(&settings.fallbacks);
+{numbers}
+    defaults_are_typed(settings.defaults);
+}}"""
+
+
+def _ranges(rows: list[Object]) -> str:
+    """The same in the words of clauses."""
+    names = [_words(row, "_") for row in _numbers(rows)]
+    numbers = "\n".join(f"  pub {name} : settings.{name} ≤ {_BOUNDS[1]}" for name in names)
+    return f"""\
+-- the codes and the defaults are octets, the others numbers of 16 bits
+pub record AreSettingsInRange (settings : SignSettings) : Type 0 where
+  pub fallbacks : AreFallbacksInRange settings.fallbacks
+{numbers}
+  pub defaults : AreDefaultsInRange settings.defaults"""
+
+
 SETTINGS: tuple[tuple[str, str, Callable[[list[Object]], str]], ...] = (
+    (ASSIGNED, "//", _assigned),
+    (ASSIGNED_DEFINITIONS, "--", _assigned_definitions),
+    (TYPED, "//", _typed),
+    (RANGES, "--", _ranges),
     (NUMBER_SETTINGS, "//", _code),
     (NUMBER_DEFINITIONS, "--", _definitions),
 )

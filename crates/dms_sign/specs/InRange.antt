@@ -73,12 +73,16 @@ pub record AreFallbacksInRange (fallbacks : Fallbacks) : Type 0 where
 abbrev pub most_minutes : ℕ
 most_minutes = 65535
 
--- the codes and the defaults are octets, the times numbers of 16 bits
+-- made by tools/objects.py --code
+
+-- the codes and the defaults are octets, the others numbers of 16 bits
 pub record AreSettingsInRange (settings : SignSettings) : Type 0 where
   pub fallbacks : AreFallbacksInRange settings.fallbacks
   pub short_power_loss_time : settings.short_power_loss_time ≤ 65535
-  pub time_comm_loss : settings.time_comm_loss ≤ most_minutes
+  pub time_comm_loss : settings.time_comm_loss ≤ 65535
   pub defaults : AreDefaultsInRange settings.defaults
+
+-- the end of what is made
 
 -- seconds that are at most the most minutes, or no end
 abbrev pub IsTimeInRange : Option ℕ → Type 0

@@ -4,7 +4,7 @@ ghost use Rattle.std.specs.Prelude.{◌≡◌, ◌≤◌, [], ◌∷◌};
 ghost use Rattle.dms_sign_access.specs.declared.access.Change.TheVariants as changes;
 ghost use Rattle.dms_sign_access.specs.Access.{SetNumber, SetCode};
 ghost use Rattle.dms_sign_access.specs.ChangeView.{write_by, IsChange};
-ghost use Rattle.dms_sign_access.specs.Settings.{first_settings, codes_by, set_by};
+ghost use Rattle.dms_sign_access.specs.Settings.{first_fallbacks, first_settings, codes_by, set_by};
 ghost use Rattle.dms_sign_access.specs.Ranges.{AreDefaultsInRange};
 
 use crate::access::Change;
@@ -31,48 +31,32 @@ pub struct Fallbacks {
     pub communications_loss: [u8; 5],
 }
 
+// made by tools/objects.py --code
+
 /// The values of the objects that can be set, but for those of the message table.
 #[derive(Clone, Copy, Debug, PartialEq, Eq)]
 pub struct SignSettings {
     pub fallbacks: Fallbacks,
-    /// dmsShortPowerLossTime: seconds
+    /// dmsShortPowerLossTime: Seconds up to which a loss of power is short, at first 0: none is
     pub short_power_loss_time: u16,
-    /// dmsTimeCommLoss: minutes
+    /// dmsTimeCommLoss: Minutes without an answered datagram until dmsCommunicationsLossMessage is activated; at first
+    /// 0, which is never
     pub time_comm_loss: u16,
     pub defaults: Defaults,
 }
 
 impl SignSettings {
-    /// The settings as a sign is made: each code is that of blank message 1, and the times are 0.
+    /// The settings as a sign is made: each code is that of blank message 1, and the numbers are 0.
     pub fn new(defaults: Defaults) -> SignSettings
         ensures first { result ≡ first_settings defaults }
         ensures octets { AreDefaultsInRange defaults }
     {
         are_octets(&defaults);
         SignSettings {
-            fallbacks: Fallbacks {
-                short_power_recovery: BLANK_CODE,
-                long_power_recovery: BLANK_CODE,
-                power_loss: BLANK_CODE,
-                end_duration: BLANK_CODE,
-                communications_loss: BLANK_CODE,
-            },
+            fallbacks: blank_codes(),
             short_power_loss_time: 0,
             time_comm_loss: 0,
             defaults,
-        }
-    }
-
-    /// Assigns what a binding writes beside the fields of rows.
-    #[tactic(auto, unfolding(crate::specs::Settings::set_by))]
-    pub fn assign(&mut self, change: &Change<'_>)
-        requires { IsChange change.now }
-        ensures { self.new ≡ set_by self.old (write_by change.now ∷ []) }
-    {
-        match change {
-            Change::Number(object, number) => assign_number(self, *object, *number),
-            Change::Code(object, code) => assign_code(&mut self.fallbacks, *object, code),
-            Change::Field(..) | Change::Ask(..) | Change::Activate(_) | Change::Remaining(_) => {}
         }
     }
 }
@@ -95,6 +79,36 @@ fn assign_number(settings: &mut SignSettings, object: Scalar, number: u16)
         Scalar::DefaultPageOnTime => settings.defaults.on = number as u8,
         Scalar::DefaultPageOffTime => settings.defaults.off = number as u8,
         _ => {}
+    }
+}
+
+// the end of what is made
+
+impl SignSettings {
+    /// Assigns what a binding writes beside the fields of rows.
+    #[tactic(auto, unfolding(crate::specs::Settings::set_by))]
+    pub fn assign(&mut self, change: &Change<'_>)
+        requires { IsChange change.now }
+        ensures { self.new ≡ set_by self.old (write_by change.now ∷ []) }
+    {
+        match change {
+            Change::Number(object, number) => assign_number(self, *object, *number),
+            Change::Code(object, code) => assign_code(&mut self.fallbacks, *object, code),
+            Change::Field(..) | Change::Ask(..) | Change::Activate(_) | Change::Remaining(_) => {}
+        }
+    }
+}
+
+/// Each code is that of blank message 1.
+fn blank_codes() -> Fallbacks
+    ensures { result ≡ first_fallbacks }
+{
+    Fallbacks {
+        short_power_recovery: BLANK_CODE,
+        long_power_recovery: BLANK_CODE,
+        power_loss: BLANK_CODE,
+        end_duration: BLANK_CODE,
+        communications_loss: BLANK_CODE,
     }
 }
 

@@ -6,7 +6,15 @@ import shutil
 import pytest
 from mib_table.code import CODE, COLUMN, OBJECTS, OCTETS, SCALAR
 from mib_table.pages import mib_objects
-from mib_table.settings import NUMBER_DEFINITIONS, NUMBER_SETTINGS, SETTINGS
+from mib_table.settings import (
+    ASSIGNED,
+    ASSIGNED_DEFINITIONS,
+    NUMBER_DEFINITIONS,
+    NUMBER_SETTINGS,
+    RANGES,
+    SETTINGS,
+    TYPED,
+)
 from mib_table.slots import SLOTS, shared
 from mib_table.table import TABLE, BadTable, Object, read
 
@@ -51,6 +59,28 @@ def test_a_number_that_can_be_set_has_its_line_in_a_state(tmp_path: pathlib.Path
         assert f"NumberSetting::TrialTime {arm}" in made[NUMBER_SETTINGS]
     assert "all_numbers = numbers.TrialTime ∷ " in made[NUMBER_DEFINITIONS]
     assert 'number_word numbers.TrialTime = codes "trial-time"\n' in made[NUMBER_DEFINITIONS]
+
+
+def test_a_number_that_can_be_set_is_assigned_and_has_its_range(tmp_path: pathlib.Path) -> None:
+    row = TRIAL.replace("Trial", "TrialTime").replace("Range 3 9", "Range 0 65535")
+    objects = objects_of(tmp_path, (ROW, ROW + row), (PLACE, f"{PLACE} ∷ One TrialTime"))
+    made = {name: make(objects) for name, _, make in SETTINGS}
+    assert "    /// vmsTrialTime: A number\n    pub trial_time: u16,\n" in made[ASSIGNED]
+    assert "            trial_time: 0,\n" in made[ASSIGNED]
+    assert "        Scalar::TrialTime => settings.trial_time = number,\n" in made[ASSIGNED]
+    assert "  trial_time = 0;\n" in made[ASSIGNED_DEFINITIONS]
+    assert "  trial_time = given (number_for scalars.TrialTime) writes s.trial_time;\n" in made[ASSIGNED_DEFINITIONS]
+    assert "    is_of_two_octets(settings.trial_time);\n" in made[TYPED]
+    assert "  pub trial_time : settings.trial_time ≤ 65535\n" in made[RANGES]
+
+
+def test_a_default_that_is_no_default_of_the_face_is_refused(tmp_path: pathlib.Path) -> None:
+    with_another = [("MultiCfg 3 Write (Range 0 255)", "MultiCfg 3 Write (Range 0 256)")]
+    objects = objects_of(tmp_path, *with_another)
+    made = {name: make for name, _, make in SETTINGS}
+    for name in (ASSIGNED, ASSIGNED_DEFINITIONS):
+        with pytest.raises(BadTable):
+            made[name](objects)
 
 
 def test_a_number_that_can_be_set_and_has_a_range_of_its_own_is_refused(tmp_path: pathlib.Path) -> None:

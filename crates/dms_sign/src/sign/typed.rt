@@ -33,14 +33,19 @@ pub(super) fn shown_is_typed(shown: &Shown)
     defaults_are_typed(shown.defaults);
 }
 
+// made by tools/objects.py --code
+
 /// Of what was set.
 pub(super) fn settings_are_typed(settings: &SignSettings)
     ensures { AreSettingsInRange settings.now }
 {
     fallbacks_are_typed(&settings.fallbacks);
-    two_times(settings.short_power_loss_time, settings.time_comm_loss);
+    is_of_two_octets(settings.short_power_loss_time);
+    is_of_two_octets(settings.time_comm_loss);
     defaults_are_typed(settings.defaults);
 }
+
+// the end of what is made
 
 /// Of what is reported.
 pub(super) fn reports_are_typed(reports: &Reports)
@@ -77,9 +82,8 @@ fn two_octets(one: u8, other: u8)
     ensures other { other ≤ 255 }
 {}
 
-fn two_times(one: u16, other: u16)
-    ensures one { one ≤ 65535 }
-    ensures other { other ≤ 65535 }
+fn is_of_two_octets(number: u16)
+    ensures { number ≤ 65535 }
 {}
 
 fn names_a_message(id: MessageId)
