@@ -14,8 +14,8 @@ use Rattle.dms_sign_access.specs.MetNames.{is_among}
 use Rattle.dms_sign_access.specs.Settings.{set_by}
 use Rattle.dms_sign.specs.State.{SignState}
 use Rattle.dms_sign.specs.SetRequest.{SetCause, write_at, is_command_at, is_refused_field, settable_instance, cause_if, causes_at, causes_after, causes, assigned}
-use Rattle.dms_sign.specs.SetView.{AreLeft, IsCommandInRange}
-use Rattle.dms_sign.specs.Requests.{granted, writes_of, commanded_if, command_index, set}
+use Rattle.dms_sign.specs.SetView.{IsCommandInRange}
+use Rattle.dms_sign.specs.Requests.{granted, writes_of, commanded, command_index, set}
 use Rattle.dms_sign.proofs.Causes.{set_empty}
 use Rattle.dms_sign.proofs.Assigned.{command_in_range, set_commanded, set_refused}
 
@@ -104,19 +104,24 @@ command_leaves settings (SetCode object octets) e = absurd (cc)
 command_leaves settings (SetField id field) e = absurd (cc)
 
 -- a command assigns nothing
-pub one_left : (s : SignState) (bs : List VarBind) (b : VarBind) (w : Write) → bs ≡ b ∷ [] → write_at s b ≡ Some w → is_command w ≡ true
-    → AreLeft s.settings bs s
-one_left s bs b w e writes command =
-    command_leaves s.settings w command ∙ ap (set_by s.settings) (sym (one_writes s bs b w e writes))
+command_assigns : (s : SignState) (w : Write) → is_command w ≡ true → s ≡ assigned s (w ∷ [])
+unfolding assigned
+command_assigns s (AskRow id ask) e = ap (λ (x : SignSettings). record s { settings = x }) (command_leaves s.settings (AskRow id ask) e)
+command_assigns s (Activate octets) e = ap (λ (x : SignSettings). record s { settings = x }) (command_leaves s.settings (Activate octets) e)
+command_assigns s (SetRemaining minutes) e = ap (λ (x : SignSettings). record s { settings = x }) (command_leaves s.settings (SetRemaining minutes) e)
+command_assigns s (SetNumber object number) e = absurd (cc)
+command_assigns s (SetCode object octets) e = absurd (cc)
+command_assigns s (SetField id field) e = absurd (cc)
 
 pub one_in_range : (s : SignState) (bs : List VarBind) (b : VarBind) (w : Write) → AreBindingsInLimits bs → bs ≡ b ∷ [] → write_at s b ≡ Some w
     → is_command w ≡ true → IsCommandInRange w
 one_in_range s bs b w within e writes command = command_in_range s bs (Some w) within (one_found s bs b w true e writes command)
 
 pub one_commanded : (s : SignState) (may : Bool) (bs : List VarBind) (b : VarBind) (w : Write) → bs ≡ b ∷ [] → causes_at s may [] b ≡ []
-    → write_at s b ≡ Some w → is_command w ≡ true → commanded_if s (assigned s (writes_of s bs)) bs 1 (Some w) ≡ set s may bs
+    → write_at s b ≡ Some w → is_command w ≡ true → commanded s s bs 1 w ≡ set s may bs
 one_commanded s may bs b w e none writes command =
-    set_commanded s may bs 1 (Some w) (one_causes s may bs b e ∙ none) (one_found s bs b w true e writes command)
+    ap (λ (new : SignState). commanded s new bs 1 w) (command_assigns s w command ∙ ap (assigned s) (sym (one_writes s bs b w e writes)))
+    ∙ set_commanded s may bs 1 (Some w) (one_causes s may bs b e ∙ none) (one_found s bs b w true e writes command)
     (sym (ap (command_index s) e ∙ ap (λ c. unwrap_or (cond c (Some 1) None) 0) (commands s b w writes ∙ command)))
 
 pub one_assigned : (s : SignState) (may : Bool) (bs : List VarBind) (b : VarBind) (w : Write) → bs ≡ b ∷ [] → causes_at s may [] b ≡ []

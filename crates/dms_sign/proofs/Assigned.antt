@@ -87,6 +87,12 @@ asked_whole old table id ask is e =
       known = known_kept old.known old.face old.table table (asked_keeps old.table table id ask e) is.known;
     }
 
+-- one that takes what it is asked, or is left as it is
+pub asked_either : (old : Inside) (table : TableModel) (id : RowId) (ask : Ask) (r : Result (Unit {0}) Refused) → IsWhole old
+    → OnOk r (asked old.table id ask ≡ Some table) → OnErr r (table ≡ old.table) → IsWhole (record old { table = table })
+asked_either old table id ask (Ok done) is ok err = asked_whole old table id ask is ok
+asked_either old table id ask (Err refused) is ok err = subst (λ (t : TableModel). IsWhole (record old { table = t })) (sym err) is
+
 pub takes_after : (s : SignState) (ws : List Write) (id : RowId) (ask : Ask) → is_some (asked s.table id ask) ≡ is_some (asked (assigned s ws).table id ask)
 unfolding assigned
 takes_after s ws id ask = asked_alike s.table (with_writes s.table ws) id ask (writes_like s.table ws)

@@ -10,10 +10,10 @@ use Rattle.dms_sign_access.specs.Access.{Write, SetNumber, SetCode, SetField, As
 
 abbrev pub write_by : Change → Write
 write_by (changes.Number object number) = SetNumber object number
-write_by (changes.Code object octets) = SetCode object octets
+write_by (changes.Code object octets) = SetCode object octets.now
 write_by (changes.Field id field) = SetField id (field_of field)
 write_by (changes.Ask id ask) = AskRow id ask
-write_by (changes.Activate octets) = Activate octets
+write_by (changes.Activate octets) = Activate octets.now
 write_by (changes.Remaining minutes) = SetRemaining minutes
 
 -- the numbers of the defaults are octets

@@ -23,13 +23,13 @@ pub enum Change<'a> {
     /// The number of an object that is a setting.
     Number(Scalar, u16),
     /// The code of a message that the sign activates by itself.
-    Code(Scalar, [u8; 5]),
+    Code(Scalar, &'a [u8; 5]),
     /// A field of a row.
     Field(RowId, Field<'a>),
     /// What is asked of a row (dmsMessageStatus).
     Ask(RowId, Ask),
     /// The code of the message that is to be shown (dmsActivateMessage).
-    Activate([u8; 12]),
+    Activate(&'a [u8; 12]),
     /// Minutes.
     Remaining(u16),
 }
@@ -132,21 +132,21 @@ fn number<'a>(object: Scalar, low: u16, high: u16, value: &Value<'_>) -> Option<
     Some(Change::Number(object, number_in(low, high, value)?))
 }
 
-fn code<'a>(object: Scalar, value: &Value<'_>) -> Option<Change<'a>>
+fn code<'a>(object: Scalar, value: &Value<'a>) -> Option<Change<'a>>
     ensures exact { option_map write_by result ≡ option_map (SetCode object) (octets_in 5 5 (object_value value.now)) }
     ensures change { IfSome result IsChange }
 {
-    match octets_in(5, 5, value)? {
-        &[a, b, c, d, e] => Some(Change::Code(object, [a, b, c, d, e])),
-        _ => None,
+    match <&[u8; 5]>::try_from(octets_in(5, 5, value)?) {
+        Ok(code) => Some(Change::Code(object, code)),
+        Err(_) => None,
     }
 }
 
-fn activation<'a>(value: &Value<'_>) -> Option<Change<'a>>
+fn activation<'a>(value: &Value<'a>) -> Option<Change<'a>>
     ensures exact { option_map write_by result ≡ option_map Activate (octets_in 12 12 (object_value value.now)) }
     ensures change { IfSome result IsChange }
 {
-    match <[u8; 12]>::try_from(octets_in(12, 12, value)?) {
+    match <&[u8; 12]>::try_from(octets_in(12, 12, value)?) {
         Ok(code) => Some(Change::Activate(code)),
         Err(_) => None,
     }
@@ -169,7 +169,7 @@ fn font<'a>(face: &Face, value: &Value<'_>) -> Option<Change<'a>>
 
 /// What a value writes to an object that is assigned: a number of the object's range, and where it is the default font
 /// one of the face's, or the code of a message.
-fn setting<'a>(face: &Face, object: Scalar, value: &Value<'_>) -> Option<Change<'a>>
+fn setting<'a>(face: &Face, object: Scalar, value: &Value<'a>) -> Option<Change<'a>>
     requires { (scalar_row object).access ≡ Write }
     ensures exact { option_map write_by result ≡ setting_of face.now object (object_value value.now) }
     ensures change { IfSome result IsChange }
@@ -185,7 +185,7 @@ fn setting<'a>(face: &Face, object: Scalar, value: &Value<'_>) -> Option<Change<
 }
 
 /// What a value writes to an object that is a command.
-fn command<'a>(object: Scalar, value: &Value<'_>) -> Option<Change<'a>>
+fn command<'a>(object: Scalar, value: &Value<'a>) -> Option<Change<'a>>
     requires { (scalar_row object).access ≡ Command }
     ensures exact { (face : FaceModel) → option_map write_by result ≡ setting_of face object (object_value value.now) }
     ensures change { IfSome result IsChange }

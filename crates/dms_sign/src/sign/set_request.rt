@@ -216,6 +216,7 @@ impl Sign {
     }
 
     /// A write to a field of a row that is not being modified.
+    #[inline(never)]
     fn is_refused_field(&self, change: &Change<'_>) -> bool
         ensures { result ≡ is_refused_field self.now.table (write_by change.now) }
     {
@@ -282,7 +283,7 @@ fn assign(settings: &mut SignSettings, change: &Change<'_>)
 
 impl Sign {
     /// Assigns the values and does the command, where there is one.
-    pub(super) fn command(
+    fn command(
         &mut self,
         judged: &Judged<'_>,
         changes: Option<&[Change<'_>]>,
@@ -362,7 +363,7 @@ impl Sign {
     /// A code is to be activated (dmsActivateMessage): one that is refused changes only what is reported of it.
     fn activate(
         &mut self,
-        octets: [u8; 12],
+        octets: &[u8; 12],
         judged: &Judged<'_>,
         changes: Option<&[Change<'_>]>,
         binds: &Binds<'_>,
@@ -371,13 +372,13 @@ impl Sign {
         requires fields { StaysWithout judged.now.fields self.old binds.now }
         requires changes { IfSome changes (λ changes. map write_by changes.now ≡ writes_of self.old binds.now) }
         requires limits { AreBindingsInLimits binds.now }
-        requires octets { AreOctets 12 octets }
+        requires octets { AreOctets 12 octets.now }
         ensures after { self.new ≡ (commanded self.old (assigned self.old (writes_of self.old binds.now)) binds.now
-            judged.now.index (Activate octets)).after }
+            judged.now.index (Activate octets.now)).after }
         ensures says { Says result (commanded self.old (assigned self.old (writes_of self.old binds.now)) binds.now
-            judged.now.index (Activate octets)) }
+            judged.now.index (Activate octets.now)) }
     {
-        let code = Activation::of_octets(self.table.order(), &octets);
+        let code = Activation::of_octets(self.table.order(), octets);
         let defaults = &judged.settings.defaults;
         match judge(
             &self.known,
@@ -389,11 +390,11 @@ impl Sign {
         ) {
             Ok(()) => {
                 self.assign(judged, changes, binds);
-                self.accept(&code, octets);
+                self.accept(&code, *octets);
                 Ok(Some(code))
             }
             Err(cause) => {
-                self.refuse_code(&cause, octets);
+                self.refuse_code(&cause, *octets);
                 Err(SetRefusal {
                     index: judged.index,
                     status: ErrorStatus::GenErr,
@@ -403,7 +404,7 @@ impl Sign {
     }
 
     /// Shows the message of a code that was accepted, in place of what was shown.
-    fn accept(&mut self, code: &Activation, octets: [u8; 12])
+    pub(super) fn accept(&mut self, code: &Activation, octets: [u8; 12])
         requires shown { IsShownInRange (shown_by self.old.settings.defaults self.old.table self.old.shown code.now) }
         requires octets { AreOctets 12 octets }
         ensures { self.new
@@ -416,7 +417,7 @@ impl Sign {
     }
 
     /// The minutes until the end of what is shown (dmsMessageTimeRemaining); where none remains the end has come.
-    fn set_remaining(&mut self, minutes: u16)
+    pub(super) fn set_remaining(&mut self, minutes: u16)
         ensures { self.new ≡ with_remaining self.old minutes }
     {
         if minutes == 0 {
@@ -483,6 +484,7 @@ fn write_changes(table: &mut Table, changes: &[Change<'_>])
 }
 
 /// Writes the fields that the bindings name.
+#[inline(never)]
 fn write_fields(counts: &Counts, face: &Face, table: &mut Table, binds: &Binds<'_>)
     ensures { (s : SignState) → HasCounts s.table counts.now → s.config.face ≡ face.now
         → table.new ≡ with_writes table.old (writes_of s binds.now) }

@@ -3,10 +3,9 @@ use Rattle.dms_wire.specs.View.{var_bind}
 use Rattle.dms_wire.specs.declared.error_status.ErrorStatus.TheVariants.{NoError}
 use Rattle.dms_sign_access.specs.Access.{is_command}
 use Rattle.dms_sign_access.specs.ChangeView.{write_by}
-use Rattle.dms_sign.specs.State.{SignState}
 use Rattle.dms_sign.specs.Requests.{Answer}
 use Rattle.dms_sign.specs.SetView.{Says}
-use Rattle.dms_sign.proofs.Alone.{one_left, one_in_range, one_commanded, one_assigned, one_refused}
+use Rattle.dms_sign.proofs.Alone.{one_in_range, one_commanded, one_assigned, one_refused}
 use Rattle.dms_sign.proofs.sign.Sign.set_one.Goals as goal
 
 pub returns-in-Err-clause-after : goal.returns-in-Err-clause-after
@@ -20,14 +19,8 @@ returns-in-Err-clause-says c =
     (sym (one_refused c.args.self.now c.args.may_write c.args.binds.now (var_bind c.args.binding.now) c.in-Err.status c.requires.only c.in-Err.ensures.refusal))
     (refl, refl, refl)
 
-pub command-requires-clause-settings : goal.command-requires-clause-settings
-command-requires-clause-settings c =
-    let is : is_command (write_by c.in-Ok.change) ≡ true = sym c.is_command.ensures ∙ c.if-is_command.true in
-    ap (λ (s : SignState). s.settings) c.self.view_is
-    ∙ one_left c.args.self.now c.args.binds.now (var_bind c.args.binding.now) (write_by c.in-Ok.change) c.requires.only c.in-Ok.ensures.change is
-
-pub command-requires-clause-range : goal.command-requires-clause-range
-command-requires-clause-range c =
+pub command_alone-requires : goal.command_alone-requires
+command_alone-requires c =
     let is : is_command (write_by c.in-Ok.change) ≡ true = sym c.is_command.ensures ∙ c.if-is_command.true in
     one_in_range c.args.self.now c.args.binds.now (var_bind c.args.binding.now) (write_by c.in-Ok.change) c.requires.limits c.requires.only
     c.in-Ok.ensures.change is
@@ -35,7 +28,7 @@ command-requires-clause-range c =
 pub returns-then-is_command-clause-after : goal.returns-then-is_command-clause-after
 returns-then-is_command-clause-after c =
     let is : is_command (write_by c.in-Ok.change) ≡ true = sym c.is_command.ensures ∙ c.if-is_command.true in
-    c.command.ensures.after
+    c.command_alone.ensures.after c.args.binds.now
     ∙ ap (λ (a : Answer). a.after)
     (one_commanded c.args.self.now c.args.may_write c.args.binds.now (var_bind c.args.binding.now) (write_by c.in-Ok.change) c.requires.only
     c.in-Ok.ensures.none c.in-Ok.ensures.change is)
@@ -43,9 +36,9 @@ returns-then-is_command-clause-after c =
 pub returns-then-is_command-clause-says : goal.returns-then-is_command-clause-says
 returns-then-is_command-clause-says c =
     let is : is_command (write_by c.in-Ok.change) ≡ true = sym c.is_command.ensures ∙ c.if-is_command.true in
-    subst (Says c.command.result)
+    subst (Says c.command_alone.result)
     (one_commanded c.args.self.now c.args.may_write c.args.binds.now (var_bind c.args.binding.now) (write_by c.in-Ok.change) c.requires.only
-    c.in-Ok.ensures.none c.in-Ok.ensures.change is) c.command.ensures.says
+    c.in-Ok.ensures.none c.in-Ok.ensures.change is) (c.command_alone.ensures.says c.args.binds.now)
 
 pub returns-else-is_command-clause-after : goal.returns-else-is_command-clause-after
 returns-else-is_command-clause-after c =
