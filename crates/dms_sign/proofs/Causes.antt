@@ -16,7 +16,7 @@ use Rattle.dms_sign_access.specs.Assignment.{given}
 use Rattle.dms_sign_access.specs.declared.access.Change.{Change}
 use Rattle.dms_sign_access.specs.ChangeView.{write_by}
 use Rattle.dms_sign.specs.SetRequest.{SetCause, write_at, is_command_at, causes_at, causes_after, causes, with_write, with_writes}
-use Rattle.dms_sign.specs.SetView.{is_field, AreKept, StaysWithout}
+use Rattle.dms_sign.specs.SetView.{is_field, most_kept, AreKept, StaysWithout}
 use Rattle.dms_sign.specs.Requests.{writes_of, command_index}
 use Rattle.dms_sign_access.proofs.TakenSlots.{any_push}
 use Rattle.dms_sign_access.specs.Settings.{codes_by, set_by}
@@ -201,7 +201,7 @@ pub kept_starts : (s : SignState) (kept : List Change) (bs : List VarBind) → A
 kept_starts s kept bs = λ few. refl
 
 pub kept_more : (s : SignState) (all : List VarBind) (old new : List Change) (index : ℕ) (b : VarBind) (change : Change)
-    → (index < 8 → take (index + 1) new ≡ take index old ++ change ∷ []) → write_at s b ≡ Some (write_by change)
+    → (index < most_kept → take (index + 1) new ≡ take index old ++ change ∷ []) → write_at s b ≡ Some (write_by change)
     → take index all ++ b ∷ [] ≡ take (index + 1) all → AreKept old index s (take index all) → AreKept new (index + 1) s (take (index + 1) all)
 kept_more s all old new index b change more writes next kept = λ few.
     ap (map write_by) (more (omega (arith, few)))

@@ -44,9 +44,13 @@ is_field (SetRemaining minutes) = false
 abbrev pub StaysWithout : Bool → SignState → List VarBind → Type 0
 StaysWithout fields s bindings = fields ≡ false → with_writes s.table (writes_of s bindings) ≡ s.table
 
--- what the bindings write was kept, where there are no more than eight
+-- how many changes are kept
+abbrev pub most_kept : ℕ
+most_kept = 64
+
+-- what the bindings write was kept, where there are no more than so many
 abbrev pub AreKept : List Change → ℕ → SignState → List VarBind → Type 0
-AreKept kept count s bindings = count ≤ 8 → map write_by (take count kept) ≡ writes_of s bindings
+AreKept kept count s bindings = count ≤ most_kept → map write_by (take count kept) ≡ writes_of s bindings
 
 -- the settings are those that the bindings leave
 abbrev pub AreLeft : SignSettings → List VarBind → SignState → Type 0

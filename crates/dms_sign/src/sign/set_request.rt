@@ -19,7 +19,7 @@ ghost use Rattle.dms_sign.specs.Requests.{activated, with_remaining, writes_of, 
 ghost use Rattle.dms_sign.specs.Requests.{commanded, commanded_if, set};
 ghost use Rattle.dms_sign.specs.SetRequest.{settable_instance, write_at, is_command_at, is_refused_field};
 ghost use Rattle.dms_sign.specs.SetRequest.{causes_at, causes, with_writes, assigned};
-ghost use Rattle.dms_sign.specs.SetView.{refusal_of, is_field, AreKept, AreLeft, IsCommandInRange};
+ghost use Rattle.dms_sign.specs.SetView.{refusal_of, is_field, most_kept, AreKept, AreLeft, IsCommandInRange};
 ghost use Rattle.dms_sign.specs.SetView.{Says, StaysWithout};
 ghost use Rattle.dms_sign.specs.State.{SignState};
 
@@ -50,8 +50,11 @@ pub(super) struct Judged<'a> {
     pub count: u32,
 }
 
+/// How many changes are kept: about as many as a datagram has room for, where each name is one that can be set.
+const MOST_KEPT: usize = 64;
+
 /// What the first bindings of a SET write, kept while they are judged: where there are more, they are read again.
-type Kept<'a> = [Change<'a>; 8];
+type Kept<'a> = [Change<'a>; MOST_KEPT];
 
 impl Sign {
     /// Does a SET, or says why it is refused.
@@ -82,7 +85,7 @@ impl Sign {
         ensures after { self.new ≡ (set self.old may_write binds.now).after }
         ensures says { Says result (set self.old may_write binds.now) }
     {
-        let mut kept: Kept<'_> = [Change::Remaining(0); 8];
+        let mut kept: Kept<'_> = [Change::Remaining(0); MOST_KEPT];
         match self.judged(self.settings, may_write, binds, &mut kept) {
             Ok(judged) => self.command(&judged, changes_of(&kept, judged.count), binds),
             Err(refusal) => Err(refusal),
@@ -254,18 +257,18 @@ impl<'a> Judged<'a> {
 
 /// Keeps what the binding after the first `index` bindings writes, where there is room.
 fn keep<'a>(kept: &mut Kept<'a>, index: u32, change: &Change<'a>)
-    ensures { index < 8 → take (index + 1) kept.new ≡ take index kept.old ++ change.now ∷ [] }
+    ensures { index < most_kept → take (index + 1) kept.new ≡ take index kept.old ++ change.now ∷ [] }
 {
-    if index < 8 {
+    if (index as usize) < MOST_KEPT {
         kept[index as usize] = *change;
     }
 }
 
 /// What so many bindings write, where all of it was kept.
 fn changes_of<'a, 'b>(kept: &'b Kept<'a>, count: u32) -> Option<&'b [Change<'a>]>
-    ensures { IfSome result (λ changes. (count ≤ 8) × (changes.now ≡ take count kept.now)) }
+    ensures { IfSome result (λ changes. (count ≤ most_kept) × (changes.now ≡ take count kept.now)) }
 {
-    if count <= 8 {
+    if count as usize <= MOST_KEPT {
         Some(&kept[..count as usize])
     } else {
         None
