@@ -67,7 +67,8 @@ impl Sign {
     fn ask_alone(&mut self, id: RowId, ask: Ask) -> Result<Option<Activation>, SetRefusal>
         ensures after { (bindings : List VarBind)
             → self.new ≡ (commanded self.old self.old bindings 1 (AskRow id ask)).after }
-        ensures says { (bindings : List VarBind) → Says result (commanded self.old self.old bindings 1 (AskRow id ask)) }
+        ensures says { (bindings : List VarBind)
+            → Says result (commanded self.old self.old bindings 1 (AskRow id ask)) }
     {
         match self.table.ask(id, ask) {
             Ok(()) => Ok(None),
