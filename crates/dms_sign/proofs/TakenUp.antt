@@ -20,8 +20,8 @@ use Rattle.dms_table.specs.SavedShown.{is_time, is_mode, has_its_checksum, is_bl
 use Rattle.dms_sign_access.specs.Reports.{no_error, is_validation_error, is_activation_error, is_syntax_error, is_place_of, report_fault}
 use Rattle.dms_sign.specs.declared.sign.Sign.TheInside.{Inside}
 use Rattle.dms_sign.specs.declared.sign.restoring.SignParts.{SignParts}
-use Rattle.dms_sign.specs.declared.sign.restoring.MessageFault.TheVariants as messages
-use Rattle.dms_sign.specs.declared.sign.restoring.StateFault.TheVariants as faults
+use Rattle.dms_sign_access.specs.declared.restoring.MessageFault.TheVariants as messages
+use Rattle.dms_sign_access.specs.declared.restoring.StateFault.TheVariants as faults
 use Rattle.dms_sign.specs.InRange.{IsTimeInRange, IsRowInRange, IsTableInRange, IsShownInRange, AreSettingsInRange}
 use Rattle.dms_sign.specs.declared.known_texts.KnownTexts.{KnownTexts}
 use Rattle.dms_sign.specs.KnownTexts.{forgotten, AreKnown}

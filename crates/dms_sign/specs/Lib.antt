@@ -15,7 +15,6 @@ pub mod InRange
 pub mod Transitions
 pub mod Kept
 pub mod Restoring
-pub mod RestoringTexts
 -- what the code's fields and receipts are in these words
 pub mod KnownTexts
 pub mod SignView

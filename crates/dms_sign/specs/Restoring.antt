@@ -10,10 +10,10 @@ use Rattle.dms_table.specs.Rows.{TableModel, row_read}
 use Rattle.dms_table.specs.Activation.{ShownModel}
 use Rattle.dms_table.specs.SavedShown.{shown_fault}
 use Rattle.dms_sign.specs.declared.sign.restoring.SignParts.{SignParts}
-use Rattle.dms_sign.specs.declared.sign.restoring.MessageFault.{MessageFault}
-use Rattle.dms_sign.specs.declared.sign.restoring.MessageFault.TheVariants as messages
-use Rattle.dms_sign.specs.declared.sign.restoring.StateFault.{StateFault}
-use Rattle.dms_sign.specs.declared.sign.restoring.StateFault.TheVariants as faults
+use Rattle.dms_sign_access.specs.declared.restoring.MessageFault.{MessageFault}
+use Rattle.dms_sign_access.specs.declared.restoring.MessageFault.TheVariants as messages
+use Rattle.dms_sign_access.specs.declared.restoring.StateFault.{StateFault}
+use Rattle.dms_sign_access.specs.declared.restoring.StateFault.TheVariants as faults
 use Rattle.dms_sign_access.specs.declared.settings.SignSettings.{SignSettings}
 use Rattle.dms_sign_access.specs.Reports.{report_fault}
 use Rattle.dms_sign.specs.State.{SignState, power_loss_mode}

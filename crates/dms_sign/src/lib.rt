@@ -17,6 +17,7 @@ pub mod sign;
 
 pub use config::{Config, ConfigFault};
 pub use dms_mib::{Instance, Scalar};
+pub use dms_sign_access::{MessageFault, StateFault};
 pub use sign::Sign;
 pub use sign::reply::Receipt;
-pub use sign::restoring::{MessageFault, SignParts, StateFault};
+pub use sign::restoring::SignParts;

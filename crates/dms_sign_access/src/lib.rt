@@ -1,6 +1,6 @@
 //! Which objects of a sign can be set (NTCIP 1203, each object's ACCESS and SYNTAX), what a value writes to one, the
-//! settings that writes leave, which names a SET has given, what a sign reports of its verdicts and decisions, and what
-//! a column of dmsMessageTable reads.
+//! settings that writes leave, which names a SET has given, what a sign reports of its verdicts and decisions, what a
+//! column of dmsMessageTable reads, and why a saved state is not taken up.
 //!
 //! ```
 //! let seconds = Instance::Scalar(Scalar::ShortPowerLossTime);
@@ -17,10 +17,12 @@ mod cells;
 pub mod laws;
 mod met_names;
 mod reports;
+mod restoring;
 mod settings;
 
 pub use access::{Change, is_settable, write_of};
 pub use cells::{cell_value, number_value, shown_value, small_value};
 pub use met_names::{Slots, mark_name, was_given};
 pub use reports::{ReportFault, Reports};
+pub use restoring::{MessageFault, StateFault};
 pub use settings::{BLANK_CODE, Fallbacks, SignSettings};

@@ -15,9 +15,9 @@ use Rattle.dms_table.specs.SavedShown as saved
 use Rattle.dms_table.specs.Validation.{IsShowable}
 use Rattle.dms_sign.specs.declared.config.Config.{Config}
 use Rattle.dms_sign.specs.declared.sign.restoring.SignParts.{SignParts}
-use Rattle.dms_sign.specs.declared.sign.restoring.MessageFault.TheVariants as messages
-use Rattle.dms_sign.specs.declared.sign.restoring.StateFault.{StateFault}
-use Rattle.dms_sign.specs.declared.sign.restoring.StateFault.TheVariants as faults
+use Rattle.dms_sign_access.specs.declared.restoring.MessageFault.TheVariants as messages
+use Rattle.dms_sign_access.specs.declared.restoring.StateFault.{StateFault}
+use Rattle.dms_sign_access.specs.declared.restoring.StateFault.TheVariants as faults
 use Rattle.dms_sign.specs.State.{SignState}
 use Rattle.dms_sign.specs.Restoring.{with_parts, names_a_row, standing_fault, message_fault, set_fault, told_fault, parts_fault}
 use Rattle.dms_sign_state.specs.declared.field.Stored.TheVariants.{Changeable, Volatile}

@@ -18,8 +18,8 @@ use Rattle.dms_table.specs.SavedShown as saved
 use Rattle.dms_table.proofs.KnownTexts.{valid_status}
 use Rattle.dms_sign_access.specs.declared.reports.Reports.{Reports}
 use Rattle.dms_sign_access.specs.Reports.{is_validation_error, is_activation_error, is_syntax_error, is_place_of, report_fault}
-use Rattle.dms_sign.specs.declared.sign.restoring.MessageFault.TheVariants as messages
-use Rattle.dms_sign.specs.declared.sign.restoring.StateFault.TheVariants as faults
+use Rattle.dms_sign_access.specs.declared.restoring.MessageFault.TheVariants as messages
+use Rattle.dms_sign_access.specs.declared.restoring.StateFault.TheVariants as faults
 use Rattle.dms_sign.specs.State.{SignState, power_loss_mode}
 use Rattle.dms_sign.specs.InRange.{most_minutes, IsRowInRange, IsSignInRange}
 use Rattle.dms_sign.specs.Restoring.{names_a_row, standing_fault, message_fault, set_fault, told_fault, parts_fault}

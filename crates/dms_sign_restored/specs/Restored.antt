@@ -18,10 +18,10 @@ use Rattle.dms_sign_access.specs.declared.reports.ReportFault.TheVariants as rep
 use Rattle.dms_sign.specs.declared.config.Config.{Config}
 use Rattle.dms_sign.specs.declared.config.ConfigFault.TheVariants as config_faults
 use Rattle.dms_sign.specs.declared.sign.restoring.SignParts.{SignParts}
-use Rattle.dms_sign.specs.declared.sign.restoring.MessageFault.{MessageFault}
-use Rattle.dms_sign.specs.declared.sign.restoring.MessageFault.TheVariants as message_faults
-use Rattle.dms_sign.specs.declared.sign.restoring.StateFault.{StateFault}
-use Rattle.dms_sign.specs.declared.sign.restoring.StateFault.TheVariants as part_faults
+use Rattle.dms_sign_access.specs.declared.restoring.MessageFault.{MessageFault}
+use Rattle.dms_sign_access.specs.declared.restoring.MessageFault.TheVariants as message_faults
+use Rattle.dms_sign_access.specs.declared.restoring.StateFault.{StateFault}
+use Rattle.dms_sign_access.specs.declared.restoring.StateFault.TheVariants as part_faults
 use Rattle.dms_sign.specs.Configuration.{config_of, config_fault, IsFirstConfigFault}
 use Rattle.dms_sign.specs.State.{SignState, start}
 use Rattle.dms_sign.specs.Restoring.{with_table, with_parts, parts_fault}

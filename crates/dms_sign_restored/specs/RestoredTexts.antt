@@ -2,7 +2,7 @@
 use Rattle.std.specs.Prelude.{ℕ, List, ◌++◌, codes, decimal, Option, None, Some}
 use Rattle.dms_table.specs.FaultTexts.{row_fault_text}
 use Rattle.dms_sign.specs.Configuration.{config_fault_text}
-use Rattle.dms_sign.specs.RestoringTexts.{state_fault_text}
+use Rattle.dms_sign_access.specs.RestoringTexts.{state_fault_text}
 use Rattle.dms_sign_restored.specs.declared.restoring.Misfit.{Misfit}
 use Rattle.dms_sign_restored.specs.declared.restoring.MisfitCause.{MisfitCause}
 use Rattle.dms_sign_restored.specs.declared.restoring.MisfitCause.TheVariants as causes

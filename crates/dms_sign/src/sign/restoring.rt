@@ -7,16 +7,13 @@ ghost use Rattle.dms_table.specs.Rows.{changed};
 ghost use Rattle.dms_table.specs.SavedRows.{row_saved, put_over, row_fault};
 ghost use Rattle.dms_sign.specs.Restoring.{with_table, with_parts, names_a_row, standing_fault, message_fault};
 ghost use Rattle.dms_sign.specs.Restoring.{set_fault, has_its_power, told_fault, parts_fault};
-ghost use Rattle.dms_sign.specs.RestoringTexts.{report_fault_text};
 
 use crate::sign::typed::{reports_are_typed, settings_are_typed, shown_is_typed};
 use crate::sign::{Sign, source_of};
 use dms_codes::{MessageId, Mode, RowId};
-use dms_face::{Defaults, Face, MultiFault, check_with};
-use dms_sign_access::{ReportFault, Reports, SignSettings};
-use dms_table::{RowFault, SavedRow, Shown, ShownFault, Table};
-use std::error::Error;
-use std::fmt;
+use dms_face::{Defaults, Face, check_with};
+use dms_sign_access::{MessageFault, Reports, SignSettings, StateFault};
+use dms_table::{RowFault, SavedRow, Shown, Table};
 
 /// What a saved state has beside the rows of the message table.
 #[derive(Debug, Drop)]
@@ -34,81 +31,6 @@ pub struct SignParts {
     /// Whether there is power.
     pub powered: bool,
 }
-
-/// Why a message is not taken up.
-#[derive(Clone, Copy, Debug, PartialEq, Eq)]
-pub enum MessageFault {
-    /// There is no such message.
-    Shown(ShownFault),
-    /// The sign has no row of the name of its source.
-    Source,
-    /// It has a beacon, and the sign has none.
-    Beacons,
-    /// It has a pixel service, and the sign has none.
-    PixelService,
-    /// Its copy of the defaults does not fit the face.
-    Defaults,
-    /// Its text is not good under its copy of the defaults.
-    Text(MultiFault),
-}
-
-/// Why the parts of a state are not taken up.
-#[derive(Clone, Copy, Debug, PartialEq, Eq)]
-pub enum StateFault {
-    /// The defaults do not fit the face.
-    Defaults,
-    /// More seconds are silent than 65535 minutes have.
-    Silence,
-    /// What is shown.
-    Shown(MessageFault),
-    /// What was shown when the power was lost.
-    Kept(MessageFault),
-    /// No sign reports this.
-    Reports(ReportFault),
-    /// There is power where a loss of power put up what is shown, or none where something else did; or a loss of power
-    /// put up what was kept.
-    Power,
-}
-
-impl fmt::Display for MessageFault {
-    ghost use Rattle.std.specs.Prelude.{Some};
-    ghost use Rattle.dms_sign.specs.RestoringTexts.{message_fault_text};
-
-    ghost output = { λ fault. Some (message_fault_text fault) };
-
-    fn fmt<W: fmt::Write>(&self, f: &mut fmt::Formatter<W>) -> fmt::Result {
-        match self {
-            MessageFault::Shown(fault) => write!(f, "{fault}"),
-            MessageFault::Source => f.write_str("the sign has no row of its source"),
-            MessageFault::Beacons => f.write_str("the sign has no beacons"),
-            MessageFault::PixelService => f.write_str("the sign has no pixel service"),
-            MessageFault::Defaults => f.write_str("its defaults do not fit the face"),
-            MessageFault::Text(fault) => write!(f, "{fault}"),
-        }
-    }
-}
-
-impl Error for MessageFault {}
-
-impl fmt::Display for StateFault {
-    ghost use Rattle.std.specs.Prelude.{Some};
-    ghost use Rattle.dms_sign.specs.RestoringTexts.{state_fault_text};
-
-    ghost output = { λ fault. Some (state_fault_text fault) };
-
-    fn fmt<W: fmt::Write>(&self, f: &mut fmt::Formatter<W>) -> fmt::Result {
-        match self {
-            StateFault::Defaults => f.write_str("the defaults do not fit the face"),
-            StateFault::Silence => f.write_str("too many seconds were silent"),
-            StateFault::Shown(fault) => write!(f, "what is shown: {fault}"),
-            StateFault::Kept(fault) => write!(f, "what was kept: {fault}"),
-            StateFault::Reports(fault) => f.write_str(report_fault_text(*fault)),
-            StateFault::Power => f.write_str("another power than that of its messages"),
-        }
-    }
-}
-
-impl Error for StateFault {}
 
 impl Sign {
     /// Puts a row of a saved state where one is that is not used. Its text is looked at when it is activated.
@@ -206,17 +128,6 @@ fn told_fault(parts: &SignParts) -> Option<StateFault>
         Some(fault) => Some(StateFault::Reports(fault)),
         None if has_its_power(parts) => None,
         None => Some(StateFault::Power),
-    }
-}
-
-fn report_fault_text(fault: ReportFault) -> &'static str
-    ensures { result.now ≡ report_fault_text fault }
-{
-    match fault {
-        ReportFault::ValidateError => "no such error of a validation",
-        ReportFault::ActivateError => "no such error of an activation",
-        ReportFault::SyntaxError => "no such fault of a text",
-        ReportFault::Position => "no such place of this fault",
     }
 }
 

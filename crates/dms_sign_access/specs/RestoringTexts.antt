@@ -4,10 +4,10 @@ use Rattle.dms_face.specs.FaultTexts.{multi_fault_text}
 use Rattle.dms_table.specs.FaultTexts.{shown_fault_text}
 use Rattle.dms_sign_access.specs.declared.reports.ReportFault.{ReportFault}
 use Rattle.dms_sign_access.specs.declared.reports.ReportFault.TheVariants as reports
-use Rattle.dms_sign.specs.declared.sign.restoring.MessageFault.{MessageFault}
-use Rattle.dms_sign.specs.declared.sign.restoring.MessageFault.TheVariants as messages
-use Rattle.dms_sign.specs.declared.sign.restoring.StateFault.{StateFault}
-use Rattle.dms_sign.specs.declared.sign.restoring.StateFault.TheVariants as faults
+use Rattle.dms_sign_access.specs.declared.restoring.MessageFault.{MessageFault}
+use Rattle.dms_sign_access.specs.declared.restoring.MessageFault.TheVariants as messages
+use Rattle.dms_sign_access.specs.declared.restoring.StateFault.{StateFault}
+use Rattle.dms_sign_access.specs.declared.restoring.StateFault.TheVariants as faults
 
 abbrev pub message_fault_text : MessageFault → List ℕ
 message_fault_text (messages.Shown fault) = shown_fault_text fault
