@@ -1,4 +1,5 @@
--- Bits that are read from the first: those that are held as a number, and those of the octets behind them.
+-- Bits that are read from the first: those that are held as a number, and those of the octets behind them (this
+-- profile).
 use Rattle.std.specs.Prelude.{◌^◌, ◌<◌, ◌≤◌, Bool, List, ◌++◌}
 use Rattle.dms_face_font.specs.declared.glyph.HeldBits.{HeldBits}
 use Rattle.dms_face_font.specs.Glyph.{row_bits, bits_of}
