@@ -9,10 +9,14 @@ from . import needs
 
 needs.modules("aiohttp", "jinja2")
 
+import multidict
+from aiohttp.test_utils import make_mocked_request
+
 from wisangub.refusal import Refusal
 from wisangub.room import users as program
 from wisangub.room.store import database, logins, passwords, users
 from wisangub.room.store.users import Role
+from wisangub.room.web.security import address_of
 from wisangub.room.web.sign_in import local
 
 from .visits import PASSWORD, Bench, Visitors, run
@@ -66,6 +70,15 @@ def test_behind_tls_cookies_are_secure(tmp_path: pathlib.Path) -> None:
         assert cookie.startswith("__Host-before=") and "Secure" in cookie and "HttpOnly" in cookie
 
     run(tmp_path, str(tmp_path / "database"), act, is_behind_tls=True)
+
+
+def test_an_address_is_the_proxys_word_on_whichever_line_it_stands() -> None:
+    """A proxy adds to the client's line, or a line of its own after it: what it adds comes last in either."""
+    for lines in (["203.0.113.9", "192.0.2.7"], ["203.0.113.9, 192.0.2.7"], ["192.0.2.7"], ["a", "b, 192.0.2.7"]):
+        headers = multidict.CIMultiDict([("X-Forwarded-For", line) for line in lines])
+        request = make_mocked_request("GET", "/", headers)
+        assert address_of(request, is_behind_tls=True) == "192.0.2.7", lines
+        assert address_of(request, is_behind_tls=False) not in lines, lines
 
 
 def test_a_form_without_its_token_logs_nobody_in(tmp_path: pathlib.Path) -> None:

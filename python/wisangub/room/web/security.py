@@ -110,7 +110,8 @@ def _is_same_site(request: web.Request) -> bool:
 
 
 def address_of(request: web.BaseRequest, is_behind_tls: bool) -> str:
-    """Where a request came from. The proxy's word is the last of X-Forwarded-For; what is before it the client's."""
-    if is_behind_tls and (told := request.headers.get("X-Forwarded-For", "").split(",")[-1].strip()):
-        return told
-    return request.remote or "-"
+    """Where a request came from. The proxy's word is the last of all lines X-Forwarded-For; what is before it the
+    client's, also where the proxy adds a line of its own."""
+    lines: list[str] = request.headers.getall("X-Forwarded-For", []) if is_behind_tls else []
+    told = lines[-1].split(",")[-1].strip() if lines else ""
+    return told or request.remote or "-"
