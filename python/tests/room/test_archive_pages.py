@@ -1,5 +1,7 @@
 """Pages of archives: what was in the database once, for administrators."""
 
+import gzip
+import os
 import pathlib
 
 from . import needs
@@ -62,6 +64,26 @@ def test_what_an_archive_has(tmp_path: pathlib.Path, where: str) -> None:
         assert (await reader.get("/archives/old.gz"))[0] == 403 and MARKUP not in (await reader.get("/history"))[1]
 
     run(tmp_path, where, act, archives=str(folder))
+
+
+def test_one_file_that_is_none_hides_no_other(tmp_path: pathlib.Path) -> None:
+    """Whatever it is called, and whatever stands in it."""
+    folder = tmp_path / os.fsdecode(b"of \xe4ll")
+    head = b'{"archive": 1, "database": "a", "made": %b, "older_than": 1, "signs": {}}\n'
+
+    async def act(bench: Bench, visitor: Visitors) -> None:
+        archived(bench, folder)
+        (folder / os.fsdecode(b"\xff.gz")).write_bytes((folder / "old.gz").read_bytes())
+        (folder / "deep.gz").write_bytes(gzip.compress(b"[" * 100_000 + b"\n"))
+        for name, made in (("great", b"1" * 400), ("endless", b"1e999"), ("late", b"1e13"), ("nowhere", b"NaN")):
+            (folder / f"{name}.gz").write_bytes(gzip.compress(head % made))
+        one = await bench.logged_in(visitor, "administrator")
+        status, text = await one.get("/archives")
+        assert status == 200 and 'href="/archives/old.gz"' in text and "\\udcff.gz" in text
+        for name in ("deep", "great", "endless", "late", "nowhere"):
+            assert f'<th scope="row">{name}.gz</th>' in text and (await one.get(f"/archives/{name}.gz"))[0] == 422, name
+
+    run(tmp_path, str(tmp_path / "database"), act, archives=str(folder))
 
 
 def test_without_a_folder(tmp_path: pathlib.Path) -> None:

@@ -23,6 +23,7 @@ FORM = 1
 AUDIT, COMMAND, READING, LINE = KINDS = ("audit", "command", "reading", "line")
 Entry = dict[str, Any]
 _LEVEL = 6
+_MOST_TIME = 2.0**35  # seconds from 1970: in every calendar, whatever the zone
 _PART = ".part"  # the end of the name of a file that is not whole yet
 
 
@@ -52,8 +53,11 @@ class Head:
             if entry["archive"] != FORM:
                 raise Refusal(f"{path} is an archive of form {entry['archive']}, and this program reads form {FORM}")
             signs = {int(sign): str(name) for sign, name in entry["signs"].items()}
-            return Head(str(entry["database"]), float(entry["made"]), float(entry["older_than"]), signs)
-        except (KeyError, TypeError, ValueError, AttributeError) as fault:
+            made, older_than = float(entry["made"]), float(entry["older_than"])
+            if not (abs(made) < _MOST_TIME and abs(older_than) < _MOST_TIME):
+                raise Refusal(f"{path} is no archive: a time of its first line is in no calendar")
+            return Head(str(entry["database"]), made, older_than, signs)
+        except (KeyError, TypeError, ValueError, AttributeError, OverflowError) as fault:
             raise Refusal(f"{path} is no archive") from fault
 
 
@@ -140,7 +144,7 @@ def _faults_told(path: pathlib.Path) -> Iterator[None]:
     """What is wrong with a file in words."""
     try:
         yield
-    except (EOFError, zlib.error, gzip.BadGzipFile, ValueError) as fault:
+    except (EOFError, zlib.error, gzip.BadGzipFile, ValueError, RecursionError) as fault:
         raise Refusal(f"{path} is damaged, or no archive: {fault}") from fault
     except OSError as fault:
         raise Refusal(reason(fault)) from fault

@@ -40,10 +40,11 @@ class Page:
 
 
 def _file(path: pathlib.Path) -> File:
+    name = path.name.encode("utf-8", "backslashreplace").decode()  # it may be no UTF-8
     try:
-        return File(path.name, path.stat().st_size, archives.head_of(path))
+        return File(name, path.stat().st_size, archives.head_of(path))
     except (Refusal, OSError) as fault:
-        return File(path.name, 0, None, str(fault).replace(str(path), path.name))
+        return File(name, 0, None, str(fault).replace(str(path), name))
 
 
 def _files(folder: str | None) -> list[File]:

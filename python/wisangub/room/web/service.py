@@ -98,7 +98,8 @@ class Service:
         text = self.html(
             template, visitor=visitor, rights=rights, token=token, path=request.path, **{**common, **values}
         )
-        return web.Response(text=text, content_type="text/html", charset="utf-8", status=status)
+        octets = text.encode("utf-8", "backslashreplace")  # a file's name may be no UTF-8
+        return web.Response(body=octets, content_type="text/html", charset="utf-8", status=status)
 
     # ---- what pages ask for
 
