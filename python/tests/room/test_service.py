@@ -71,6 +71,23 @@ def test_the_pages_answer_where_they_are_told_to_be_alone(
         made.service.close()
 
 
+@pytest.mark.parametrize("host, port", (("a" * 64 + ".example", 0), ("127.0.0.1", 65536), ("192.0.2.1", 0)))
+def test_where_no_pages_can_be_is_said_at_once(
+    tmp_path: pathlib.Path, monkeypatch: pytest.MonkeyPatch, host: str, port: int
+) -> None:
+    monkeypatch.setattr(passwords, "COST", 2**4)
+    made = Bench(tmp_path, str(tmp_path / "database"))
+    pages, begun = Pages(made.settings, list(made.service.signs.values()), host, port), time.monotonic()
+    with pytest.raises(Refusal, match=host) as refused:
+        pages.start()
+    assert time.monotonic() - begun < 30 and "no pages in time" not in str(refused.value)
+    pages.thread.join(30)
+    assert not pages.thread.is_alive() and pages.loop.is_closed()
+    pages.service.close()
+    made.store.database.close()
+    made.service.close()
+
+
 @pytest.mark.parametrize("which", (0, 1))
 def test_pages_and_worker_end_together(tmp_path: pathlib.Path, which: int) -> None:
     """Whichever of the two processes is killed; and the port is free for the next service."""

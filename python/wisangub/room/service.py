@@ -57,7 +57,7 @@ class Pages:
         self.runner = web.AppRunner(application(self.service), logger=_QUIET, **self.access)
         try:
             server = self.loop.run_until_complete(self.begun())
-        except (OSError, OverflowError) as fault:
+        except Exception as fault:  # also of a port or a name that is none: start waits for this thread
             self.fault = fault
         self.is_up.set()
         if self.fault is None:
