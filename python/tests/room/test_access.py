@@ -1,6 +1,8 @@
 """The access log: a line of JSON for each request, and no secret in it."""
 
+import errno
 import json
+import os
 import pathlib
 import stat
 import urllib.error
@@ -12,10 +14,14 @@ from . import needs
 
 needs.modules("aiohttp", "jinja2")
 
+from aiohttp import web
+from aiohttp.test_utils import make_mocked_request
+
 from trials.room.beside import Browser
 from wisangub.refusal import Refusal
 from wisangub.room.service import Pages
 from wisangub.room.store import passwords
+from wisangub.room.web.access import AccessLog
 
 from .test_limits import pages, said
 from .visits import PASSWORD, Bench
@@ -65,3 +71,39 @@ def test_a_log_that_fails_later_keeps_nobody_waiting(
             with urllib.request.urlopen(f"{standing.address}login", timeout=20) as answer:
                 assert answer.status == 200
     assert capfd.readouterr().err.count("the access log: ") == 1
+
+
+def test_a_line_that_is_written_in_part_takes_no_other_with_it(
+    tmp_path: pathlib.Path, monkeypatch: pytest.MonkeyPatch, capfd: pytest.CaptureFixture[str]
+) -> None:
+    """As a disk becomes full; and the file may be another one by then."""
+    path, room, write = tmp_path / "access", [1 << 20], os.write
+    log = AccessLog(str(path), is_behind_tls=False)
+
+    def full(file: int, octets: bytes) -> int:
+        if not room[0] and octets:
+            raise OSError(errno.ENOSPC, os.strerror(errno.ENOSPC))
+        written = write(file, octets[: room[0]])
+        room[0] -= written
+        return written
+
+    def asked(most: int, *paths: str) -> None:
+        room[0] = most
+        with monkeypatch.context() as patched:
+            patched.setattr(os, "write", full)
+            for one in paths:
+                log.write(make_mocked_request("GET", one), web.Response(), 0.0)
+
+    def read(file: pathlib.Path) -> list[str]:
+        return [json.loads(line)["path"] for line in file.read_text().split("\n") if line.endswith("}")]
+
+    asked(1 << 20, "/a")
+    asked(50, "/b", "/c")
+    asked(1 << 20, "/d", "/e")
+    assert read(path) == ["/a", "/d", "/e"]
+    assert capfd.readouterr().err.count("the access log: ") == 1
+    asked(50, "/f")
+    path.rename(tmp_path / "older")
+    asked(1 << 20, "/g")
+    assert read(tmp_path / "older") == ["/a", "/d", "/e"] and read(path) == ["/g"]
+    assert path.read_text().startswith("{") and capfd.readouterr().err.count("the access log: ") == 1

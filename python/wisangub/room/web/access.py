@@ -1,6 +1,7 @@
 """The access log: an object of JSON a line, for each request that was answered."""
 
 import datetime
+import errno
 import json
 import os
 import threading
@@ -18,11 +19,12 @@ from .security import address_of
 
 class AccessLog:
     """A file that lines are appended to. It is opened for each of them anew, so that it may be moved away at any time.
-    Where a line cannot be written, the log says so once, and requests are answered all the same."""
+    Where a line cannot be written, or in part alone, the log says so once, and requests are answered all the same."""
 
     def __init__(self, path: str, is_behind_tls: bool) -> None:
         self.path, self.is_behind_tls = path, is_behind_tls
         self._turn, self._is_faulty = threading.Lock(), False
+        self._torn: os.stat_result | None = None  # the file whose last line was written in part
         try:
             self._append("")
         except OSError as fault:
@@ -40,12 +42,20 @@ class AccessLog:
             self._is_faulty = True
 
     def _append(self, line: str) -> None:
+        """A line, after a newline where the last one was written in part."""
         with self._turn:
             file = os.open(self.path, os.O_WRONLY | os.O_CREAT | os.O_APPEND | os.O_CLOEXEC, MODE)
             try:
-                os.write(file, line.encode())
+                held = os.fstat(file)
+                is_torn = self._torn is not None and os.path.samestat(self._torn, held)
+                octets = b"\n" * is_torn + line.encode()
+                written = os.write(file, octets)
             finally:
                 os.close(file)
+            if written:
+                self._torn = None if octets[:written].endswith(b"\n") else held
+            if written < len(octets):
+                raise OSError(errno.ENOSPC, os.strerror(errno.ENOSPC), self.path)
 
     def _entry(self, request: web.BaseRequest, response: web.StreamResponse, seconds: float) -> dict[str, Any]:
         """What is said of a request: nothing of its body, its cookies or its query, in which texts stand."""
