@@ -5,6 +5,7 @@ import json
 import os
 import pathlib
 import stat
+import threading
 import urllib.error
 import urllib.request
 
@@ -107,3 +108,33 @@ def test_a_line_that_is_written_in_part_takes_no_other_with_it(
     asked(1 << 20, "/g")
     assert read(tmp_path / "older") == ["/a", "/d", "/e"] and read(path) == ["/g"]
     assert path.read_text().startswith("{") and capfd.readouterr().err.count("the access log: ") == 1
+
+
+def test_a_pipe_that_nobody_reads_keeps_nobody_waiting(
+    tmp_path: pathlib.Path, capfd: pytest.CaptureFixture[str]
+) -> None:
+    path = tmp_path / "access"
+    os.mkfifo(path)
+    reader = os.open(path, os.O_RDONLY | os.O_NONBLOCK)
+    log = AccessLog(str(path), is_behind_tls=False)
+
+    def asked(times: int) -> None:
+        for _ in range(times):
+            log.write(make_mocked_request("GET", "/" + 500 * "a"), web.Response(), 0.0)
+
+    def is_done(times: int) -> bool:
+        asking = threading.Thread(target=asked, args=(times,), daemon=True)
+        asking.start()
+        asking.join(20)
+        return not asking.is_alive()
+
+    try:
+        assert is_done(1) and json.loads(os.read(reader, 4096))["status"] == 200
+        assert is_done(1000), "a pipe that is full"
+        os.close(reader)
+        assert is_done(3), "a pipe without a reader"
+        assert capfd.readouterr().err.count("the access log: ") == 1
+        with pytest.raises(Refusal, match="access: "):
+            AccessLog(str(path), is_behind_tls=False)
+    finally:
+        path.unlink()

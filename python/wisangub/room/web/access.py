@@ -16,6 +16,8 @@ from wisangub.room.output import LOG
 
 from .security import address_of
 
+_OPENED = os.O_WRONLY | os.O_CREAT | os.O_APPEND | os.O_CLOEXEC | os.O_NONBLOCK  # of a pipe whose reader is gone, too
+
 
 class AccessLog:
     """A file that lines are appended to. It is opened for each of them anew, so that it may be moved away at any time.
@@ -44,7 +46,7 @@ class AccessLog:
     def _append(self, line: str) -> None:
         """A line, after a newline where the last one was written in part."""
         with self._turn:
-            file = os.open(self.path, os.O_WRONLY | os.O_CREAT | os.O_APPEND | os.O_CLOEXEC, MODE)
+            file = os.open(self.path, _OPENED, MODE)
             try:
                 held = os.fstat(file)
                 is_torn = self._torn is not None and os.path.samestat(self._torn, held)
