@@ -17,6 +17,7 @@ from wisangub.process.places import TOP
 from wisangub.room.store import brightness, groups, history, library, plans, rights, rules, tokens, users
 from wisangub.room.store.brightness import Wish
 from wisangub.room.store.library import Written
+from wisangub.room.store.messages import RowSaid
 from wisangub.room.store.rights import Level
 from wisangub.room.store.users import Role
 from wisangub.room.web import events
@@ -24,6 +25,7 @@ from wisangub.room.web.api import checks
 from wisangub.room.web.api.document import document
 from wisangub.room.web.api.operations import BASE, JSON, OPERATIONS
 from wisangub.room.web.api.schemas import SCHEMAS
+from wisangub.snmp.names import RowStatus
 
 from .test_pages import filled
 from .visits import NAMES, READER, WRITER, Bench, Visitors, run
@@ -306,6 +308,32 @@ def test_rows_priorities_and_texts_of_the_library(tmp_path: pathlib.Path) -> Non
             assert (await system.post(path, said, f"k{number}"))[0] == 202, said
             found = str(held.run("SELECT line FROM commands ORDER BY id DESC LIMIT 1")[0][0])
             assert found.startswith(line.format(me=b"operator".hex())), (found, line)
+
+    run(tmp_path, str(tmp_path / "database"), act)
+
+
+@pytest.mark.parametrize("number", (256, -1, 2**32 - 1, "77", None))
+def test_what_no_sign_may_say_keeps_no_sign_from_being_asked(tmp_path: pathlib.Path, number: Any) -> None:
+    """A priority or a checksum that no request takes: nothing is known of it then."""
+
+    async def act(bench: Bench, visitor: Visitors) -> None:
+        bench.read(bench.one, priority=number)
+        bench.read(bench.two, priority=99)
+        checksum = 65536 if number == 256 else number
+        held = {"text": "", "owner": "", "checksum": checksum, "priority": number}
+        bench.store.messages.keep([RowSaid(bench.one, 3, 1, -3, RowStatus.VALID, json.dumps(held))])
+        system = System(bench, visitor, "operator")
+        for path, said, line in (
+            ("/blank", {"signs": [bench.one, bench.two]}, "blank 1 65535 254 127.0.0.1"),
+            ("/show", {"sign": bench.one, "memory": "changeable", "row": 1}, "activate fffffe03000100007f000001"),
+        ):
+            assert (await system.post(path, said, path))[0] == 202, said
+            assert bench.store.database.run("SELECT line FROM commands ORDER BY id DESC LIMIT 1")[0][0] == line
+        assert (await system.get(f"/signs/{bench.one}/table"))[0] == 200
+        one = await bench.logged_in(visitor, "operator")
+        for path in (f"/blank?sign={bench.one}&sign={bench.two}", f"/show?sign={bench.one}&memory=3&number=1"):
+            assert 'name="priority" type="number" min="0" max="255" value="254"' in (await one.get(path))[1], path
+        assert (await one.get("/"))[0] == 200
 
     run(tmp_path, str(tmp_path / "database"), act)
 

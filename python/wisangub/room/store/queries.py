@@ -11,6 +11,7 @@ from .values import SLACK, places, text_or_none, time_of, time_or_none, whole, w
 
 _NEAR = 1000  # rows
 _FEW = 20  # signs
+_MOST_PRIORITY, _MOST_CHECKSUM = 255, 65535
 _SIGNS = """
 SELECT signs.id, signs.name, signs.place, signs.address, signs.poll,
        last.at, last.fault, last.shown,
@@ -32,6 +33,12 @@ def _number_of(held: dict[str, object], word: str) -> int | None:
     """A number that a sign said; None for whatever else it said."""
     found = held.get(word)
     return found if isinstance(found, int) else None
+
+
+def _asked_with(held: dict[str, object], word: str, most: int) -> int | None:
+    """A number that a sign said, with which it may be asked for something; None for one that no request takes."""
+    found = _number_of(held, word)
+    return found if found is not None and 0 <= found <= most else None
 
 
 def _octets_of(held: dict[str, object], word: str) -> bytes:
@@ -68,7 +75,7 @@ class Shown:
             _octets_of(held, "owner"),
             _number_of(held, "beacon"),
             _number_of(held, "pixel"),
-            _number_of(held, "priority"),
+            _asked_with(held, "priority", _MOST_PRIORITY),
         )
 
 
@@ -329,8 +336,8 @@ def table(database: Database, number: int) -> TableView:
                 time_of(heard),
                 _octets_of(cells, "text"),
                 _octets_of(cells, "owner"),
-                _number_of(cells, "checksum") or 0,
-                _number_of(cells, "priority") or 0,
+                _asked_with(cells, "checksum", _MOST_CHECKSUM) or 0,
+                _asked_with(cells, "priority", _MOST_PRIORITY) or 0,
             )
         )
     asked, wanted = database.run("SELECT table_read_at, table_wanted FROM signs WHERE id = ?", number)[0]
