@@ -294,6 +294,35 @@ def test_what_ends_a_log_in(tmp_path: pathlib.Path, where: str) -> None:
     run(tmp_path, where, act)
 
 
+@pytest.mark.parametrize("does", ("password", "disable"))
+def test_what_ends_all_log_ins_ends_the_one_that_begins(
+    tmp_path: pathlib.Path, where: str, monkeypatch: pytest.MonkeyPatch, does: str
+) -> None:
+    """The old password was looked at before, and the log-in stands in the database after."""
+
+    async def act(bench: Bench, visitor: Visitors) -> None:
+        held, is_password = bench.store.database, passwords.is_password
+
+        def ended(password: str, secret: str) -> bool:
+            found = is_password(password, secret)
+            if does == "password":
+                users.change_password(held, "operator", "another password", "a test")
+            else:
+                users.disable(held, "operator", True, "a test")
+            return found
+
+        one = visitor()
+        with monkeypatch.context() as patched:
+            patched.setattr(passwords, "is_password", ended)
+            assert (await one.log_in("operator"))[0] == 403
+        assert held.run("SELECT count(*) FROM logins WHERE name = 'operator' AND ended IS NULL") == [(0,)]
+        assert (await one.answered("/")).status == 303
+        if does == "password":
+            assert await visitor().log_in("operator", "another password") == (303, "/")
+
+    run(tmp_path, where, act)
+
+
 def test_a_log_in_ends_where_nobody_is_there(tmp_path: pathlib.Path, where: str) -> None:
     async def act(bench: Bench, visitor: Visitors) -> None:
         held, one = bench.store.database, await bench.logged_in(visitor, "reader")

@@ -168,10 +168,14 @@ def unlock(database: Database, name: str, who: str) -> None:
         note(database, who, f"failed log-ins of user {name} are forgotten")
 
 
-def begin(database: Database, name: str, address: str) -> str:
-    """A log-in: what its cookie says. The user's failed ones from this address are forgotten."""
+def begin(database: Database, name: str, address: str, secret: str | None = None) -> str:
+    """A log-in: what its cookie says. The user's failed ones from this address are forgotten. Refused where the user no
+    longer has the secret by which his password was found right: with another one all log-ins have ended."""
     made = secrets.token_urlsafe(24)
-    with database.transaction():
+    is_his = "SELECT 1 FROM users WHERE name = ? AND secret = ? AND disabled = 0"
+    with database.transaction(is_alone=True):
+        if secret is not None and not database.run(is_his, name, secret):
+            raise Refusal(f"user {name} has another password, or may not log in")
         forgive(database, name, address)
         database.run(
             "INSERT INTO logins (id, name, address, begun) VALUES (?, ?, ?, {clock})", _hidden(made), name, address

@@ -7,6 +7,7 @@ from urllib.parse import quote
 
 from aiohttp import web
 
+from wisangub.refusal import Refusal
 from wisangub.room.store import factors, logins, passwords, users
 
 from .security import address_of
@@ -43,12 +44,18 @@ async def form(request: web.Request) -> web.Response:
     return _shown(request, local(request.query.get("next", "/")))
 
 
-async def is_right(service: Service, name: str, password: str) -> bool:
-    """Whether somebody of this name has this password; it takes the same time where there is nobody."""
+async def _found_by(service: Service, name: str, password: str) -> str | None:
+    """What is kept of the password, where it is that of somebody of this name; it takes the same time where there is
+    nobody."""
     kept = await service.connections.run(lambda database: users.secret(database, name))
     async with _ONE_AT_A_TIME:
         found = await asyncio.to_thread(lambda: passwords.is_password(password, kept or passwords.nobody()))
-    return found and kept is not None
+    return kept if found else None
+
+
+async def is_right(service: Service, name: str, password: str) -> bool:
+    """Whether somebody of this name has this password."""
+    return await _found_by(service, name, password) is not None
 
 
 async def to_wait(service: Service, name: str, address: str) -> int:
@@ -71,7 +78,8 @@ async def log_in(request: web.Request) -> web.StreamResponse:
         answer = _shown(request, then, f"Too many log-ins failed. Please try again in {seconds} s.", 429, name)
         answer.headers["Retry-After"] = str(seconds)
         return answer
-    if not await is_right(service, name, password):
+    secret = await _found_by(service, name, password)
+    if secret is None:
         await service.connections.run(lambda database: logins.failed(database, name, of))
         return _shown(request, then, _WRONG, 403, name)
     code = str(fields.get("code", ""))
@@ -79,7 +87,10 @@ async def log_in(request: web.Request) -> web.StreamResponse:
         what = "a log-in failed by its code"
         await service.connections.run(lambda database: logins.failed(database, name, of, what))
         return _shown(request, then, _WRONG, 403, name)
-    cookie = await service.connections.run(lambda database: logins.begin(database, name, of))
+    try:
+        cookie = await service.connections.run(lambda database: logins.begin(database, name, of, secret))
+    except Refusal:
+        return _shown(request, then, _WRONG, 403, name)
     answer = web.Response(status=303, headers={"Location": then})
     service.seal.set(answer, "login", cookie, logins.LASTS)
     service.seal.drop(answer, _BEFORE)
