@@ -1,5 +1,6 @@
 """History, audit and ledger: words, days and people that are looked for, and all of it as CSV."""
 
+import asyncio
 import csv
 import io
 import pathlib
@@ -12,6 +13,7 @@ import pytest
 
 from wisangub.room.store import groups, history, search
 from wisangub.room.store.audit import note
+from wisangub.room.store.connection import Away, Database
 from wisangub.room.store.lines import Line, News
 from wisangub.room.store.rights import Level
 
@@ -214,4 +216,36 @@ def test_what_pages_say(tmp_path: pathlib.Path) -> None:
         answer = await one.client.request("DELETE", "/compose")
         assert answer.status == 405 and "takes no request of this kind" in await answer.text()
 
+    run(tmp_path, str(tmp_path / "database"), act)
+
+
+@pytest.mark.parametrize("version", (b"1.1", b"1.0"))
+def test_csv_that_breaks_off_seems_not_to_be_whole(
+    tmp_path: pathlib.Path, monkeypatch: pytest.MonkeyPatch, version: bytes
+) -> None:
+    """As a proxy asks for it, and where the database goes away: no page that says so stands at its end."""
+    audited, slices = history.audited, [0]
+
+    def away(held: Database, wanted: history.AuditWanted) -> list[history.Entry]:
+        slices[0] += 1
+        if slices[0] > 2:
+            raise Away("the database is away")
+        return audited(held, wanted)
+
+    async def act(bench: Bench, visitor: Visitors) -> None:
+        one = await bench.logged_in(visitor, "administrator")
+        cookies = "; ".join(f"{one.key}={one.value}" for one in one.client.session.cookie_jar).encode()
+        monkeypatch.setattr(history, "audited", away)
+        reader, writer = await asyncio.open_connection("127.0.0.1", one.client.port)
+        writer.write(b"GET /audit.csv HTTP/" + version + b"\r\nHost: a\r\nCookie: " + cookies + b"\r\n\r\n")
+        found = b""
+        with pytest.raises(ConnectionResetError):
+            while more := await reader.read(65536):
+                found += more
+        assert slices[0] == 3 and b"</html>" not in found and b" 503 " not in found
+        writer.close()
+
+    from wisangub.room.web import exports
+
+    monkeypatch.setattr(exports, "SLICE", 2)
     run(tmp_path, str(tmp_path / "database"), act)

@@ -2,6 +2,8 @@
 
 import csv
 import io
+import socket
+import struct
 from dataclasses import replace
 from typing import Any, Callable, Sequence
 
@@ -21,6 +23,7 @@ from .service import Service, service_of, visitor_of
 
 _COMMANDS = ("number", "asked", "sign", "who", "what", "text", "how", "outcome", "why", "ended")
 _ENTRIES = ("number", "at", "who", "what")
+_AT_ONCE = struct.pack("ii", 1, 0)  # what waits to go out is thrown away
 _Slice = Callable[[Database, int | None], tuple[list[Sequence[Any]], int | None]]
 
 
@@ -54,12 +57,23 @@ async def _exported(request: web.Request, name: str, columns: tuple[str, ...], s
     await answer.prepare(request)
     await answer.write(_lines([columns]))
     before: int | None = None
-    while True:
-        after = before
-        rows, before = await service.connections.run(lambda database: slice_of(database, after))
-        await answer.write(_lines(rows))
-        if before is None:
-            return answer
+    try:
+        while True:
+            after = before
+            rows, before = await service.connections.run(lambda database: slice_of(database, after))
+            await answer.write(_lines(rows))
+            if before is None:
+                return answer
+    except Exception:
+        _break_off(request)
+        raise
+
+
+def _break_off(request: web.Request) -> None:
+    """Resets the connection, so that the file does not seem to be whole; else what says why would stand in it."""
+    if request.transport is not None and not request.transport.is_closing():
+        request.transport.get_extra_info("socket").setsockopt(socket.SOL_SOCKET, socket.SO_LINGER, _AT_ONCE)
+        request.transport.abort()
 
 
 async def history_csv(request: web.Request) -> web.StreamResponse:
