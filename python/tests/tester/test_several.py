@@ -72,6 +72,7 @@ def test_a_list_at_fault_is_refused_with_its_line() -> None:
     table = [
         ("north 127.0.0.1:1\n", "line 1: such a line is: NAME HOST:PORT DESCRIPTION"),
         ("../north 127.0.0.1:1 a.sign\n", "line 1: such a line is"),
+        ("several 127.0.0.1:1 a.sign\n", "line 1: several.json is the report of all signs"),
         ("\nnorth 127.0.0.1:1 a.sign\nnorth 127.0.0.1:2 a.sign\n", "line 3: another sign is called north"),
         ("north 127.0.0.1:1 'a.sign\n", "line 1: No closing quotation"),
         ("north 127.0.0.1:1 a.sign --json=x\n", "--json=x is not for a test of several signs"),

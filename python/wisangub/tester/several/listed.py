@@ -10,6 +10,7 @@ from wisangub.tester.cli import arguments
 
 _FORM = "NAME HOST:PORT DESCRIPTION [OPTION ..]"
 _NAME = re.compile(r"[A-Za-z0-9][A-Za-z0-9._-]*")
+ALL = "several"  # what the report of all signs is called, as those of a sign are by its name
 _OWN = ("--to", "--sign", "--html", "--junit", "--json", "--repeat", "--resume", "--person")  # no option of a line
 
 
@@ -58,6 +59,8 @@ def _listed(path: pathlib.Path, number: int, words: list[str]) -> Listed:
     where = f"{path}, line {number}"
     if len(words) < 3 or not _NAME.fullmatch(words[0]):
         raise Refusal(f"{where}: such a line is: {_FORM}")
+    if words[0] == ALL:
+        raise Refusal(f"{where}: {ALL}.json is the report of all signs: none of them is called {ALL}")
     refused(words[3:], where)
     return Listed(words[0], words[1], path.parent / words[2], tuple(words[3:]))
 

@@ -22,7 +22,7 @@ from wisangub.refusal import Refusal, reason
 from wisangub.tester.findings.results import Verdict
 from wisangub.tester.options import count
 
-from .listed import Listed, read, refused
+from .listed import ALL, Listed, read, refused
 
 _WRONG = "not tested"  # what a command that is wrong comes to
 _WORDS = {verdict.status: verdict.value for verdict in Verdict} | {2: _WRONG}
@@ -98,7 +98,7 @@ def _summary(signs: list[Listed], several: Several) -> int:
         }
         for held in signs
     ]
-    (several.folder / "several.json").write_text(json.dumps(whole, indent=1) + "\n", encoding="utf-8")
+    (several.folder / f"{ALL}.json").write_text(json.dumps(whole, indent=1) + "\n", encoding="utf-8")
     known = [status if status in (0, *_ORDER) else 2 for status in statuses.values()]
     return next((status for status in _ORDER if status in known), 0)
 
