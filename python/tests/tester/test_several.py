@@ -46,6 +46,17 @@ def test_each_sign_has_its_verdict_and_its_reports() -> None:
             assert (folder / f"reports/south.{kind}").stat().st_size, kind
 
 
+def test_a_sign_whose_reports_cannot_be_written_keeps_no_other_from_its_test() -> None:
+    with tempfile.TemporaryDirectory() as name:
+        folder, long = pathlib.Path(name), 300 * "a"
+        (folder / "list").write_text(f"{long} 127.0.0.1:1 no.sign\nwest 127.0.0.1:1 no.sign\n", encoding="utf-8")
+        call = [*CALL, str(folder / "list"), "--into", str(folder / "reports"), "--jobs", "1", *OPTIONS]
+        ended = subprocess.run(call, cwd=TOP, capture_output=True, timeout=LONG, check=False)
+        assert ended.returncode == 2 and b"2 not tested" in ended.stdout and not ended.stderr, ended
+        held = json.loads((folder / "reports/several.json").read_text(encoding="utf-8"))
+        assert "File name too long" in held[0]["words"] and "no.sign" in held[1]["words"]
+
+
 def test_an_interrupt_ends_the_tests_that_run_and_begins_no_other() -> None:
     with tempfile.TemporaryDirectory() as name, contextlib.ExitStack() as ends:
         folder, port = pathlib.Path(name), free_port()

@@ -60,9 +60,13 @@ class Several:
     def _work(self) -> None:
         while not self.is_stopped:
             try:
-                self._test(self.waiting.get_nowait())
+                held = self.waiting.get_nowait()
             except queue.Empty:
                 return
+            try:
+                self._test(held)
+            except OSError as fault:  # of its reports: the others are tested all the same
+                self._tell(held, 2, reason(fault))
 
     def _test(self, held: Listed) -> None:
         """A sign's test, and its line."""
@@ -77,7 +81,10 @@ class Several:
                 process.send_signal(signal.SIGTERM)
             status = process.wait()
             self.running.remove(process)
-        said = path.read_text(encoding="utf-8", errors="replace").rstrip().split("\n")[-1]
+        self._tell(held, status, path.read_text(encoding="utf-8", errors="replace").rstrip().split("\n")[-1])
+
+    def _tell(self, held: Listed, status: int, said: str) -> None:
+        """How a sign's test ended."""
         with self._lock:
             self.ended[held.name] = (status, said)
             print(f"{held.name} at {held.to}: {said}", flush=True)
