@@ -2,16 +2,18 @@
 
 import math
 from typing import Any, Sequence
+from unittest import mock
 
 from model import text
 from model.sign import Sign
 from trials.wrong_signs import bench, misbehaving
 from trials.wrong_signs.misbehaving import Misbehaving
 from wisangub.refusal import Refusal
-from wisangub.snmp.names import scalar
+from wisangub.snmp.names import RowStatus, scalar
 from wisangub.tester.chapters import ALL
 from wisangub.tester.findings.results import ChapterResult, Quiet, Results, Verdict
 from wisangub.tester.report import files, page, terminal, words
+from wisangub.tester.requests.objects import Column, integer
 from wisangub.tester.requests.steps import get
 from wisangub.tester.runs.repeat import repeat
 from wisangub.tester.session import chapters_of
@@ -211,3 +213,24 @@ def test_an_interrupt_puts_the_sign_back() -> None:
     results = session.run(chapters_of(SHORT, False))
     assert results.verdict() is Verdict.NOT_JUDGED and "interrupted" in results.stopped and results.is_set_back
     assert results.chapters[0].blocks == 4 < results.chapters[0].wanted
+
+
+def test_an_interrupt_while_a_tick_is_looked_for_leaves_no_row() -> None:
+    """Nothing was sent since the known state, and a row is validated for the moment at which that ends."""
+    for step in ("watch_asked", "watch"):
+        session = bench.session(text.BENCH, Sign(text.bench()))
+        session.prepare(chapters_of(SHORT, False))
+        assert session.preflight.begin(False)
+        session.reset.reach_or_end()
+        status = session.context.rows[0].cell(Column.STATUS)
+        validation = session.reset.validation
+        with mock.patch.object(validation, step, side_effect=KeyboardInterrupt):
+            try:
+                session.reset.reach(observe=True)
+            except KeyboardInterrupt:
+                assert session.reset.read([status]) != {status: integer(RowStatus.NOT_USED)}, step
+            else:
+                raise AssertionError(step)
+        session.put_back()
+        assert session.reset.read([status]) == {status: integer(RowStatus.NOT_USED)}, step
+        assert session.results.is_set_back, step

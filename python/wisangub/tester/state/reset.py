@@ -177,6 +177,7 @@ class Reset:
 
     def validate(self, row: Row) -> None:
         """An empty row is validated, for its verdict and to see when the sign's tick comes."""
+        self.pair.touched.add(row)
         is_answered = self.put(put(row.status(RowStatus.MODIFY_REQ)), *self.objects.verdicts())
         asked = self.pair.clock.now()
         is_answered &= self.put(put(row.status(RowStatus.VALIDATE_REQ)), *self.objects.verdicts())
@@ -185,7 +186,6 @@ class Reset:
         else:
             self.validation.watch(row)
         self.put(put(row.status(RowStatus.NOT_USED_REQ)), row.cell(Column.STATUS))
-        self.pair.touched.add(row)
 
     # --- both ------------------------------------------------------------------------------------------------
 
@@ -198,6 +198,7 @@ class Reset:
         observe |= self.validation.is_to_be_learnt() and bool(self.context.rows)
         if not observe and not self.pair.is_dirty:
             return []
+        self.pair.is_dirty = True  # until it is there: an interrupt may come between two writes
         unreached: list[Unreached] = []
         if observe or not is_alike or len(self.pair.log) > _MOST_KEPT or not self.go_together():
             unreached = self._brought(observe)
