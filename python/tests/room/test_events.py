@@ -11,6 +11,8 @@ from . import needs
 
 needs.modules("aiohttp", "jinja2")
 
+from jinja2 import TemplateNotFound
+
 from wisangub.room.store import users
 from wisangub.room.store.users import Role
 from wisangub.room.web import events, wall
@@ -55,6 +57,39 @@ def test_what_has_changed_is_told(tmp_path: pathlib.Path, where: str) -> None:
             stream.close()
 
     run(tmp_path, where, act)
+
+
+def test_a_fault_of_a_view_ends_its_streams_and_no_other(
+    tmp_path: pathlib.Path, monkeypatch: pytest.MonkeyPatch, capfd: pytest.CaptureFixture[str]
+) -> None:
+    """As where a template is away while the service is installed anew; afterwards all is told as before."""
+    faults: list[Exception] = []
+
+    def parts(*values: Any) -> dict[str, str]:
+        if faults:
+            raise faults[0]
+        return made(*values)
+
+    made = wall.parts
+    monkeypatch.setattr(wall, "parts", parts)
+
+    async def act(bench: Bench, visitor: Visitors) -> None:
+        one = await bench.logged_in(visitor, "reader")
+        walls, sign = await listened(one, "wall"), await listened(one, f"sign/{bench.one}")
+        assert "counts" in await told(walls) and "shown" in await told(sign)
+        faults.append(TemplateNotFound("parts.html"))
+        bench.read(bench.one, text=b"NEW".hex())
+        assert "NEW" in (await told(sign))["shown"]
+        assert not (await asyncio.wait_for(walls.content.read(), 20)).startswith(b"data"), "it ends"
+        await asyncio.sleep(20 * bench.settings.look)
+        faults.clear()
+        walls = await listened(one, "wall")
+        assert "shows NEW" in (await told(walls))[f"sign-{bench.one}"]
+        for stream in (walls, sign):
+            stream.close()
+
+    run(tmp_path, str(tmp_path / "database"), act)
+    assert capfd.readouterr().err.count("what has changed cannot be told: TemplateNotFound") == 1
 
 
 def test_a_card_is_made_anew_where_its_sign_says_something_new(tmp_path: pathlib.Path, where: str) -> None:

@@ -8,6 +8,7 @@ from typing import Callable
 
 from aiohttp import web
 
+from wisangub.room.output import LOG
 from wisangub.room.store import queries, rights
 from wisangub.room.store.database import Database, Failed, Taken
 from wisangub.room.store.logins import Visitor
@@ -72,7 +73,7 @@ class Hub:
         self.streams: set[Stream] = set()
         self.connections = Connections(service.settings.database, 1)  # a mark is of one connection
         self.last: dict[_Key, Parts] = {}
-        self.mark, self.looked = "", 0.0
+        self.mark, self.looked, self.said = "", 0.0, ""
         self.every: list[wall.Card] | None = None
         self.clock: float | None = None  # the database's time, less this machine's since it was started
 
@@ -113,8 +114,18 @@ class Hub:
             if self.streams:
                 try:
                     await self.look()
+                    self.said = self.said if not self.mark else ""
                 except (Failed, Taken):
                     self.mark = ""
+                except Exception as fault:
+                    self._say(fault)
+
+    def _say(self, fault: Exception) -> None:
+        """A fault of the service, once; it is looked again all the same."""
+        words, self.mark = f"{type(fault).__name__}: {str(fault)[:200]!r}", ""
+        if words != self.said:
+            LOG.error(f"what has changed cannot be told: {words}")
+        self.said = words
 
     async def _tell_time(self) -> None:
         """Tells all pages the database's time where its clock has jumped: ages are by it."""
@@ -132,17 +143,31 @@ class Hub:
         watched = {stream.key for stream in self.streams}
         is_new = mark != self.mark or now - self.looked > AGES
         self.last, self.every = {key: parts for key, parts in self.last.items() if key in watched}, None
+        self.mark, self.looked = mark, now if is_new else self.looked
         for key in watched:
             if not is_new and key in self.last:
                 continue
-            parts = await self.connections.run(self.made(key))
+            try:
+                parts = await self.connections.run(self.made(key))
+            except (Failed, Taken):
+                raise
+            except Exception as fault:
+                self._say(fault)
+                self._end(key)
+                continue
             before = self.last.get(key, {})
             changed = {name: html for name, html in parts.items() if before.get(name) != html}
             self.last[key] = parts
             for stream in self.streams:
                 if changed and stream.key == key:
                     stream.put(changed)
-        self.mark, self.looked = mark, now if is_new else self.looked
+
+    def _end(self, key: _Key) -> None:
+        """Ends the streams of a view, which browsers begin anew: else they would show what was for what is."""
+        self.last.pop(key, None)
+        for stream in self.streams:
+            if stream.key == key:
+                stream.put(None)
 
     def enter(self, stream: Stream) -> None:
         """A new stream; it is told all that is known of its view first."""
