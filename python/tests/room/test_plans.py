@@ -98,6 +98,38 @@ def test_what_is_no_schedule(words: tuple[str, str, str, str, str]) -> None:
         times("2026-11-30", "2026-11-30", WEEK, "10:00", "11:00", "Nowhere/Town")
 
 
+@pytest.mark.parametrize(
+    "begins, ends", (("06:00:10", "06:00:50"), ("06:00:00.5", "06:01"), ("06:00+02:00", "07:00"), ("0600", "07"))
+)
+def test_a_schedule_is_of_whole_minutes(begins: str, ends: str) -> None:
+    """As the database has it: else it is never on as it is read again."""
+    with pytest.raises(Refusal, match="a schedule "):
+        times("2026-11-30", "2026-11-30", "", begins, ends)
+
+
+def test_a_schedule_of_no_calendar_is_refused() -> None:
+    with pytest.raises(Refusal, match="no day of this machine's calendar"):
+        times("9999-12-30", "9999-12-31", WEEK, "23:00", "01:00")
+    for days in ("", WEEK):
+        assert times("2026-11-30", "9999-12-31", days, "23:00", "01:00").on(second("2026-11-30T22:30")) is not None
+
+
+def test_a_schedule_that_cannot_be_on_here_keeps_no_other_from_it(where: str) -> None:
+    """Of a zone that this machine has not, or one that an earlier version took: plans are listed, and looked at."""
+    store, _, one = two_stores(where)
+    held, number = store.database, planned(store, one)
+    for zone in ("UTC", "UTC", "Europe/Berlin"):
+        plans.add_schedule(held, number, always(zone), "me")
+    first, second_, _ = plans.listed(held)[0].schedules
+    held.run("UPDATE schedules SET zone = 'Nowhere/Town' WHERE id = ?", first.id)
+    held.run("UPDATE schedules SET last_day = first_day WHERE id = ?", second_.id)
+    look(store)
+    assert lines(held) == [(one, "me", LINE)]
+    plans.remove_schedule(held, number, first.id, "me")
+    assert len(plans.listed(held)[0].schedules) == 2
+    held.close()
+
+
 def lines(held: Database) -> list[tuple[object, ...]]:
     """All that was asked for."""
     return list(held.run("SELECT sign, who, line FROM commands ORDER BY id"))

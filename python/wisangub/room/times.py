@@ -1,6 +1,7 @@
 """When something is on: from a day until a day, on days of the week, from and until times of a zone."""
 
 import datetime
+import re
 import zoneinfo
 from dataclasses import dataclass
 from typing import Iterator
@@ -9,6 +10,9 @@ from wisangub.refusal import Refusal
 
 _DAY = datetime.timedelta(days=1)
 _LOOKED = 400  # days that are looked at for the next time: a day of the week of a leap year is among them
+_WORDS = "a schedule has two days and two times, such as 2026-11-30 and 06:00"
+_MINUTES = re.compile(r"[0-9]{2}:[0-9]{2}(?::00)?")
+_LAST_YEAR = 9990  # from which on so many days more may be in no calendar
 DAYS = ("Mon", "Tue", "Wed", "Thu", "Fri", "Sat", "Sun")
 Span = tuple[float, float]  # seconds since 1970: from, and until
 
@@ -28,21 +32,29 @@ class Times:
 
     @staticmethod
     def of(first_day: str, last_day: str, days: str, begins: str, ends: str, zone: str) -> "Times":
-        """By words, as a form and the database have them; refused where they are no days and times, or never on."""
-        try:
-            made = Times(
-                datetime.date.fromisoformat(first_day),
-                datetime.date.fromisoformat(last_day),
-                frozenset(map(int, days)),
-                datetime.time.fromisoformat(begins),
-                datetime.time.fromisoformat(ends),
-                zone,
-            )
-        except ValueError:
-            raise Refusal("a schedule has two days and two times, such as 2026-11-30 and 06:00") from None
+        """By words, as a form has them; refused where they are no days and times of whole minutes, or never on."""
+        if not all(map(_MINUTES.fullmatch, (begins, ends))):
+            raise Refusal(_WORDS)
+        made = Times.kept(first_day, last_day, days, begins, ends, zone)
         if not made.days <= frozenset(range(7)) or next(made.spans(made.first_day), None) is None:
             raise Refusal("a schedule ends after it begins, and one of its days is between them")
         return made
+
+    @staticmethod
+    def kept(first_day: str, last_day: str, days: str, begins: str, ends: str, zone: str) -> "Times":
+        """By words, as the database has them; refused where they are no days and times. Its zone may be one that this
+        machine has not."""
+        try:
+            return Times(
+                datetime.date.fromisoformat(first_day),
+                datetime.date.fromisoformat(last_day),
+                frozenset(map(int, days)),
+                datetime.time.fromisoformat(begins).replace(tzinfo=None),
+                datetime.time.fromisoformat(ends).replace(tzinfo=None),
+                zone,
+            )
+        except ValueError:
+            raise Refusal(_WORDS) from None
 
     @property
     def word(self) -> str:
@@ -52,7 +64,10 @@ class Times:
     def at(self, day: datetime.date, time: datetime.time) -> float:
         """Seconds since 1970 of a local time. Of one that comes twice it is the first; one that is left out, as clocks
         go forward, is as much later as they go."""
-        return datetime.datetime.combine(day, time, _zone(self.zone)).timestamp()
+        try:
+            return datetime.datetime.combine(day, time, _zone(self.zone)).timestamp()
+        except (ValueError, OverflowError, OSError):
+            raise Refusal(f"{day} is no day of this machine's calendar") from None
 
     def spans(self, day: datetime.date) -> Iterator[Span]:
         """When it is on, from what begins on this day or later."""
@@ -62,6 +77,8 @@ class Times:
                 yield span
             return
         day = max(day, self.first_day)
+        if day.year > _LAST_YEAR:
+            raise Refusal(f"{day} is no day of this machine's calendar")
         ends = min(self.last_day, day + _LOOKED * _DAY)
         while day <= ends:
             if day.weekday() in self.days:

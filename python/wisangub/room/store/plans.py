@@ -73,7 +73,7 @@ class Plan:
 
 
 def _schedule(row: Row) -> Schedule:
-    return Schedule(whole(row[0]), str(row[1]), whole(row[2]), str(row[3]), Times.of(*map(str, row[4:])))
+    return Schedule(whole(row[0]), str(row[1]), whole(row[2]), str(row[3]), Times.kept(*map(str, row[4:])))
 
 
 def _run(row: Row) -> Run:
