@@ -2,7 +2,11 @@
 
 import json
 import pathlib
+import threading
 import time
+from unittest import mock
+
+import pytest
 
 from wisangub.snmp import wire
 
@@ -27,6 +31,24 @@ def test_a_reading_says_what_is_shown(tmp_path: pathlib.Path, where: str) -> Non
         lines = [str(line).split(" ") for (line,) in at.store.database.run("SELECT line FROM lines")]
         replies = [wire.spelled(bytes.fromhex(line[1])) for line in lines if line[0] == "datagram"]
         assert replies and all(reply is not None and reply.number >= 0 for reply in replies), "its answer is no line"
+
+
+def test_a_fault_of_one_thing_ends_no_other(tmp_path: pathlib.Path, capfd: pytest.CaptureFixture[str]) -> None:
+    """The thread goes on to read, and to look for plans."""
+    with bench(tmp_path, str(tmp_path / "room.sqlite")) as at:
+        reader = at.worker().reader
+        looked = threading.Semaphore(0)
+        reader.next_alarms = 0.0
+        with mock.patch.object(reader.store.alarms, "look", side_effect=ValueError("nobody thought of it")):
+            with mock.patch.object(reader.store.plans, "look", side_effect=looked.release):
+                thread = threading.Thread(target=reader.run, daemon=True)
+                thread.start()
+                is_looked = looked.acquire(timeout=60)
+                reader.is_stopped.set()
+                thread.join(60)
+        reader.gets.close()
+        assert is_looked and not thread.is_alive()
+    assert capfd.readouterr().err.count("readings: ValueError: 'nobody thought of it'") == 1
 
 
 def test_a_reading_has_a_socket_of_its_own(tmp_path: pathlib.Path, where: str) -> None:

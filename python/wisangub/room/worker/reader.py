@@ -41,6 +41,7 @@ class Reader:
         self.next_look, self.next_alarms, self.next_plans = 0.0, time.monotonic() + EVERY, 0.0
         self.next_months = time.monotonic() + months.EVERY  # who opened the database has made those of now
         self.failing: float | None = None  # since when
+        self.said = ""  # of a fault of the program
         self.is_stopped = threading.Event()
         self.thread: threading.Thread | None = None
 
@@ -58,6 +59,15 @@ class Reader:
             except (Failed, Taken) as fault:
                 self._tell(fault)
                 self.is_stopped.wait(self.every)
+            except Exception as fault:  # of one sign, or of one plan: all else is done all the same
+                self._say(f"{type(fault).__name__}: {str(fault)[:200]!r}")
+                self.is_stopped.wait(self.every)
+
+    def _say(self, words: str) -> None:
+        """Says a fault of the program, once."""
+        if words != self.said:
+            LOG.error(f"readings: {words}")
+        self.said = words
 
     def _tell(self, fault: Exception) -> None:
         """Says a fault that stays, once."""
