@@ -95,6 +95,20 @@ def test_a_text_is_refused_at_its_place(
     run(tmp_path, str(tmp_path / "database"), act)
 
 
+@pytest.mark.parametrize("signs", ("[1e999]", "[NaN]", "[null]", '["x"]', "{}", "1", "[[1]]"))
+def test_what_is_no_list_of_signs_is_a_bad_request(
+    tmp_path: pathlib.Path, capfd: pytest.CaptureFixture[str], signs: str
+) -> None:
+    async def act(bench: Bench, visitor: Visitors) -> None:
+        one = await bench.logged_in(visitor, "operator")
+        headers = {"X-Token": await one.token(), "Content-Type": "application/json"}
+        answer = await one.client.post("/look", data=f'{{"text": "A", "signs": {signs}}}', headers=headers)
+        assert answer.status == 400
+
+    run(tmp_path, str(tmp_path / "database"), act)
+    assert "a page failed" not in capfd.readouterr().err
+
+
 def test_fields_that_are_not_in_order(tmp_path: pathlib.Path) -> None:
     async def act(bench: Bench, visitor: Visitors) -> None:
         one = await bench.logged_in(visitor, "operator")

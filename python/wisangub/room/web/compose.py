@@ -85,7 +85,7 @@ async def look(request: web.Request) -> web.Response:
         text = drafts.joined(str(held["text"]))[:4096]
         may = commanded(request)
         signs = tuple(sign_id for sign_id in map(int, held["signs"][:_MOST_SIGNS]) if sign_id in may)
-    except (ValueError, KeyError, TypeError):
+    except (ValueError, KeyError, TypeError, OverflowError):  # OverflowError: of a number that is none, 1e999
         raise web.HTTPBadRequest(text="This is no text and list of signs.") from None
     found = await looks(service, signs, text)
     return web.json_response(
