@@ -10,6 +10,7 @@ import socketserver
 import ssl
 import threading
 import time
+from dataclasses import replace
 from typing import Any, Callable, Iterator
 
 import pytest
@@ -182,6 +183,20 @@ def test_what_failed_is_tried_again_and_not_for_ever(where: str, capsys: pytest.
             later(store.database)
             teller.tell(store.database)
         assert store.database.run("SELECT tries FROM notices WHERE target = 'mail'") == [(alarms.TRIES,)]
+
+
+@pytest.mark.parametrize("address", ("duty@", "duty@[", "duty <"))
+def test_who_has_no_address_keeps_no_other_from_being_told(
+    where: str, capsys: pytest.CaptureFixture[str], address: str
+) -> None:
+    store, _, sign = two_stores(where)
+    store.readings.keep([Said(sign, -1, fault="no reply")])
+    store.alarms.look()
+    with standing(Smtp) as smtp, standing(Hook) as web:
+        teller = Notices(where, Settings((replace(mail(smtp), to=(address,)), hook(web))))
+        teller.tell(store.database)
+        assert smtp.heard == [] and len(web.heard) == 1
+    assert capsys.readouterr().err.count("alarms are not told (mail)") == 1
 
 
 @pytest.mark.parametrize(("security", "kind"), [("starttls", StartTls), ("tls", OverTls)])

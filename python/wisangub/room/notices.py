@@ -54,7 +54,7 @@ class Target(Protocol):
         ...
 
     def tell(self, found: list[Alarm]) -> None:
-        """Raises OSError, smtplib.SMTPException or http.client.HTTPException where it was not done."""
+        """Raises where it was not done: OSError, smtplib.SMTPException, http.client.HTTPException, or else."""
 
 
 @contextlib.contextmanager
@@ -258,7 +258,7 @@ class Notices:
                 continue
             try:
                 target.tell(found)
-            except (OSError, smtplib.SMTPException, http.client.HTTPException, ValueError) as fault:
+            except Exception as fault:  # also an IndexError, of what is no address: others are told all the same
                 self._say(target.name, str(fault) or type(fault).__name__)
             else:
                 self.faults.pop(target.name, None)
