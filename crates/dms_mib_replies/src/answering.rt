@@ -12,18 +12,14 @@ use crate::objects::{Next, Objects};
 use crate::sending::{repeat, reply, reply_one};
 use dms_wire::{Bind, BindingOctets, Binds, ErrorStatus, Message, Out};
 
-/// Answers a Get. One binding needs no room for several.
+/// Answers a Get. One binding needs no room for several, which is cleared where it is made.
 #[tactic(auto, unfolding(crate::specs::Replies::get_reply))]
 pub fn answer_get<O: Objects>(objects: &O, message: &Message<'_>, out: &mut Out)
     requires { IsRead (snmp_message message.now) }
     ensures { out.new.items ≡ get_reply (O.reads objects.now) (snmp_message message.now) }
 {
     let Some(name) = message.binds.only_name() else {
-        let mut octets = BindingOctets::new();
-        return match values_of(objects, &message.binds, &mut octets) {
-            Ok(()) => reply(message, &octets, out),
-            Err(index) => repeat(message, ErrorStatus::NoSuchName, index, out),
-        };
+        return answer_get_of_several(objects, message, out);
     };
     match objects.value(&name) {
         Some(value) => reply_one(message, &Bind { name, value }, out),
@@ -31,24 +27,48 @@ pub fn answer_get<O: Objects>(objects: &O, message: &Message<'_>, out: &mut Out)
     }
 }
 
-/// Answers a GetNext. One binding needs no room for several.
+/// Answers a Get of any number of bindings.
+#[inline(never)]
+#[tactic(auto, unfolding(crate::specs::Replies::get_reply))]
+fn answer_get_of_several<O: Objects>(objects: &O, message: &Message<'_>, out: &mut Out)
+    requires { IsRead (snmp_message message.now) }
+    ensures { out.new.items ≡ get_reply (O.reads objects.now) (snmp_message message.now) }
+{
+    let mut octets = BindingOctets::new();
+    match values_of(objects, &message.binds, &mut octets) {
+        Ok(()) => reply(message, &octets, out),
+        Err(index) => repeat(message, ErrorStatus::NoSuchName, index, out),
+    }
+}
+
+/// Answers a GetNext. One binding needs no room for several, which is cleared where it is made.
 #[tactic(auto, unfolding(crate::specs::Replies::get_next_reply))]
 pub fn answer_next<O: Objects>(objects: &O, message: &Message<'_>, out: &mut Out)
     requires { IsRead (snmp_message message.now) }
     ensures { out.new.items ≡ get_next_reply (O.follows objects.now) (snmp_message message.now) }
 {
     let Some(name) = message.binds.only_name() else {
-        let mut octets = BindingOctets::new();
-        return match values_after(objects, &message.binds, &mut octets) {
-            Ok(()) => reply(message, &octets, out),
-            Err(index) => repeat(message, ErrorStatus::NoSuchName, index, out),
-        };
+        return answer_next_of_several(objects, message, out);
     };
     let Some(Next { name: next, value }) = objects.next(&name) else {
         return repeat(message, ErrorStatus::NoSuchName, 1, out);
     };
     let name = next.oid();
     reply_one(message, &Bind { name, value }, out)
+}
+
+/// Answers a GetNext of any number of bindings.
+#[inline(never)]
+#[tactic(auto, unfolding(crate::specs::Replies::get_next_reply))]
+fn answer_next_of_several<O: Objects>(objects: &O, message: &Message<'_>, out: &mut Out)
+    requires { IsRead (snmp_message message.now) }
+    ensures { out.new.items ≡ get_next_reply (O.follows objects.now) (snmp_message message.now) }
+{
+    let mut octets = BindingOctets::new();
+    match values_after(objects, &message.binds, &mut octets) {
+        Ok(()) => reply(message, &octets, out),
+        Err(index) => repeat(message, ErrorStatus::NoSuchName, index, out),
+    }
 }
 
 /// Appends these bindings with what their names read, or answers the index of the first name that is that of no
