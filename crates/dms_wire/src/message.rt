@@ -356,6 +356,9 @@ pub fn write(parts: &MessageParts<'_>, out: &mut Out) -> Result<(), TooBig>
         status: parts.status,
         index: parts.index,
     };
+    if let [binding] = parts.binds {
+        return write_one(&header, binding, out);
+    }
     let size = size_of_bindings(parts.binds)?;
     begin(&header, size, out)?;
     put_bindings(out, parts.binds);
@@ -364,6 +367,14 @@ pub fn write(parts: &MessageParts<'_>, out: &mut Out) -> Result<(), TooBig>
 
 /// Writes, as `write` does, the message with this header and this binding alone, of which the size is computed once.
 pub fn write_binding(header: &Header<'_>, binding: &Bind<'_>, out: &mut Out) -> Result<(), TooBig>
+    ensures { IsWritten result out.new.items (canonical (message_around header.now (var_bind binding.now ∷ []))) }
+{
+    write_one(header, binding, out)
+}
+
+/// The same, for a call that has the header in registers.
+#[inline(always)]
+fn write_one(header: &Header<'_>, binding: &Bind<'_>, out: &mut Out) -> Result<(), TooBig>
     ensures { IsWritten result out.new.items (canonical (message_around header.now (var_bind binding.now ∷ []))) }
 {
     out.clear();
@@ -435,6 +446,7 @@ fn write_shortest(header: &Header<'_>, binds: Binds<'_>, out: &mut Out) -> Resul
 
 /// Writes what stands before bindings of `size` octets over what `out` holds, or nothing where the message would have
 /// more than `MAX_DATAGRAM` octets.
+#[inline(always)]
 #[tactic(auto, using(crate::proofs::Prefixes::prefix_steps))]
 fn begin(header: &Header<'_>, size: usize, out: &mut Out) -> Result<(), TooBig>
     requires { size ≤ longest_datagram }

@@ -1,7 +1,7 @@
 use Rattle.std.proofs.Common.{[], ◌∷◌, rules, refl}
 use Rattle.dms_wire.specs.View.{var_bind, message_around}
 use Rattle.dms_wire.proofs.Prefixes.{computed, completed, bindings_alone}
-use Rattle.dms_wire.proofs.message.write_binding.Goals as goal
+use Rattle.dms_wire.proofs.message.write_one.Goals as goal
 
 pub returns-in_err-content : goal.returns-in_err-content
 returns-in_err-content c =
