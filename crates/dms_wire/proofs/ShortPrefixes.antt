@@ -1,14 +1,14 @@
 -- What stands before the bindings of a message where each length is one octet.
-use Rattle.std.proofs.Common.{◌≡◌, ℕ, ℤ, pos, ◌+◌, ◌<◌, List, [], ◌∷◌, ◌++◌, length, refl, sym, ap, ◌∙◌, arith, append_assoc, length-append}
+use Rattle.std.proofs.Common.{◌≡◌, ℕ, ℤ, pos, ◌+◌, ◌/◌, ◌%◌, ◌^◌, ◌<◌, ◌≤◌, List, [], ◌∷◌, ◌++◌, length, refl, sym, ap, ◌∙◌, arith, append_assoc, length-append}
 use Rattle.dms_wire.specs.Message.{VarBind, SnmpMessage}
 use Rattle.dms_wire.specs.Spelling.{tag_of}
 use Rattle.dms_wire_ber.specs.Length.{short_length}
 use Rattle.dms_wire_ber.specs.Element.{element}
-use Rattle.dms_wire_ber.specs.Integer.{integer_octets}
+use Rattle.dms_wire_ber.specs.Integer.{positive_octets, integer_octets}
 use Rattle.dms_wire_ber.specs.ObjectIdentifier.{name_octets}
 use Rattle.dms_wire.specs.Canonical.{value_octets, binding_octets, numbers_octets}
 use Rattle.dms_wire.specs.Prefix.{pdu_size, content_size, prefix}
-use Rattle.dms_wire_ber.proofs.Shortest.{element_length, length_one, natural_one, short_length_small}
+use Rattle.dms_wire_ber.proofs.Shortest.{element_length, length_one, natural_one, natural_two, short_length_small}
 
 octet_of : (n : ℕ) → n < 128 → element 2 (integer_octets (pos n)) ≡ 2 ∷ 1 ∷ n ∷ []
 unfolding integer_octets
@@ -34,6 +34,10 @@ status_room numbers request status index are =
 -- a request-id of one octet
 pub request_is : (request : ℤ) (octet : ℕ) → request ≡ pos octet → octet < 128 → element 2 (integer_octets request) ≡ 2 ∷ 1 ∷ octet ∷ []
 request_is request octet e small = ap (λ z. element 2 (integer_octets z)) e ∙ octet_of octet small
+
+-- and one of two
+pub two_octets : (n : ℕ) → 128 ≤ n → n < 2 ^ 15 → element 2 (positive_octets n) ≡ 2 ∷ 2 ∷ (n / 256 % 256) ∷ (n % 256) ∷ []
+two_octets n large small = natural_two 2 n large small
 
 pub ruleset request_steps = (request_is, length-append, append_assoc)
 

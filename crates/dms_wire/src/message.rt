@@ -22,7 +22,7 @@ ghost use Rattle.dms_wire.specs.View.{var_bind, message_around, snmp_message, sn
 ghost use Rattle.dms_wire.specs.PduView.{numbered};
 ghost use Rattle.dms_wire.specs.Prefix.{pdu_size, content_size, message_size, pdu_prefix, message_prefix, prefix};
 ghost use Rattle.dms_wire_ber.specs.Element.{element};
-ghost use Rattle.dms_wire_ber.specs.Integer.{integer_octets};
+ghost use Rattle.dms_wire_ber.specs.Integer.{integer_octets, positive_octets};
 ghost use Rattle.dms_wire_ber.specs.Limits.{longest_datagram};
 
 use crate::binding::{
@@ -348,6 +348,24 @@ fn pdu(octets: &[u8], end: usize) -> Result<PduFields<'_>, WireFault>
 pub fn write(parts: &MessageParts<'_>, out: &mut Out) -> Result<(), TooBig>
     ensures { IsWritten result out.new.items (canonical (snmp_message_of_parts parts.now)) }
 {
+    let [binding] = parts.binds else {
+        return write_many(parts, out);
+    };
+    let header = Header {
+        community: parts.community,
+        kind: parts.kind,
+        request: parts.request,
+        status: parts.status,
+        index: parts.index,
+    };
+    write_one(&header, binding, out)
+}
+
+/// Writes a message of any number of bindings, as `write` does: apart from those of one, of which most are.
+#[inline(never)]
+fn write_many(parts: &MessageParts<'_>, out: &mut Out) -> Result<(), TooBig>
+    ensures { IsWritten result out.new.items (canonical (snmp_message_of_parts parts.now)) }
+{
     out.clear();
     let header = Header {
         community: parts.community,
@@ -356,9 +374,6 @@ pub fn write(parts: &MessageParts<'_>, out: &mut Out) -> Result<(), TooBig>
         status: parts.status,
         index: parts.index,
     };
-    if let [binding] = parts.binds {
-        return write_one(&header, binding, out);
-    }
     let size = size_of_bindings(parts.binds)?;
     begin(&header, size, out)?;
     put_bindings(out, parts.binds);
@@ -477,7 +492,7 @@ fn begin(header: &Header<'_>, size: usize, out: &mut Out) -> Result<(), TooBig>
 
 /// Writes what stands before bindings of `size` octets where each length is one octet: what is known before and after
 /// the community at once.
-#[inline]
+#[inline(always)]
 fn put_short_prefix(out: &mut Out, header: &Header<'_>, size: usize, pdu: usize, content: usize)
     requires pdu { pdu ≡ pdu_size (message_around header.now []) size }
     requires content { content ≡ content_size (message_around header.now []) pdu }
@@ -502,7 +517,7 @@ fn put_short_prefix(out: &mut Out, header: &Header<'_>, size: usize, pdu: usize,
 
 /// Writes the PDU's tag and what stands before the bindings in it, each length one octet: what follows the request-id
 /// at once, as most messages have it.
-#[inline]
+#[inline(always)]
 #[tactic(auto, using(crate::proofs::Sizes::element_steps))]
 fn put_short_pdu_prefix(out: &mut Out, header: &Header<'_>, size: u8, pdu: u8)
     requires { array_vec_len out.old + (length (numbers_octets (message_around header.now [])) + 4) ≤ longest_datagram }
@@ -539,6 +554,8 @@ fn put_request(out: &mut Out, tag: u8, pdu: u8, request: &i64)
 {
     if let Some(octet) = octet_of(request) {
         put_content(out, &[tag, pdu, universal::INTEGER, 1, octet]);
+    } else if let Some((high, low)) = octets_of(request) {
+        put_content(out, &[tag, pdu, universal::INTEGER, 2, high, low]);
     } else {
         put_content(out, &[tag, pdu]);
         put_integer(out, request);
@@ -566,6 +583,30 @@ fn octet_of(number: &i64) -> Option<u8>
     } else {
         None
     }
+}
+
+/// The content of an INTEGER from 128 to 2^15 - 1, which is two octets.
+#[inline(always)]
+#[tactic(auto, unfolding(dms_wire_ber::specs::Integer::integer_octets))]
+fn octets_of(number: &i64) -> Option<(u8, u8)>
+    ensures { IfSome result (λ x. element 2 (integer_octets number.now) ≡ 2 ∷ 2 ∷ x.0 ∷ x.1 ∷ []) }
+{
+    if 128 <= *number && *number < 1 << 15 {
+        Some(two_octets(*number as u64))
+    } else {
+        None
+    }
+}
+
+/// The two octets of a number.
+#[inline(always)]
+#[tactic(auto, using(crate::proofs::ShortPrefixes::two_octets))]
+fn two_octets(number: u64) -> (u8, u8)
+    requires large { 128 ≤ number }
+    requires small { number < 2 ^ 15 }
+    ensures { element 2 (positive_octets number) ≡ 2 ∷ 2 ∷ result.0 ∷ result.1 ∷ [] }
+{
+    ((number / 256 % 256) as u8, (number % 256) as u8)
 }
 
 /// Writes what stands before the PDU's content: the version, which is 0, the community and the PDU's tag and length.

@@ -1,7 +1,7 @@
 use Rattle.std.proofs.Common.{rules, refl, map}
 use Rattle.dms_wire.specs.View.{var_bind, snmp_message_of_parts}
 use Rattle.dms_wire.proofs.Prefixes.{computed, completed, bindings_alone, header_of}
-use Rattle.dms_wire.proofs.message.write.Goals as goal
+use Rattle.dms_wire.proofs.message.write_many.Goals as goal
 
 pub returns-in_err-size : goal.returns-in_err-size
 returns-in_err-size c =
