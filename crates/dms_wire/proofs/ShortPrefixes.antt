@@ -81,3 +81,6 @@ short_binding b content e small =
 
 -- how many octets elements with lengths of one octet take
 pub ruleset short_sizes = (element_length, length_one, length-append)
+
+-- and what such elements are
+pub ruleset short_steps = (element_length, length_one, length-append, append_assoc)

@@ -460,10 +460,31 @@ fn write_shortest(header: &Header<'_>, binds: Binds<'_>, out: &mut Out) -> Resul
 }
 
 /// Writes what stands before bindings of `size` octets over what `out` holds, or nothing where the message would have
-/// more than `MAX_DATAGRAM` octets.
+/// more than `MAX_DATAGRAM` octets: first for lengths of one octet, as most messages have them.
 #[inline(always)]
-#[tactic(auto, using(crate::proofs::Prefixes::prefix_steps))]
+#[tactic(auto, using(crate::proofs::ShortPrefixes::short_steps))]
 fn begin(header: &Header<'_>, size: usize, out: &mut Out) -> Result<(), TooBig>
+    requires { size ≤ longest_datagram }
+    ensures ok { OnOk result (out.new.items ≡ prefix (message_around header.now []) size) }
+    ensures fits { OnOk result (message_size (message_around header.now []) size ≤ longest_datagram) }
+    ensures room { OnOk result (array_vec_len out.new + size ≤ longest_datagram) }
+    ensures empty { OnErr result (out.new.items ≡ []) }
+    ensures too_big { OnErr result (longest_datagram < message_size (message_around header.now []) size) }
+{
+    let pdu = size_of_numbers(header) + 2 + size;
+    let content = 7 + header.community.len() + pdu;
+    if content >= 128 {
+        return begin_any(header, size, out);
+    }
+    out.clear();
+    put_short_prefix(out, header, size, pdu, content);
+    Ok(())
+}
+
+/// The same with lengths of any number of octets.
+#[inline(never)]
+#[tactic(auto, using(crate::proofs::Prefixes::prefix_steps))]
+fn begin_any(header: &Header<'_>, size: usize, out: &mut Out) -> Result<(), TooBig>
     requires { size ≤ longest_datagram }
     ensures ok { OnOk result (out.new.items ≡ prefix (message_around header.now []) size) }
     ensures fits { OnOk result (message_size (message_around header.now []) size ≤ longest_datagram) }
@@ -480,13 +501,9 @@ fn begin(header: &Header<'_>, size: usize, out: &mut Out) -> Result<(), TooBig>
     if size_of_element(content) > MAX_DATAGRAM {
         return Err(TooBig);
     }
-    if content < 128 {
-        put_short_prefix(out, header, size, pdu, content);
-    } else {
-        put_head(out, universal::SEQUENCE, content);
-        put_message_prefix(out, header, pdu);
-        put_pdu_prefix(out, header, size);
-    }
+    put_head(out, universal::SEQUENCE, content);
+    put_message_prefix(out, header, pdu);
+    put_pdu_prefix(out, header, size);
     Ok(())
 }
 
