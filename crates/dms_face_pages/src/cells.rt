@@ -90,7 +90,7 @@ impl Cells {
             self.old self.new }
     {
         let lit = eight_masked(&self.numbers[first..first + 8], mask_of(octet), number);
-        self.numbers[first..first + 8].copy_from_slice(&lit);
+        write_eight(&mut self.numbers[first..first + 8], lit);
     }
 
     /// Adds the style of lit cells that show this, unless it is one of the styles. There is no memory for it only where
@@ -149,6 +149,22 @@ fn eight_masked(cells: &[u8], mask: [u8; 8], number: u8) -> [u8; 8]
         masked(cells[6], mask[6], number),
         masked(cells[7], mask[7], number),
     ]
+}
+
+/// Writes the numbers of eight cells, one by one: so the compiler makes it one store of eight octets.
+#[inline]
+fn write_eight(cells: &mut [u8], numbers: [u8; 8])
+    requires { length cells.old ≡ 8 }
+    ensures { cells.new ≡ numbers }
+{
+    cells[0] = numbers[0];
+    cells[1] = numbers[1];
+    cells[2] = numbers[2];
+    cells[3] = numbers[3];
+    cells[4] = numbers[4];
+    cells[5] = numbers[5];
+    cells[6] = numbers[6];
+    cells[7] = numbers[7];
 }
 
 /// The style of cells that are not lit.

@@ -19,13 +19,13 @@ invariant_of-self c =
     let number = c.args.number in
     let inside : first + 8 ≤ length numbers = omega (arith, c.requires.inside, ap (λ (cells : StyledCells). length cells.cells) c.self.view_is, length-map numbers (style styles)) in
     let own : IsLitStyle styles number = subst (λ (now : StyledCells). IsLitStyle now.styles number) (sym c.self.view_is) c.requires.number in
-    let eight : c.copy_from_slice.new.self ≡ eight_masked (take (first + 8 - first) (drop first numbers)) (mask_of octet) number =
-    c.copy_from_slice.ensures.after ∙ c.eight_masked-lit.ensures
+    let eight : c.write_eight.new.cells ≡ eight_masked (take (first + 8 - first) (drop first numbers)) (mask_of octet) number =
+    c.write_eight.ensures ∙ c.eight_masked-lit.ensures
     ∙ ap (λ xs. eight_masked (take (first + 8 - first) (drop first xs)) c.mask_of.result number) c.deref.ensures.value
     ∙ ap (λ mask. eight_masked (take (first + 8 - first) (drop first numbers)) mask number) c.mask_of.ensures in
-    let all : put_mid first (first + 8 - first) c.deref_mut.result.now c.copy_from_slice.new.self ≡ written first numbers octet number =
-    ap (λ xs. put_mid first (first + 8 - first) xs c.copy_from_slice.new.self) c.deref_mut.ensures.value ∙ ap (put_mid first (first + 8 - first) numbers) eight in
-    let whole = with_items_is c.self.inside.numbers (put_mid first (first + 8 - first) c.deref_mut.result.now c.copy_from_slice.new.self) (search (rules, places)) ∙ all in
+    let all : put_mid first (first + 8 - first) c.deref_mut.result.now c.write_eight.new.cells ≡ written first numbers octet number =
+    ap (λ xs. put_mid first (first + 8 - first) xs c.write_eight.new.cells) c.deref_mut.ensures.value ∙ ap (put_mid first (first + 8 - first) numbers) eight in
+    let whole = with_items_is c.self.inside.numbers (put_mid first (first + 8 - first) c.deref_mut.result.now c.write_eight.new.cells) (search (rules, places)) ∙ all in
     subst (AreStyled styles) (sym whole)
     (styled_where (λ k. nat_le first k && is_bit octet (k - first)) styles numbers (written first numbers octet number) number c.self.invariant own
     (length_written first numbers octet number inside) (all_written first numbers octet number inside (omega arith) (omega arith)))
@@ -40,16 +40,16 @@ returns c =
     let number = c.args.number in
     let inside : first + 8 ≤ length numbers = omega (arith, c.requires.inside, ap (λ (cells : StyledCells). length cells.cells) c.self.view_is, length-map numbers (style styles)) in
     let own : IsLitStyle styles number = subst (λ (now : StyledCells). IsLitStyle now.styles number) (sym c.self.view_is) c.requires.number in
-    let eight : c.copy_from_slice.new.self ≡ eight_masked (take (first + 8 - first) (drop first numbers)) (mask_of octet) number =
-    c.copy_from_slice.ensures.after ∙ c.eight_masked-lit.ensures
+    let eight : c.write_eight.new.cells ≡ eight_masked (take (first + 8 - first) (drop first numbers)) (mask_of octet) number =
+    c.write_eight.ensures ∙ c.eight_masked-lit.ensures
     ∙ ap (λ xs. eight_masked (take (first + 8 - first) (drop first xs)) c.mask_of.result number) c.deref.ensures.value
     ∙ ap (λ mask. eight_masked (take (first + 8 - first) (drop first numbers)) mask number) c.mask_of.ensures in
-    let all : put_mid first (first + 8 - first) c.deref_mut.result.now c.copy_from_slice.new.self ≡ written first numbers octet number =
-    ap (λ xs. put_mid first (first + 8 - first) xs c.copy_from_slice.new.self) c.deref_mut.ensures.value ∙ ap (put_mid first (first + 8 - first) numbers) eight in
-    let whole = with_items_is c.self.inside.numbers (put_mid first (first + 8 - first) c.deref_mut.result.now c.copy_from_slice.new.self) (search (rules, places)) ∙ all in
+    let all : put_mid first (first + 8 - first) c.deref_mut.result.now c.write_eight.new.cells ≡ written first numbers octet number =
+    ap (λ xs. put_mid first (first + 8 - first) xs c.write_eight.new.cells) c.deref_mut.ensures.value ∙ ap (put_mid first (first + 8 - first) numbers) eight in
+    let whole = with_items_is c.self.inside.numbers (put_mid first (first + 8 - first) c.deref_mut.result.now c.write_eight.new.cells) (search (rules, places)) ∙ all in
     let on : ℕ → Bool = λ k. nat_le first k && is_bit octet (k - first) in
     subst (λ (now : StyledCells). Lights on (style now.styles number) now
-    (with_numbers styles memory (with_items c.self.inside.numbers (put_mid first (first + 8 - first) c.deref_mut.result.now c.copy_from_slice.new.self)).items)) c.self.view_is
+    (with_numbers styles memory (with_items c.self.inside.numbers (put_mid first (first + 8 - first) c.deref_mut.result.now c.write_eight.new.cells)).items)) c.self.view_is
     (subst (λ (new : List ℕ). Lights on (style styles number) (with_numbers styles memory numbers) (with_numbers styles memory new)) (sym whole)
     (lights_where on styles memory numbers (written first numbers octet number) number c.self.invariant own
     (length_written first numbers octet number inside) (all_written first numbers octet number inside (omega arith) (omega arith))))
