@@ -6,8 +6,7 @@ use Rattle.std.proofs.lemmas.Bool.{cases_Bool, cases_lt, and_parts, and_from, or
 use Rattle.std.proofs.lemmas.Nat.{and_mask, and_le_l}
 use Rattle.std.proofs.lemmas.Nat.Bits.{bit_at-lt, bit_at_and, bit_at_ones, bit_at_ones_above, bit_at_above, bit_at_clear_same, bit_at_clear_other, bit_at-trailing_zeros}
 use Rattle.std.proofs.Math.Bool.{and-true}
-use Rattle.dms_face_font.specs.Glyph.{GlyphModel, lit_at, is_bit}
-use Rattle.dms_face_pages.specs.Drawing.{is_lit_in_row}
+use Rattle.dms_face_font.specs.Glyph.{is_bit}
 use Rattle.dms_face_pages.proofs.DrawingLaws.{same_test}
 
 -- ---- one bit
@@ -92,10 +91,3 @@ one_done first row left column less place on among is = grind (arith, same_test,
 pub still_among : (row left column less : ℕ) → ((k : ℕ) → is_bit left k ≡ true → is_bit row k ≡ true) → ((k : ℕ) → is_bit less k ≡ (is_bit left k && not (k == column)))
     → (k : ℕ) → is_bit less k ≡ true → is_bit row k ≡ true
 still_among row left column less among is k on = among k (and_parts _ _ (sym (is k) ∙ on)).0
-
--- ---- the columns of a picture's row
-
-pub columns_lit : (first columns row bits : ℕ) (glyph : GlyphModel) (line place : ℕ) → ((k : ℕ) → is_bit row k ≡ lit_at glyph k line)
-    → ((k : ℕ) → is_bit bits k ≡ (nat_lt k columns && is_bit row k))
-    → (nat_le first place && is_bit bits (place - first)) ≡ is_lit_in_row first columns glyph line place
-columns_lit first columns row bits glyph line place lit front = grind arith

@@ -2,11 +2,11 @@
 use Rattle.std.proofs.Common.{◌≡◌, ℕ, zero, suc, ◌+◌, ◌-◌, ◌*◌, ◌/◌, ◌%◌, ◌<◌, ◌≤◌, ◌&&◌, ◌||◌, Bool, true, false, cond, List, [], ◌∷◌, ◌++◌, length, Option, Some, None, sym, ap, subst, ◌∙◌, arith, min}
 use Rattle.std.specs.Prelude.{nat_le, nat_lt, slice_index_or}
 use Rattle.std.specs.Option.{option_or}
-use Rattle.std.proofs.lemmas.Bool.{and_parts, and_from, and_left, leb-true, le-leb, lt-leb, ltb-true, lt-ltb, eqb-true, eq-eqb}
+use Rattle.std.proofs.lemmas.Bool.{and_parts, and_from, leb-true, le-leb, ltb-true, lt-ltb, eqb-true, eq-eqb}
 use Rattle.std.proofs.lemmas.Nat.{div-add-mod', mod_below, div_below, same_from_place}
 use Rattle.std.proofs.lemmas.List.Folds.{find-append}
 use Rattle.dms_face.specs.declared.cell.Cell.{Cell}
-use Rattle.dms_face_font.specs.Glyph.{GlyphModel, lit_at}
+use Rattle.dms_face_font.specs.Glyph.{GlyphModel, is_bit, lit_at}
 use Rattle.dms_face.specs.Face.{FaceModel}
 use Rattle.dms_face.specs.Layout.{PageModel}
 use Rattle.dms_face.specs.Cells.{PlacedCharacter, is_lit_by, cell_by}
@@ -27,7 +27,7 @@ wide place zero height below = absurd (omega arith)
 wide place (suc width) height below = omega arith
 
 -- A row of a picture is cut off at the matrix's right end.
-pub on_row : (width x y columns wide : ℕ) (glyph : GlyphModel) (row place : ℕ) → 0 < width → x < width → columns ≡ min wide (width - x)
+pub on_row : (width x y columns wide : ℕ) (glyph : GlyphModel) (row place : ℕ) → 0 < width → x ≤ width → columns ≡ min wide (width - x)
     → ((column line : ℕ) → lit_at glyph column line ≡ true → column < wide)
     → is_lit_in_row (y * width + x) columns glyph row place ≡ is_lit_on_row width x y glyph row place
 on_row width x y columns wide glyph row place some inside is within = same_test _ _
@@ -60,6 +60,20 @@ pub more_above : (width x y : ℕ) (glyph : GlyphModel) (rows place : ℕ)
     ≡ (is_in_picture (place % width) (place / width) x y glyph && nat_lt (place / width) (y + (rows + 1)))
 more_above width x y glyph rows place = grind arith
 
+-- A row of a picture has its bits in its columns.
+pub row_lit : (first width bits : ℕ) (glyph : GlyphModel) (row place : ℕ) → ((column : ℕ) → is_bit bits column ≡ lit_at glyph column row)
+    → ((column : ℕ) → lit_at glyph column row ≡ true → column < width) → (nat_le first place && is_bit bits (place - first)) ≡ is_lit_in_row first width glyph row place
+row_lit first width bits glyph row place are within = same_test _ _
+    (λ h.
+    let parts = and_parts (nat_le first place) (is_bit bits (place - first)) h in
+    let low : first ≤ place = leb-true _ _ parts.0 in
+    let lit : lit_at glyph (place - first) row ≡ true = sym (are (place - first)) ∙ parts.1 in
+    let near : place - first < width = within (place - first) lit in
+    and_from _ _ (and_from _ _ parts.0 (lt-ltb place (first + width) (omega arith))) lit)
+    (λ h.
+    let parts = and_parts (nat_le first place && nat_lt place (first + width)) (lit_at glyph (place - first) row) h in
+    and_from _ _ (and_parts (nat_le first place) (nat_lt place (first + width)) parts.0).0 (are (place - first) ∙ parts.1))
+
 -- all its rows that stand in the matrix
 pub all_above : (width height place rows x y : ℕ) (glyph : GlyphModel) → place < width * height → ((k row : ℕ) → lit_at glyph k row ≡ true → row < height - y → row < rows)
     → (is_in_picture (place % width) (place / width) x y glyph && nat_lt (place / width) (y + rows)) ≡ is_in_picture (place % width) (place / width) x y glyph
@@ -71,13 +85,6 @@ all_above width height place rows x y glyph below within =
     let line : place / width < height = div_below place width height (wide place width height below) (let e : place < height * width = omega arith in e) in
     let near : place / width - y < rows = within (place % width - x) (place / width - y) parts.1 (omega arith) in
     and_from (is_in_picture (place % width) (place / width) x y glyph) (nat_lt (place / width) (y + rows)) h (lt-ltb (place / width) (y + rows) (omega arith)))
-
--- right of the matrix
-pub beside : (width height place x y : ℕ) (glyph : GlyphModel) → place < width * height → width ≤ x → is_in_picture (place % width) (place / width) x y glyph ≡ false
-beside width height place x y glyph below right =
-    let column : place % width < width = mod_below place width (wide place width height below) in
-    and_left (nat_le x (place % width) && nat_le y (place / width)) (lit_at glyph (place % width - x) (place / width - y))
-    (and_left (nat_le x (place % width)) (nat_le y (place / width)) (lt-leb x (place % width) (omega arith)))
 
 -- Where nothing is lit the cells stay.
 pub lights_none : (on : ℕ → Bool) (lit : Cell) (old : StyledCells) → ((place : ℕ) → place < length old.cells → on place ≡ false) → Lights on lit old old

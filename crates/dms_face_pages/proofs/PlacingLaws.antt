@@ -1,9 +1,9 @@
 -- Things in a row, one more at the end, and how much room they take.
-use Rattle.std.proofs.Common.{◌≡◌, ℕ, ◌+◌, ◌-◌, ◌<◌, ◌≤◌, Bool, true, cond, List, [], ◌∷◌, ◌++◌, length, get_or, take, drop, filter, map, refl, sym, ap, ◌∙◌, arith, append_assoc}
+use Rattle.std.proofs.Common.{◌≡◌, ℕ, ◌+◌, ◌-◌, ◌<◌, ◌≤◌, Bool, true, false, not, cond, List, [], ◌∷◌, ◌++◌, length, get_or, take, drop, filter, map, refl, sym, ap, ◌∙◌, arith, append_assoc}
 use Rattle.std.specs.List.{flat_map, list_all}
 use Rattle.std.proofs.lemmas.List.Folds.{list_all_at}
-use Rattle.std.proofs.lemmas.Bool.{cases_Bool}
-use Rattle.std.proofs.lemmas.List.{take-append-drop, map-append, append-nil}
+use Rattle.std.proofs.lemmas.Bool.{cases_Bool, and_parts, leb-true}
+use Rattle.std.proofs.lemmas.List.{take-append-drop, take_more, map-append, append-nil}
 use Rattle.std.proofs.lemmas.List.Elements.{filter-append, filter_more}
 use Rattle.std.proofs.lemmas.List.Concat.{flat_map-append}
 use Rattle.dms_face.specs.declared.justification.Place.{Place}
@@ -11,8 +11,8 @@ use Rattle.dms_face.specs.declared.justification.Place.TheVariants.{Start, Halfw
 use Rattle.dms_face.specs.declared.room.Block.{Block}
 use Rattle.dms_face.specs.declared.room.Run.{Run}
 use Rattle.dms_face.specs.Face.{FaceModel}
-use Rattle.dms_face.specs.Layout.{Character, Line}
-use Rattle.dms_face.specs.Room.{gap_between, extent, placed_from, at_place, extent_at, begin, spread, character_block, line_block, line_height}
+use Rattle.dms_face.specs.Layout.{Character, Line, is_blank}
+use Rattle.dms_face.specs.Room.{gap_between, extent, placed_from, at_place, extent_at, blocks_fit, begin, spread, character_block, line_block, line_height, characters_fit, lines_fit, page_fits}
 use Rattle.dms_face.specs.Cells.{PlacedCharacter, placed_in_line}
 use Rattle.dms_face_pages.specs.Drawing.{has_place, placed_above, lines_characters}
 use Rattle.dms_face.specs.Totals.{Sums}
@@ -40,6 +40,49 @@ front_extent block place i xs =
     let front : extent (map block (filter p (take i xs))) ≤ extent (map block (filter p (take i xs)) ++ map block (filter p (drop i xs))) = extent_front (map block (filter p (take i xs))) (map block (filter p (drop i xs))) in
     let whole : extent_at place (map block xs) ≡ extent (map block (filter p xs)) = ap extent (at_place-map block place xs) in
     omega (arith, front, whole, ap extent split)
+
+-- the room of the first things at a place
+pub first_extent : {A : Type 0} (block : A → Block) (place : Place) (i : ℕ) (xs : List A) → extent_at place (map block (take i xs)) ≤ extent_at place (map block xs)
+first_extent block place i xs = omega (arith, front_extent block place i xs, ap extent (at_place-map block place (take i xs)))
+
+-- one thing more
+pub blocks_more : {A : Type 0} (block : A → Block) (i : ℕ) (xs : List A) (x : A) → i < length xs → get_or xs i x ≡ x → map block (take (i + 1) xs) ≡ map block (take i xs) ++ block x ∷ []
+blocks_more block i xs x below is =
+    ap (map block) (take_more xs i x below) ∙ map-append block (take i xs) (get_or xs i x ∷ []) ∙ ap (λ y. map block (take i xs) ++ block y ∷ []) is
+
+-- without a block no thing is at a place
+none_of : {A : Type 0} (block : A → Block) (xs : List A) → not (not (is_blank (map block xs))) ≡ true → xs ≡ []
+none_of block [] none = refl
+none_of block (x ∷ xs) none = absurd (let wrong : false ≡ true = none in cc)
+
+pub none_at : {A : Type 0} (block : A → Block) (place : Place) (xs : List A) (run : Run) → Sums run (at_place place (map block xs)) → not run.any ≡ true → filter (has_place block place) xs ≡ []
+none_at block place xs run sums none =
+    none_of block (filter (has_place block place) xs) (ap (λ blocks. not (not (is_blank blocks))) (sym (at_place-map block place xs)) ∙ ap not (sym sums.any) ∙ none)
+
+-- and nothing is placed
+pub nothing_placed : {A B : Type 0} (f : ℕ × A → B) (block : A → Block) (place : Place) (start : ℕ) (xs : List A) (run : Run) (before : List B)
+    → Sums run (at_place place (map block xs)) → not run.any ≡ true → before ≡ before ++ map f (placed_from block start (filter (has_place block place) xs))
+nothing_placed f block place start xs run before sums none =
+    sym (ap (λ ys. before ++ map f (placed_from block start ys)) (none_at block place xs run sums none) ∙ append-nil before)
+
+pub nothing_placed_of : {A B : Type 0} (f : ℕ × A → List B) (block : A → Block) (place : Place) (start : ℕ) (xs : List A) (run : Run) (before : List B)
+    → Sums run (at_place place (map block xs)) → not run.any ≡ true → before ≡ before ++ flat_map f (placed_from block start (filter (has_place block place) xs))
+nothing_placed_of f block place start xs run before sums none =
+    sym (ap (λ ys. before ++ flat_map f (placed_from block start ys)) (none_at block place xs run sums none) ∙ append-nil before)
+
+-- The things of each place take no more room than there is.
+room_at : (place : Place) (whole : ℕ) (blocks : List Block) → blocks_fit whole blocks ≡ true → extent_at place blocks ≤ whole
+room_at Start whole blocks fits = leb-true _ _ (and_parts _ _ (and_parts _ _ fits).0).0
+room_at Halfway whole blocks fits = leb-true _ _ (and_parts _ _ (and_parts _ _ (and_parts _ _ fits).1).0).0
+room_at End whole blocks fits = leb-true _ _ (and_parts _ _ (and_parts _ _ (and_parts _ _ (and_parts _ _ fits).1).1).0).0
+
+pub characters_within : (place : Place) (face : FaceModel) (line : Line) (characters : List Character) → characters ≡ line.characters
+    → characters_fit face line.characters ≡ true → extent_at place (map character_block characters) ≤ face.width
+characters_within place face line characters same fit = room_at place face.width (map character_block characters) (ap (characters_fit face) same ∙ fit)
+
+pub lines_within : (place : Place) (face : FaceModel) (lines : List Line) → page_fits face lines ≡ true → extent_at place (map line_block lines) ≤ face.height
+lines_within place face lines fit =
+    room_at place face.height (map line_block lines) (and_parts (list_all (λ (line : Line). characters_fit face line.characters) lines) (lines_fit face lines) fit).1
 
 -- one thing more, at this place
 pub among_more : {A : Type 0} (block : A → Block) (place : Place) (i : ℕ) (xs : List A) (x : A) → i < length xs → get_or xs i x ≡ x → has_place block place x ≡ true

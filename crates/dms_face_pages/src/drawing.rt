@@ -1,13 +1,15 @@
 //! Drawing the characters of a page on the cells of a matrix.
 
-ghost use Rattle.std.specs.Prelude.{◌≡◌, ℕ, ◌+◌, ◌-◌, ◌*◌, ◌/◌, ◌%◌, ◌^◌, ◌<◌, ◌≤◌, ◌==◌, ◌&&◌, List, ◌++◌};
+ghost use Rattle.std.specs.Prelude.{◌≡◌, ℕ, ◌+◌, ◌-◌, ◌*◌, ◌/◌, ◌%◌, ◌^◌, ◌<◌, ◌≤◌, ◌==◌, ◌&&◌, List, [], ◌∷◌, ◌++◌};
 ghost use Rattle.std.specs.Prelude.{length, map, filter, true, not, nat_le, nat_lt, slice_index_or, fold, OnOk, OnErr};
 ghost use Rattle.std.specs.List.{list_all, flat_map};
-ghost use Rattle.dms_face_font.specs.Glyph.{is_bit};
+ghost use Rattle.dms_face_font.specs.Glyph.{is_bit, lit_at};
 ghost use Rattle.dms_face.specs.declared.room.Block.{Block as BlockModel};
+ghost use Rattle.dms_face.specs.declared.justification.Place.TheVariants.{Start, Halfway, End};
 ghost use Rattle.dms_face.specs.Layout.{Character, Line, PageModel};
-ghost use Rattle.dms_face.specs.Room.{begin, extent_at, placed_from, character_block, line_block};
+ghost use Rattle.dms_face.specs.Room.{begin, at_place, extent_at, placed_from, character_block, line_block};
 ghost use Rattle.dms_face.specs.Room.{characters_fit, page_fits};
+ghost use Rattle.dms_face.specs.Totals.{Sums};
 ghost use Rattle.dms_face.specs.Cells.{PlacedCharacter, is_lit_by, placed_in_line};
 ghost use Rattle.dms_face_pages.specs.Drawing.{has_place, covered, is_in_picture, is_lit_in_row};
 ghost use Rattle.dms_face_pages.specs.Drawing.{lit_cell, placed_above, lines_characters, Shows};
@@ -74,14 +76,6 @@ fn without(row: u32, column: u32) -> u32
     row & !(1 << column)
 }
 
-/// The first columns of a row.
-fn first_columns(row: u32, columns: usize) -> u32
-    requires { columns ≤ 32 }
-    ensures { (k : ℕ) → is_bit result k ≡ (nat_lt k columns && is_bit row k) }
-{
-    (u64::from(row) % (1 << columns)) as u32
-}
-
 /// Lights the cells of a row of a picture one by one.
 fn light_each(cells: &mut Cells, first: usize, row: u32, number: u8)
     requires inside { (k : ℕ) → is_bit row k ≡ true → first + k < length cells.old.cells }
@@ -120,21 +114,23 @@ fn light_bits(cells: &mut Cells, first: usize, row: u32, number: u8)
     }
 }
 
-/// Draws a row of a picture from the cell `first` on, in so many columns.
-fn light_row(cells: &mut Cells, first: usize, columns: usize, glyph: &Glyph, row: usize, number: u8)
-    requires inside { first + columns ≤ length cells.old.cells }
-    requires small { first + columns < 2 ^ 33 }
-    requires narrow { columns ≤ 32 }
+/// Draws a row of a picture from the cell `first` on.
+fn light_row(cells: &mut Cells, first: usize, glyph: &Glyph, row: usize, number: u8)
+    requires inside { first + glyph.now.width ≤ length cells.old.cells }
+    requires small { first < 2 ^ 33 }
+    requires within { (column : ℕ) → lit_at glyph.now column row ≡ true → column < glyph.now.width }
     requires number { IsLitStyle cells.old.styles number }
-    ensures { Lights (is_lit_in_row first columns glyph.now row) (style cells.old.styles number) cells.old cells.new }
+    ensures { Lights (is_lit_in_row first glyph.now.width glyph.now row) (style cells.old.styles number)
+        cells.old cells.new }
 {
-    light_bits(cells, first, first_columns(glyph.row(row), columns), number);
+    light_bits(cells, first, glyph.row(row), number);
 }
 
 /// Draws a character with its left top corner in column x of line y.
 fn draw_character(cells: &mut Cells, face: &Face, x: u32, y: u32, character: &StyledGlyph<'_>)
     requires matrix { length cells.old.cells ≡ face.now.width * face.now.height }
     requires style { has_style cells.old.styles character.now ≡ true }
+    requires inside { x + character.now.glyph.width ≤ face.now.width }
     ensures styles { cells.new.styles ≡ cells.old.styles }
     ensures len { length cells.new.cells ≡ length cells.old.cells }
     ensures cells { (other : Cell) (place : ℕ) → place < length cells.old.cells
@@ -146,23 +142,20 @@ fn draw_character(cells: &mut Cells, face: &Face, x: u32, y: u32, character: &St
     draw_picture(cells, face, x, y, character.glyph, number);
 }
 
-/// Draws a picture with its left top corner in column x of line y; what stands outside of the matrix is left out.
+/// Draws a picture with its left top corner in column x of line y; what stands below the matrix is left out.
 fn draw_picture(cells: &mut Cells, face: &Face, x: u32, y: u32, glyph: &Glyph, number: u8)
     requires matrix { length cells.old.cells ≡ face.now.width * face.now.height }
+    requires inside { x + glyph.now.width ≤ face.now.width }
     requires number { IsLitStyle cells.old.styles number }
     ensures { Lights (λ place. is_in_picture (place % face.now.width) (place / face.now.width) x y glyph.now)
         (style cells.old.styles number) cells.old cells.new }
 {
     let width = usize::from(face.width());
     let (x, y) = (x as usize, y as usize);
-    if x >= width {
-        return;
-    }
-    let columns = usize::from(glyph.width()).min(width - x);
     let rows = usize::from(glyph.height()).min(usize::from(face.height()).saturating_sub(y));
     for row in 0..rows {
         let first = (y + row) * width + x;
-        light_row(cells, first, columns, glyph, row, number);
+        light_row(cells, first, glyph, row, number);
     }
 }
 
@@ -203,7 +196,8 @@ impl Placed for TextLine<'_> {
 
 /// Where something of a size begins at a place of the whole.
 fn begin(place: Place, whole: u32, size: u32) -> u32
-    ensures { result ≡ begin place whole size }
+    ensures begin { result ≡ begin place whole size }
+    ensures inside { size ≤ whole → result + size ≤ whole }
 {
     match place {
         Place::Start => 0,
@@ -212,22 +206,59 @@ fn begin(place: Place, whole: u32, size: u32) -> u32
     }
 }
 
-/// The room that the things at a place of their row take.
-fn extent<T: Placed>(things: &[T], place: Place) -> u32
-    requires { extent_at place (map T.block_of things.now) ≤ 256 }
-    ensures { result ≡ extent_at place (map T.block_of things.now) }
-{
-    let mut run = Run::EMPTY;
-    for thing in things {
-        let block = thing.block();
-        if block.is_at(place) {
-            run.push(block);
+/// The things of a whole by their places, a row each.
+#[derive(Clone, Copy)]
+struct Runs {
+    start: Run,
+    halfway: Run,
+    end: Run,
+}
+
+impl Runs {
+    /// One more thing stands after those of its place.
+    #[inline]
+    fn push(&mut self, block: Block)
+        requires start { self.old.start.size ≤ 256 }
+        requires halfway { self.old.halfway.size ≤ 256 }
+        requires end { self.old.end.size ≤ 256 }
+        ensures start { (blocks : List BlockModel) → Sums self.old.start (at_place Start blocks)
+            → Sums self.new.start (at_place Start (blocks ++ block ∷ [])) }
+        ensures halfway { (blocks : List BlockModel) → Sums self.old.halfway (at_place Halfway blocks)
+            → Sums self.new.halfway (at_place Halfway (blocks ++ block ∷ [])) }
+        ensures end { (blocks : List BlockModel) → Sums self.old.end (at_place End blocks)
+            → Sums self.new.end (at_place End (blocks ++ block ∷ [])) }
+    {
+        match block.place {
+            Place::Start => self.start.push(block),
+            Place::Halfway => self.halfway.push(block),
+            Place::End => self.end.push(block),
         }
     }
-    run.size
+}
+
+/// The room that the things at each place take.
+#[inline(never)]
+fn runs_of<T: Placed>(things: &[T]) -> Runs
+    requires start { extent_at Start (map T.block_of things.now) ≤ 256 }
+    requires halfway { extent_at Halfway (map T.block_of things.now) ≤ 256 }
+    requires end { extent_at End (map T.block_of things.now) ≤ 256 }
+    ensures start { Sums result.start (at_place Start (map T.block_of things.now)) }
+    ensures halfway { Sums result.halfway (at_place Halfway (map T.block_of things.now)) }
+    ensures end { Sums result.end (at_place End (map T.block_of things.now)) }
+{
+    let mut runs = Runs {
+        start: Run::EMPTY,
+        halfway: Run::EMPTY,
+        end: Run::EMPTY,
+    };
+    for thing in things {
+        runs.push(thing.block());
+    }
+    runs
 }
 
 /// Draws the characters at a place of their line, from this column on, on the bottom of their line.
+#[inline(never)]
 fn draw_side(
     cells: &mut Cells,
     face: &Face,
@@ -240,6 +271,7 @@ fn draw_side(
     requires styles { list_all (has_style cells.old.styles) characters.now ≡ true }
     requires room { extent_at side (map character_block characters.now) ≤ 256 }
     requires first { first ≤ 256 }
+    requires inside { first + extent_at side (map character_block characters.now) ≤ face.now.width }
     ensures styles { cells.new.styles ≡ cells.old.styles }
     ensures len { length cells.new.cells ≡ length cells.old.cells }
     ensures cells { (page : PageModel) (before : List PlacedCharacter)
@@ -259,26 +291,63 @@ fn draw_side(
     }
 }
 
+/// Draws the characters at a place of their line, which take this room, on the bottom of their line.
+#[inline(always)]
+fn draw_run(
+    cells: &mut Cells,
+    face: &Face,
+    characters: &[StyledGlyph<'_>],
+    side: Place,
+    run: Run,
+    bottom: u32,
+)
+    requires matrix { length cells.old.cells ≡ face.now.width * face.now.height }
+    requires styles { list_all (has_style cells.old.styles) characters.now ≡ true }
+    requires room { extent_at side (map character_block characters.now) ≤ face.now.width }
+    requires run { Sums run (at_place side (map character_block characters.now)) }
+    ensures styles { cells.new.styles ≡ cells.old.styles }
+    ensures len { length cells.new.cells ≡ length cells.old.cells }
+    ensures cells { (page : PageModel) (before : List PlacedCharacter)
+        → Shows face.now page before cells.old.cells
+        → Shows face.now page (before ++ map (placed_above bottom) (placed_from character_block
+        (begin side face.now.width (extent_at side (map character_block characters.now)))
+        (filter (has_place character_block side) characters.now))) cells.new.cells }
+{
+    if !run.any {
+        return;
+    }
+    let first = begin(side, u32::from(face.width()), run.size);
+    draw_side(cells, face, characters, side, first, bottom);
+}
+
 /// Draws a line with its top in this row.
 fn draw_line(cells: &mut Cells, face: &Face, line: &TextLine<'_>, top: u32)
     requires matrix { length cells.old.cells ≡ face.now.width * face.now.height }
     requires styles { has_styles cells.old.styles line.now ≡ true }
     requires room { characters_fit face.now line.now.characters ≡ true }
+    requires wide { face.now.width ≤ 256 }
     requires top { top ≤ 1024 }
     ensures styles { cells.new.styles ≡ cells.old.styles }
     ensures len { length cells.new.cells ≡ length cells.old.cells }
     ensures cells { (page : PageModel) (before : List PlacedCharacter) → Shows face.now page before cells.old.cells
         → Shows face.now page (before ++ placed_in_line face.now (top, line.now)) cells.new.cells }
 {
-    let width = u32::from(face.width());
     let bottom = top + u32::from(line.height());
     let characters = line.characters.as_slice();
-    let left = begin(Place::Start, width, extent(characters, Place::Start));
-    draw_side(cells, face, characters, Place::Start, left, bottom);
-    let centre = begin(Place::Halfway, width, extent(characters, Place::Halfway));
-    draw_side(cells, face, characters, Place::Halfway, centre, bottom);
-    let right = begin(Place::End, width, extent(characters, Place::End));
-    draw_side(cells, face, characters, Place::End, right, bottom);
+    if characters.is_empty() {
+        return;
+    }
+    let runs = runs_of(characters);
+    draw_run(cells, face, characters, Place::Start, runs.start, bottom);
+    draw_run(
+        cells,
+        face,
+        characters,
+        Place::Halfway,
+        runs.halfway,
+        bottom,
+    );
+    draw_run(cells, face, characters, Place::End, runs.end, bottom);
 }
 
 /// Draws the lines at a place of their page, from this row on.
@@ -287,6 +356,7 @@ fn draw_part(cells: &mut Cells, face: &Face, lines: &[TextLine<'_>], part: Place
     requires styles { list_all (has_styles cells.old.styles) lines.now ≡ true }
     requires lines { list_all (λ (line : Line). characters_fit face.now line.characters) lines.now ≡ true }
     requires room { extent_at part (map line_block lines.now) ≤ 256 }
+    requires wide { face.now.width ≤ 256 }
     requires first { first ≤ 256 }
     ensures styles { cells.new.styles ≡ cells.old.styles }
     ensures len { length cells.new.cells ≡ length cells.old.cells }
@@ -305,20 +375,41 @@ fn draw_part(cells: &mut Cells, face: &Face, lines: &[TextLine<'_>], part: Place
     }
 }
 
+/// Draws the lines at a place of their page, which take this room.
+fn draw_lines_run(cells: &mut Cells, face: &Face, lines: &[TextLine<'_>], part: Place, run: Run)
+    requires matrix { length cells.old.cells ≡ face.now.width * face.now.height }
+    requires styles { list_all (has_styles cells.old.styles) lines.now ≡ true }
+    requires lines { list_all (λ (line : Line). characters_fit face.now line.characters) lines.now ≡ true }
+    requires room { extent_at part (map line_block lines.now) ≤ face.now.height }
+    requires wide { face.now.width ≤ 256 }
+    requires run { Sums run (at_place part (map line_block lines.now)) }
+    ensures styles { cells.new.styles ≡ cells.old.styles }
+    ensures len { length cells.new.cells ≡ length cells.old.cells }
+    ensures cells { (page : PageModel) (before : List PlacedCharacter) → Shows face.now page before cells.old.cells
+        → Shows face.now page (before ++ flat_map (placed_in_line face.now)
+        (placed_from line_block (begin part face.now.height (extent_at part (map line_block lines.now)))
+        (filter (has_place line_block part) lines.now))) cells.new.cells }
+{
+    if !run.any {
+        return;
+    }
+    let first = begin(part, u32::from(face.height()), run.size);
+    draw_part(cells, face, lines, part, first);
+}
+
 /// Draws the lines of a page that fits, in styles that the cells have already.
 pub(crate) fn draw_lines(cells: &mut Cells, face: &Face, lines: &[TextLine<'_>])
     requires matrix { length cells.old.cells ≡ face.now.width * face.now.height }
     requires styles { list_all (has_styles cells.old.styles) lines.now ≡ true }
     requires room { page_fits face.now lines.now ≡ true }
+    requires wide { face.now.width ≤ 256 }
+    requires high { face.now.height ≤ 256 }
     ensures len { length cells.new.cells ≡ length cells.old.cells }
     ensures cells { (page : PageModel) (before : List PlacedCharacter) → Shows face.now page before cells.old.cells
         → Shows face.now page (before ++ lines_characters face.now lines.now) cells.new.cells }
 {
-    let height = u32::from(face.height());
-    let top = begin(Place::Start, height, extent(lines, Place::Start));
-    draw_part(cells, face, lines, Place::Start, top);
-    let middle = begin(Place::Halfway, height, extent(lines, Place::Halfway));
-    draw_part(cells, face, lines, Place::Halfway, middle);
-    let bottom = begin(Place::End, height, extent(lines, Place::End));
-    draw_part(cells, face, lines, Place::End, bottom);
+    let runs = runs_of(lines);
+    draw_lines_run(cells, face, lines, Place::Start, runs.start);
+    draw_lines_run(cells, face, lines, Place::Halfway, runs.halfway);
+    draw_lines_run(cells, face, lines, Place::End, runs.end);
 }

@@ -1,20 +1,37 @@
-use Rattle.std.proofs.Common.{◌≡◌, ◌∙◌, map, ap, subst}
+use Rattle.std.proofs.Common.{map, refl, subst, arith}
 use Rattle.dms_face.specs.declared.justification.Place.TheVariants.{Start, Halfway, End}
 use Rattle.dms_face.specs.Room.{begin, extent_at, line_block}
 use Rattle.dms_face_pages.specs.Drawing.{Shows}
-use Rattle.dms_face_pages.proofs.PlacingLaws.{lines_are}
+use Rattle.dms_face_pages.proofs.PlacingLaws.{lines_are, lines_within}
 use Rattle.dms_face_pages.proofs.drawing.draw_lines.Goals as goal
+
+pub runs_of-runs-requires-clause-start : goal.runs_of-runs-requires-clause-start
+runs_of-runs-requires-clause-start c =
+    omega (arith, c.requires.high, lines_within Start c.args.face.now c.args.lines.now c.requires.room)
+
+pub runs_of-runs-requires-clause-halfway : goal.runs_of-runs-requires-clause-halfway
+runs_of-runs-requires-clause-halfway c =
+    omega (arith, c.requires.high, lines_within Halfway c.args.face.now c.args.lines.now c.requires.room)
+
+pub runs_of-runs-requires-clause-end : goal.runs_of-runs-requires-clause-end
+runs_of-runs-requires-clause-end c =
+    omega (arith, c.requires.high, lines_within End c.args.face.now c.args.lines.now c.requires.room)
+
+pub draw_lines_run-requires-clause-room : goal.draw_lines_run-requires-clause-room
+draw_lines_run-requires-clause-room c = lines_within Start c.args.face.now c.args.lines.now c.requires.room
+
+pub draw_lines_run-requires-2-clause-room : goal.draw_lines_run-requires-2-clause-room
+draw_lines_run-requires-2-clause-room c = lines_within Halfway c.args.face.now c.args.lines.now c.requires.room
+
+pub draw_lines_run-requires-3-clause-room : goal.draw_lines_run-requires-3-clause-room
+draw_lines_run-requires-3-clause-room c = lines_within End c.args.face.now c.args.lines.now c.requires.room
 
 pub returns-clause-cells : goal.returns-clause-cells
 returns-clause-cells c = λ page before shows.
     let face = c.args.face.now in
     let lines = c.args.lines.now in
-    let whole : c.from-height.result ≡ face.height = c.from-height.ensures ∙ c.height.ensures.value in
-    let top : c.begin-top.result ≡ begin Start face.height (extent_at Start (map line_block lines)) =
-    c.begin-top.ensures ∙ ap (λ n. begin Start n c.extent.result) whole ∙ ap (begin Start face.height) c.extent.ensures in
-    let middle : c.begin-middle.result ≡ begin Halfway face.height (extent_at Halfway (map line_block lines)) =
-    c.begin-middle.ensures ∙ ap (λ n. begin Halfway n c.extent-2.result) whole ∙ ap (begin Halfway face.height) c.extent-2.ensures in
-    let bottom : c.begin-bottom.result ≡ begin End face.height (extent_at End (map line_block lines)) =
-    c.begin-bottom.ensures ∙ ap (λ n. begin End n c.extent-3.result) whole ∙ ap (begin End face.height) c.extent-3.ensures in
-    subst (λ l. Shows face page l c.draw_part-3.new.cells.cells) (lines_are face lines c.begin-top.result c.begin-middle.result c.begin-bottom.result before top middle bottom)
-    (c.draw_part-3.ensures.cells page _ (c.draw_part-2.ensures.cells page _ (c.draw_part.ensures.cells page before shows)))
+    let top = begin Start face.height (extent_at Start (map line_block lines)) in
+    let middle = begin Halfway face.height (extent_at Halfway (map line_block lines)) in
+    let bottom = begin End face.height (extent_at End (map line_block lines)) in
+    subst (λ l. Shows face page l c.draw_lines_run-3.new.cells.cells) (lines_are face lines top middle bottom before refl refl refl)
+    (c.draw_lines_run-3.ensures.cells page _ (c.draw_lines_run-2.ensures.cells page _ (c.draw_lines_run.ensures.cells page before shows)))

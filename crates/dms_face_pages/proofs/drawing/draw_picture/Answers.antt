@@ -1,4 +1,4 @@
-use Rattle.std.proofs.Common.{◌≡◌, ◌∙◌, ◌+◌, ◌-◌, ◌*◌, ◌/◌, ◌%◌, ◌<◌, ◌≤◌, ◌&&◌, ◌||◌, ap, arith, min}
+use Rattle.std.proofs.Common.{◌≡◌, ◌∙◌, ◌+◌, ◌-◌, ◌*◌, ◌/◌, ◌%◌, ◌<◌, ◌&&◌, ◌||◌, ap, arith, min}
 use Rattle.std.specs.Prelude.{nat_lt}
 use Rattle.dms_face_pages.specs.Drawing.{is_in_picture, is_lit_in_row}
 use Rattle.dms_face_pages.specs.Styled.{style}
@@ -16,16 +16,16 @@ loop-row-preserved c =
     let x = c.args.x in
     let y = c.args.y in
     let same : c.from-width.result ≡ width = c.from-width.ensures ∙ c.width.ensures.value in
-    let columns : c.min-columns.result ≡ min glyph.width (width - x) = omega arith in
+    let columns : glyph.width ≡ min glyph.width (width - x) = omega (arith, c.requires.inside) in
     lights_more (λ place. is_in_picture (place % width) (place / width) x y glyph && nat_lt (place / width) (y + row))
-    (is_lit_in_row ((y + row) * c.from-width.result + x) c.min-columns.result glyph row)
+    (is_lit_in_row ((y + row) * c.from-width.result + x) glyph.width glyph row)
     (λ place. is_in_picture (place % width) (place / width) x y glyph && nat_lt (place / width) (y + (row + 1)))
     c.args.number c.args.cells.now c.loop-row.cells c.light_row.new.cells c.requires.number c.loop-row.invariant c.light_row.ensures
     (λ place below.
     let inside : place < width * c.args.face.now.height = omega (arith, c.requires.matrix) in
-    ap (λ w. is_lit_in_row ((y + row) * w + x) c.min-columns.result glyph row place || (is_in_picture (place % width) (place / width) x y glyph && nat_lt (place / width) (y + row))) same
+    ap (λ w. is_lit_in_row ((y + row) * w + x) glyph.width glyph row place || (is_in_picture (place % width) (place / width) x y glyph && nat_lt (place / width) (y + row))) same
     ∙ ap (λ b. b || (is_in_picture (place % width) (place / width) x y glyph && nat_lt (place / width) (y + row)))
-    (on_row width x (y + row) c.min-columns.result glyph.width glyph row place (wide place width c.args.face.now.height inside) (omega arith) columns
+    (on_row width x (y + row) glyph.width glyph.width glyph row place (wide place width c.args.face.now.height inside) (omega (arith, c.requires.inside)) columns
     (λ k line on. (c.height.ensures.inside k line on).0))
     ∙ more_above width x y glyph row place)
 

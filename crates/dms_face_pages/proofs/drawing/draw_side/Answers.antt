@@ -1,8 +1,8 @@
-use Rattle.std.proofs.Common.{◌≡◌, ◌∙◌, ◌+◌, ◌-◌, ◌/◌, ◌%◌, ◌<◌, true, [], ◌∷◌, ◌++◌, get_or, length, map, sym, ap, subst, arith}
+use Rattle.std.proofs.Common.{◌≡◌, ◌∙◌, ◌+◌, ◌-◌, ◌/◌, ◌%◌, ◌<◌, ◌≤◌, true, [], ◌∷◌, ◌++◌, get_or, length, map, sym, ap, subst, arith}
 use Rattle.std.specs.Prelude.{slice_index_or}
 use Rattle.dms_face.specs.declared.room.Block.{Block}
 use Rattle.dms_face.specs.Layout.{Character}
-use Rattle.dms_face.specs.Room.{is_at, extent, placed_from, character_block}
+use Rattle.dms_face.specs.Room.{is_at, extent, extent_at, placed_from, character_block}
 use Rattle.dms_face.specs.Totals.{Sums}
 use Rattle.dms_face.specs.Cells.{PlacedCharacter, is_lit_by}
 use Rattle.dms_face_pages.specs.Drawing.{has_place, placed_above, covered, lit_cell, Shows}
@@ -56,3 +56,19 @@ draw_character-requires-clause-matrix c = c.loop-character.invariant.2 ∙ c.req
 
 pub draw_character-requires-clause-style : goal.draw_character-requires-clause-style
 draw_character-requires-clause-style c = grind (arith, all_at)
+
+pub draw_character-requires-clause-inside : goal.draw_character-requires-clause-inside
+draw_character-requires-clause-inside c =
+    let xs = c.args.characters.now in
+    let i = c.loop-character.character-index in
+    let x = c.character-item.result in
+    let front = map character_block (among character_block c.args.side i xs) in
+    let below : i < length xs = omega arith in
+    let is : get_or xs i x ≡ x = sym c.character-item.is in
+    let here : has_place character_block c.args.side x ≡ true = sym (ap (is_at c.args.side) c.block-block.ensures) ∙ sym c.is_at.ensures ∙ c.if-not-is_at.false in
+    let own = subst (λ (block : Block). Sums c.push.new.self (front ++ block ∷ [])) c.block-block.ensures (c.push.ensures.sums front c.loop-character.invariant.0) in
+    let more = sums_more_of character_block c.args.side i xs x c.push.new.self below is here own in
+    let size : c.from.result ≡ x.glyph.width = c.from.ensures ∙ ap (λ (block : Block). block.size) c.block-block.ensures in
+    let last : x.glyph.width ≤ c.push.new.self.size = omega (arith, last_fits front (character_block x), own.size) in
+    let all : c.push.new.self.size ≤ extent_at c.args.side (map character_block xs) = omega (arith, front_extent character_block c.args.side (i + 1) xs, more.size) in
+    omega (arith, size, last, all, c.requires.inside)
