@@ -3,7 +3,7 @@ use Rattle.std.specs.Prelude.{◌≡◌, ℕ}
 use Rattle.dms_face_font.specs.Font.{FontModel}
 use Rattle.dms_face.specs.Layout.{Style, Line}
 use Rattle.dms_face.specs.Room.{line_height, greatest}
-use Rattle.dms_face_pages.specs.declared.text_layout.Styling.{Styling}
+use Rattle.dms_face_pages.specs.declared.styling.Styling.{Styling}
 
 abbrev pub style_of : Styling → Style
 style_of s = record {

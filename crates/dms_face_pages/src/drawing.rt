@@ -18,7 +18,8 @@ ghost use Rattle.dms_face_pages.specs.Styled.{style, IsLitStyle, Lights};
 ghost use Rattle.dms_face_pages.specs.Styles.{with_character, with_line, has_style, has_styles, most_styles};
 
 use crate::cells::Cells;
-use crate::text_layout::{StyledGlyph, Styling, TextLine};
+use crate::styling::Styling;
+use crate::text_layout::{StyledGlyph, TextLine};
 use dms_face::room::{Block, Run};
 use dms_face::{Cell, Face, Glyph, Place};
 use std::alloc::AllocError;

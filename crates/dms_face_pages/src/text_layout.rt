@@ -4,12 +4,13 @@ ghost use Rattle.std.specs.Prelude.{◌≡◌, ℕ, Option, [], IsTrue, OnOk};
 ghost use Rattle.dms_face_font.specs.Font.{FontModel, glyph_of};
 ghost use Rattle.dms_face.specs.declared.justification.Part.{Part as PartModel};
 ghost use Rattle.dms_face.specs.Face.{fit};
-ghost use Rattle.dms_face.specs.Layout.{under, first_style, styled, blank_layout, closed, has_line_in};
+ghost use Rattle.dms_face.specs.Layout.{under, blank_layout, closed, has_line_in};
 ghost use Rattle.dms_face.specs.Layout.{with_character, with_line, with_page, with_part, with_item};
 ghost use Rattle.dms_face.specs.Room.{line_height, greatest};
 ghost use Rattle.dms_face_pages.specs.StylingView.{style_of};
 
-use dms_face::{Defaults, Face, Flash, Font, Glyph, Part, Side};
+use crate::styling::Styling;
+use dms_face::{Defaults, Face, Font, Glyph, Part};
 use dms_multi::Item;
 use std::alloc::{AllocError, Global};
 use std::marker::Model;
@@ -17,68 +18,6 @@ use std::mem;
 
 /// For how many characters of a line there is room from its first one on: most lines have no more.
 const ROOM_OF_A_LINE: usize = 32;
-
-/// What the items so far say of all that follows them: the font, the colour and the flash of characters, their side of
-/// the line, the part of the page where lines stand, and the page's background and times.
-#[derive(Clone, Copy)]
-pub(crate) struct Styling<'a> {
-    pub font: &'a Font,
-    pub foreground: u8,
-    pub flash: Option<Flash>,
-    pub side: Side,
-    pub part: Part,
-    pub background: u8,
-    pub on: u8,
-    pub off: u8,
-}
-
-impl<'a> Styling<'a> {
-    /// What holds before a text's first item.
-    fn first(face: &'a Face, defaults: &Defaults) -> Styling<'a>
-        requires { IsTrue (fit face.now.fonts defaults.now) }
-        ensures { style_of result ≡ first_style (under face.now defaults.now) }
-    {
-        Styling {
-            font: face.font(defaults.font).unwrap(),
-            foreground: defaults.foreground,
-            flash: None,
-            side: Side::of_number(defaults.line),
-            part: Part::of_number(defaults.page),
-            background: defaults.background,
-            on: defaults.on,
-            off: defaults.off,
-        }
-    }
-
-    /// What holds after an item. A value that is missing is the default.
-    fn after(self, face: &'a Face, defaults: &Defaults, item: Item) -> Styling<'a>
-        ensures { style_of result ≡ styled (under face.now defaults.now) (style_of self.entry) item }
-    {
-        let mut style = self;
-        match item {
-            Item::Background(colour) => style.background = colour.unwrap_or(defaults.background),
-            Item::Foreground(colour) => style.foreground = colour.unwrap_or(defaults.foreground),
-            Item::Font(None) => style.font = face.font(defaults.font).unwrap_or(style.font),
-            Item::Font(Some((number, _))) => style.font = face.font(number).unwrap_or(style.font),
-            Item::FlashOn { first, lit, dark } => {
-                style.flash = Some(Flash {
-                    first,
-                    lit: lit.unwrap_or(defaults.flash_on),
-                    dark: dark.unwrap_or(defaults.flash_off),
-                });
-            }
-            Item::FlashEnd => style.flash = None,
-            Item::JustLine(side) => style.side = Side::of_number(side.unwrap_or(defaults.line)),
-            Item::JustPage(part) => style.part = Part::of_number(part.unwrap_or(defaults.page)),
-            Item::PageTime { lit, dark } => {
-                style.on = lit.unwrap_or(defaults.on);
-                style.off = dark.unwrap_or(defaults.off);
-            }
-            Item::Char(_) | Item::NewLine(_) | Item::NewPage => {}
-        }
-        style
-    }
-}
 
 /// A character's picture, and what holds for it.
 #[derive(Drop)]

@@ -9,7 +9,7 @@ use Rattle.dms_face.specs.Layout.{Character, Line, PageModel, Layout, closed, pa
 use Rattle.dms_face.specs.Fit.{is_new_page}
 use Rattle.dms_face_rows.specs.declared.held.HeldLine.{HeldLine}
 use Rattle.dms_face_rows.specs.declared.held.HeldPage.{HeldPage}
-use Rattle.dms_face_rows.specs.StylingView.{style_of}
+use Rattle.dms_face_pages.specs.StylingView.{style_of}
 
 -- ---- a page as the code keeps it
 

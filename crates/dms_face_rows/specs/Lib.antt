@@ -1,7 +1,6 @@
 -- what a reader must believe: which row of a text's pages is put in a buffer
 pub mod Rows
 -- what only proofs go through
-pub mod StylingView
 pub mod NoGlyph
 pub mod Held
 pub mod Drawing

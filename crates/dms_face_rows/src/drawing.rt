@@ -12,7 +12,7 @@ ghost use Rattle.dms_face.specs.Room.{begin, extent_at, placed_from, character_b
 ghost use Rattle.dms_face.specs.Room.{line_height, greatest, characters_fit, page_fits};
 ghost use Rattle.dms_face.specs.Cells.{PlacedCharacter, is_lit_by, placed_in_line};
 ghost use Rattle.dms_face_pages.specs.Drawing.{has_place, lit_cell, placed_above, lines_characters};
-ghost use Rattle.dms_face_rows.specs.StylingView.{style_of};
+ghost use Rattle.dms_face_pages.specs.StylingView.{style_of};
 ghost use Rattle.dms_face_rows.specs.Held.{line_of, lines_of, is_inside, IsHeld};
 ghost use Rattle.dms_face_rows.specs.Drawing.{is_lit_from, Lights, Shows};
 

@@ -9,17 +9,17 @@ ghost use Rattle.dms_face.specs.Face.{fit};
 ghost use Rattle.dms_face.specs.Justification.{same_part};
 ghost use Rattle.dms_face.specs.Layout.{under, blank_layout, closed, has_line_in};
 ghost use Rattle.dms_face.specs.Layout.{with_character, with_line, with_page, with_part, with_item};
-ghost use Rattle.dms_face_rows.specs.StylingView.{style_of};
+ghost use Rattle.dms_face_pages.specs.StylingView.{style_of};
 ghost use Rattle.dms_face_rows.specs.Held.{line_of, lines_of, layout_of, page_held, is_inside, characters_in};
 ghost use Rattle.dms_face_rows.specs.Held.{IsHeld, count_held, alone, page_now, page_from};
 ghost use Rattle.dms_face_rows.specs.Held.{is_over, others_after};
 ghost use Rattle.dms_face_rows.specs.declared.held.HeldLine.{HeldLine as HeldLineModel};
 
 use crate::held_character::HeldCharacter;
-use crate::styling::RowStyling;
 use arrayvec::ArrayVec;
 use dms_codes::MAX_TEXT;
 use dms_face::{Defaults, Face, Font, Part};
+use dms_face_pages::styling::Styling;
 use dms_multi::{Item, items};
 use std::default::MadeWith;
 
@@ -37,8 +37,8 @@ pub(crate) struct HeldLine<'a> {
     pub part: Part,
 }
 
-impl<'a> MadeWith<RowStyling<'a>> for HeldLine<'a> {
-    fn made_with(style: RowStyling<'a>) -> HeldLine<'a> {
+impl<'a> MadeWith<Styling<'a>> for HeldLine<'a> {
+    fn made_with(style: Styling<'a>) -> HeldLine<'a> {
         HeldLine {
             font: style.font,
             first: 0,
@@ -53,11 +53,11 @@ impl<'a> MadeWith<RowStyling<'a>> for HeldLine<'a> {
 /// it; and what holds for all that follows.
 #[derive(Drop)]
 pub(crate) struct HeldPage<'a> {
-    pub characters: ArrayVec<HeldCharacter<'a>, MAX_TEXT, RowStyling<'a>>,
-    pub lines: ArrayVec<HeldLine<'a>, MAX_LINES, RowStyling<'a>>,
+    pub characters: ArrayVec<HeldCharacter<'a>, MAX_TEXT, Styling<'a>>,
+    pub lines: ArrayVec<HeldLine<'a>, MAX_LINES, Styling<'a>>,
     pub first: u16,
     pub gap: Option<u8>,
-    pub style: RowStyling<'a>,
+    pub style: Styling<'a>,
 }
 
 impl<'a> HeldPage<'a> {
@@ -68,7 +68,7 @@ impl<'a> HeldPage<'a> {
         ensures held { IsHeld result }
         ensures count { count_held result ≡ 0 }
     {
-        let style = RowStyling::first(face, defaults);
+        let style = Styling::first(face, defaults);
         HeldPage {
             characters: ArrayVec::new_in(style),
             lines: ArrayVec::new_in(style),
@@ -166,7 +166,7 @@ impl<'a> HeldPage<'a> {
     }
 
     /// Closes the open line and its part where the part changes.
-    fn change_part(&mut self, style: RowStyling<'a>)
+    fn change_part(&mut self, style: Styling<'a>)
         requires held { IsHeld self.old }
         requires room { length self.old.lines.items ≤ 512 }
         ensures layout { layout_of self.new ≡ with_part (layout_of self.old) (style_of style.entry) }

@@ -2,18 +2,18 @@
 
 ghost use Rattle.std.specs.Prelude.{◌≡◌, unwrap_or};
 ghost use Rattle.std.specs.Option.{option_copied};
-ghost use Rattle.dms_face_rows.specs.StylingView.{style_of};
+ghost use Rattle.dms_face_pages.specs.StylingView.{style_of};
 ghost use Rattle.dms_face_rows.specs.NoGlyph.{no_glyph};
 
-use crate::styling::RowStyling;
 use dms_face::Glyph;
+use dms_face_pages::styling::Styling;
 use std::default::MadeWith;
 use std::marker::Model;
 
 /// A character by its number, and what holds for it.
 #[derive(Drop)]
 pub(crate) struct HeldCharacter<'a> {
-    pub style: RowStyling<'a>,
+    pub style: Styling<'a>,
     pub character: u16,
 }
 
@@ -21,7 +21,7 @@ impl<'a> Model for HeldCharacter<'a> {
     ghost use Rattle.std.specs.Prelude.{unwrap_or};
     ghost use Rattle.dms_face_font.specs.Font.{glyph_of};
     ghost use Rattle.dms_face.specs.Layout.{Character};
-    ghost use Rattle.dms_face_rows.specs.StylingView.{style_of};
+    ghost use Rattle.dms_face_pages.specs.StylingView.{style_of};
     ghost use Rattle.dms_face_rows.specs.NoGlyph.{no_glyph};
 
     ghost Value = { Character };
@@ -32,8 +32,8 @@ impl<'a> Model for HeldCharacter<'a> {
     } };
 }
 
-impl<'a> MadeWith<RowStyling<'a>> for HeldCharacter<'a> {
-    fn made_with(style: RowStyling<'a>) -> HeldCharacter<'a> {
+impl<'a> MadeWith<Styling<'a>> for HeldCharacter<'a> {
+    fn made_with(style: Styling<'a>) -> HeldCharacter<'a> {
         HeldCharacter {
             style,
             character: 0,

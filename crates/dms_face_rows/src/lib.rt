@@ -14,6 +14,5 @@ mod drawing;
 mod held;
 mod held_character;
 mod rows;
-mod styling;
 
 pub use rows::put_row;

@@ -2,7 +2,7 @@ use Rattle.std.proofs.Common.{◌≡◌, ◌∙◌, Bool, true, false, List, [],
 use Rattle.std.specs.Option.{is_some, option_map}
 use Rattle.std.specs.List.{find, list_any}
 use Rattle.std.proofs.lemmas.Bool.{and_parts, cases_Bool}
-use Rattle.dms_face_rows.proofs.styling.RowStyling.first.Goals as goal
+use Rattle.dms_face_pages.proofs.styling.Styling.first.Goals as goal
 
 -- where an element passes a test, one is found
 found : {A : Type 0} (p : A → Bool) (xs : List A) → list_any p xs ≡ true → is_some (find p xs) ≡ true

@@ -3,7 +3,7 @@
 ghost use Rattle.std.specs.Prelude.{◌≡◌, IsTrue};
 ghost use Rattle.dms_face.specs.Face.{fit};
 ghost use Rattle.dms_face.specs.Layout.{under, first_style, styled};
-ghost use Rattle.dms_face_rows.specs.StylingView.{style_of};
+ghost use Rattle.dms_face_pages.specs.StylingView.{style_of};
 
 use dms_face::{Defaults, Face, Flash, Font, Part, Side};
 use dms_multi::Item;
@@ -11,7 +11,7 @@ use dms_multi::Item;
 /// What the items so far say of all that follows them: the font, the colour and the flash of characters, their side of
 /// the line, the part of the page where lines stand, and the page's background and times.
 #[derive(Clone, Copy)]
-pub(crate) struct RowStyling<'a> {
+pub struct Styling<'a> {
     pub font: &'a Font,
     pub foreground: u8,
     pub flash: Option<Flash>,
@@ -22,13 +22,13 @@ pub(crate) struct RowStyling<'a> {
     pub off: u8,
 }
 
-impl<'a> RowStyling<'a> {
+impl<'a> Styling<'a> {
     /// What holds before a text's first item.
-    pub fn first(face: &'a Face, defaults: &Defaults) -> RowStyling<'a>
+    pub fn first(face: &'a Face, defaults: &Defaults) -> Styling<'a>
         requires { IsTrue (fit face.now.fonts defaults.now) }
         ensures { style_of result ≡ first_style (under face.now defaults.now) }
     {
-        RowStyling {
+        Styling {
             font: face.font(defaults.font).unwrap(),
             foreground: defaults.foreground,
             flash: None,
@@ -41,7 +41,7 @@ impl<'a> RowStyling<'a> {
     }
 
     /// What holds after an item. A value that is missing is the default.
-    pub fn after(self, face: &'a Face, defaults: &Defaults, item: Item) -> RowStyling<'a>
+    pub fn after(self, face: &'a Face, defaults: &Defaults, item: Item) -> Styling<'a>
         ensures { style_of result ≡ styled (under face.now defaults.now) (style_of self.entry) item }
     {
         let mut style = self;
