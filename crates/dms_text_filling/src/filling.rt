@@ -67,6 +67,17 @@ pub fn put_digits(buffer: &mut [u8], place: usize, octets: &[u8]) -> usize
     ensures octets { Puts (encode_lower octets.now) place buffer.old result buffer.new }
     ensures short { result ≤ place + 2 * length octets.now }
 {
+    if place >= buffer.len() {
+        return place.saturating_add(octets.len().saturating_mul(2));
+    }
+    put_pairs(buffer, place, octets)
+}
+
+/// The same, octet by octet, where the first has a place.
+fn put_pairs(buffer: &mut [u8], place: usize, octets: &[u8]) -> usize
+    ensures octets { Puts (encode_lower octets.now) place buffer.old result buffer.new }
+    ensures short { result ≤ place + 2 * length octets.now }
+{
     let mut end = place;
     let mut rest = octets;
     'eights: while let [a, b, c, d, e, f, g, h, more @ ..] = rest {

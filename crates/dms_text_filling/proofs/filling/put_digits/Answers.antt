@@ -1,35 +1,12 @@
-use Rattle.std.proofs.Common.{refl, arith, length-take, length-drop, ◌-◌, length, drop}
-use Rattle.dms_text_filling.proofs.Digits.{no_digits, eight_more, one_more, all_digits}
+use Rattle.std.proofs.Common.{arith}
+use Rattle.hex.specs.Hex.{encode_lower, lower_digits}
+use Rattle.hex.proofs.HexLemmas.{length-encode_with}
+use Rattle.dms_text_filling.proofs.Laid.{laid_beyond}
 use Rattle.dms_text_filling.proofs.filling.put_digits.Goals as goal
 
-pub eights-init : goal.eights-init
-eights-init c = record {
-  begun = no_digits c.args.octets.now c.args.place c.args.buffer.now (omega arith) (omega arith);
-  short = omega arith;
+pub returns-then-place-buffer-clause-octets : goal.returns-then-place-buffer-clause-octets
+returns-then-place-buffer-clause-octets c = record {
+  place = omega (arith, length-encode_with lower_digits c.args.octets.now, c.saturating_mul.ensures, c.saturating_add.ensures);
+  buffer = laid_beyond c.args.place (encode_lower c.args.octets.now) c.args.buffer.now (omega (arith, c.if-place-buffer.true));
+  reach = omega arith;
 }
-
-pub eights-preserved : goal.eights-preserved
-eights-preserved c =
-    let kept = c.eights.invariant in
-    let put = c.put_eight-end.ensures in
-    let rest = c.eights.rest.now in record {
-      begun =
-          eight_more c.args.octets.now rest c.args.place c.eights.end c.put_eight-end.result c.args.buffer.now c.eights.buffer c.put_eight-end.new.buffer
-          c.in-len8-up.len_at_least kept.begun put.octets;
-      short = omega (arith, kept.short, put.short, c.in-len8-up.len_at_least, length-take (length rest - 8) (drop 8 rest), length-drop 8 rest);
-    }
-
-pub last-preserved : goal.last-preserved
-last-preserved c =
-    let kept = c.last.invariant in
-    let put = c.put-end.ensures in
-    let rest = c.last.rest.now in record {
-      begun =
-          one_more c.args.octets.now rest _ c.high_digit.result c.low_digit.result c.args.place c.last.end c.put-end.result c.args.buffer.now c.last.buffer c.put-end.new.buffer
-          c.in-len1-up.len_at_least kept.begun c.high_digit.ensures c.low_digit.ensures refl put.octets;
-      short = omega (arith, kept.short, put.short, c.in-len1-up.len_at_least, length-take (length rest - 1) (drop 1 rest), length-drop 1 rest);
-    }
-
-pub returns-clause-octets : goal.returns-clause-octets
-returns-clause-octets c =
-    all_digits c.args.octets.now c.last.rest.now c.args.place c.last.end c.args.buffer.now c.last.buffer (omega arith) c.last.invariant.begun

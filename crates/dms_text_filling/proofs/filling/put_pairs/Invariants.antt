@@ -1,6 +1,6 @@
 use Rattle.std.proofs.Common.{length, ◌+◌, ◌*◌, ◌≤◌}
 use Rattle.dms_text_filling.proofs.Digits.{Begun}
-use Rattle.dms_text_filling.proofs.filling.put_digits.Given as goal
+use Rattle.dms_text_filling.proofs.filling.put_pairs.Given as goal
 
 abbrev pub invariant-eights : goal.invariant-eights
 invariant-eights l = record {
