@@ -1,11 +1,11 @@
 -- The numbers of the ledger's entries rise.
-use Rattle.std.proofs.Common.{◌≡◌, ℕ, zero, suc, ◌+◌, ◌-◌, ◌<◌, ◌≤◌, Bool, true, false, if◌then◌else◌, List, [], ◌∷◌, ◌++◌, map, length, slice_get, Option, Some, None, refl, sym, ap, subst, ◌∙◌, arith}
+use Rattle.std.proofs.Common.{◌≡◌, ℕ, zero, suc, ◌+◌, ◌-◌, ◌<◌, ◌≤◌, Bool, true, false, if◌then◌else◌, List, [], ◌∷◌, ◌++◌, map, length, slice_get, Some, refl, sym, ap, subst, arith}
 use Rattle.std.proofs.lemmas.Option.{none-some}
 use Rattle.std.proofs.lemmas.List.Elements.{All-cons, All-head}
 use Rattle.dms_centre.specs.declared.ledger.Entry.{Entry as CodeEntry}
 use Rattle.dms_centre.specs.declared.outcome.Outcome.{Outcome}
 use Rattle.dms_centre.specs.State.{Entry}
-use Rattle.dms_centre.specs.CodeView.{entry_model, ledger_model}
+use Rattle.dms_centre.specs.CodeView.{ledger_model}
 use Rattle.dms_centre.specs.Restoring.{number_after}
 use Rattle.dms_centre.specs.Invariant.{AllBelow, Rise}
 
