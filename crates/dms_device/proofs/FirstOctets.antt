@@ -80,10 +80,10 @@ both_last n x y us bs other = grind (arith, nat_tests, lower_first, greater_firs
 one_goes_on : (x y : ℕ) → 128 ≤ x → 128 ≤ y → (nat_lt x 128 || nat_lt y 128) ≡ true → ⊥
 one_goes_on x y high too one = grind (arith, nat_tests)
 
-below : (x y : ℕ) → x < y → nat_lt x y ≡ true
+pub below : (x y : ℕ) → x < y → nat_lt x y ≡ true
 below x y lt = grind (arith, nat_tests)
 
-above : (x y : ℕ) → y < x → nat_lt x y ≡ false
+pub above : (x y : ℕ) → y < x → nat_lt x y ≡ false
 above x y lt = grind (arith, nat_tests)
 
 differ_at_once : (x y : ℕ) (xs ys : List ℕ) (c d n : ℕ) → goes_on c n (x ∷ xs) ≡ true → goes_on d n (y ∷ ys) ≡ true → (x == y) ≡ false
@@ -215,6 +215,19 @@ in_order xs ys = ap is_lt (same_order (sub_identifiers_after 0 xs) (sub_identifi
 
 named : (xs : List ℕ) → IsName (numbers_of xs) xs → goes_on 0 0 xs ≡ true
 named xs name = (name_only (numbers_of xs) xs name).0
+
+octet_at : (bs : List ℕ) (count n k : ℕ) → goes_on count n bs ≡ true → get_or bs k 0 < 256
+unfolding goes_on
+octet_at [] count n k e = omega arith
+octet_at (b ∷ bs) count n zero e = (step (λ p. goes_on p.0 p.1 bs) count n b e).0
+octet_at (b ∷ bs) count n (suc k) e =
+    elim (step (λ p. goes_on p.0 p.1 bs) count n b e).2 [
+      | inl h ↦ octet_at bs count (n * 128 + b % 128) k h.1
+      | inr h ↦ octet_at bs (count + 1) 0 k h.1
+    ]
+
+pub are_octets : (xs : List ℕ) → IsName (numbers_of xs) xs → (k : ℕ) → get_or xs k 0 < 256
+are_octets xs name k = octet_at xs 0 0 k (named xs name)
 
 one_low : (x y : ℕ) → (x < 128) ⊎ (y < 128) → (nat_lt x 128 || nat_lt y 128) ≡ true
 one_low x y low = grind (arith, nat_tests)

@@ -1,5 +1,6 @@
 pub mod Order
 pub mod FirstOctets
+pub mod EightOctets
 pub mod Found
 pub mod Writes
 pub mod Faultless

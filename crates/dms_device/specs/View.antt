@@ -1,5 +1,6 @@
 -- What the code's values say; only proofs go through these (this profile).
-use Rattle.std.specs.Prelude.{ℕ, ◌≤◌, Option, Some, None, Result, Ok, Err, ⊤, vec_capacity}
+use Rattle.std.specs.Prelude.{ℕ, zero, suc, ◌+◌, ◌*◌, ◌≤◌, List, get_or}
+use Rattle.std.specs.Prelude.{Option, Some, None, Result, Ok, Err, ⊤, vec_capacity}
 use Rattle.dms_wire.specs.Message.{ObjectValue, integer, octet_string, null, object_identifier}
 use Rattle.dms_wire.specs.Message.{ip_address, counter, gauge, time_ticks, opaque}
 use Rattle.dms_wire.specs.declared.error_status.ErrorStatus.{ErrorStatus}
@@ -47,3 +48,12 @@ refusal_in (Err refusal) = Some refusal
 abbrev pub status_in : Result (Unit {0}) ErrorStatus → Option ErrorStatus
 status_in (Ok _) = None
 status_in (Err status) = Some status
+
+-- the number that so many octets are, from a place on, the first of them its highest, with a number before them
+abbrev pub number_of_octets : ℕ → ℕ → List ℕ → ℕ → ℕ → ℕ
+number_of_octets zero number octets at k = number
+number_of_octets (suc n) number octets at k =
+    number_of_octets n (number * 256 + get_or octets (at + k) 0) octets at (suc k)
+
+abbrev pub eight_octets : List ℕ → ℕ → ℕ
+eight_octets octets at = number_of_octets 8 0 octets at 0

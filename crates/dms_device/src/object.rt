@@ -11,7 +11,7 @@ ghost use Rattle.dms_device.specs.Taken.{told};
 use crate::access::ManagerAccess;
 use crate::fault::ObjectFault;
 use crate::held::{HeldName, HeldValue, hold};
-use crate::names::is_before;
+use crate::names::{is_before, is_same};
 use dms_wire::{Oid, Value};
 use dms_wire_ber::is_name;
 use std::alloc::{AllocError, Global};
@@ -126,7 +126,7 @@ impl PublishedObject {
     pub(crate) fn has_name(&self, name: &Oid<'_>) -> bool
         ensures { result ≡ has_name name.now self.now }
     {
-        self.name() == *name
+        is_same(&self.name(), name)
     }
 
     pub(crate) fn comes_after(&self, name: &Oid<'_>) -> bool
