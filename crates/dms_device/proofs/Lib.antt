@@ -7,4 +7,5 @@ pub mod Faultless
 pub mod Judging
 pub mod Naming
 pub mod Telling
+pub mod Only
 mod PutBack

@@ -16,7 +16,7 @@ use crate::object::PublishedObject;
 use crate::places::{
     NO_PLACES, place_after, place_of, place_set, put_object, take_object, tell_object, tell_objects,
 };
-use crate::setting::{judged, judged_own, put_values, set_objects};
+use crate::setting::{judged, judged_own, put_values, set_objects, set_only};
 use dms_mib_replies::{Next, NextName, Objects};
 use dms_wire::{Bind, Binds, Oid, Value};
 use std::alloc::{AllocError, Global};
@@ -124,6 +124,9 @@ impl Device {
             ≡ written_unless self.old binds.now (refusal_of self.old may_write binds.now)) }
         ensures kept { IfNone result (self.new ≡ self.old) }
     {
+        if let Some(binding) = binds.only() {
+            return set_only(&mut self.objects, may_write, binds, &binding);
+        }
         let mut places = NO_PLACES;
         let done = judged_own(self.objects.as_slice(), may_write, binds, &mut places)?;
         if done.is_ok() {

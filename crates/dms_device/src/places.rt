@@ -128,9 +128,21 @@ pub(crate) fn set_object(objects: &mut Vec<PublishedObject>, binding: &Bind<'_>,
     ensures rises { rises objects.new.items ≡ true }
 {
     if let Ok(place) = place_near(objects.as_slice(), &binding.name, near) {
-        let object = &mut objects[place];
-        object.set(&binding.value);
+        set_there(objects, place, binding);
     }
+}
+
+/// Sets the object at a place, which has a binding's name, to its value, where it takes it.
+#[inline(always)]
+pub(crate) fn set_there(objects: &mut Vec<PublishedObject>, place: usize, binding: &Bind<'_>)
+    requires rises { rises objects.old.items ≡ true }
+    requires within { place < length objects.old.items }
+    requires found { HoldsAt (λ object. has_name (var_bind binding.now).name object ≡ true) objects.old.items place }
+    ensures done { objects.new.items ≡ map (set_by_binding (var_bind binding.now)) objects.old.items }
+    ensures rises { rises objects.new.items ≡ true }
+{
+    let object = &mut objects[place];
+    object.set(&binding.value);
 }
 
 /// The place of the first object that was set, or how many there are.

@@ -1,18 +1,18 @@
 //! A manager's Set: each binding is judged, in order; then all values are assigned.
 
-ghost use Rattle.std.specs.Prelude.{◌≡◌, ◌<◌, ◌≤◌, true, map, take, length, is_some, IfSome};
+ghost use Rattle.std.specs.Prelude.{◌≡◌, ◌<◌, ◌≤◌, true, [], ◌∷◌, map, take, length, is_some, IfSome, IfNone};
 ghost use Rattle.std.specs.List.{list_all, HoldsAt};
 ghost use Rattle.dms_wire.specs.Limits.{most_bindings};
 ghost use Rattle.dms_wire.specs.View.{var_bind};
 ghost use Rattle.dms_sign_access.specs.Slots.{AreTaken};
 ghost use Rattle.dms_device.specs.Objects.{has_name, rises, binding_of};
 ghost use Rattle.dms_device.specs.Setting.{is_named, are_all_named, refusal_at, refusal_of};
-ghost use Rattle.dms_device.specs.Setting.{set_by_binding, written};
+ghost use Rattle.dms_device.specs.Setting.{set_by_binding, written, written_unless};
 ghost use Rattle.dms_device.specs.View.{refusal_in, status_in};
 
 use crate::fault::BindingFault;
 use crate::object::PublishedObject;
-use crate::places::{PLACES, Places, place_of, set_object};
+use crate::places::{PLACES, Places, place_of, set_object, set_there};
 use dms_sign_access::{Slots, mark_name, was_given};
 use dms_wire::{Bind, Binds, ErrorStatus};
 
@@ -73,6 +73,42 @@ pub(crate) fn judged_own(
         mark_name(&mut slots, &binding.name);
     }
     if index == 0 { None } else { Some(Ok(())) }
+}
+
+/// Does a Set of one binding: no places and no names are kept of it. Nothing, where its name is that of no object.
+pub(crate) fn set_only(
+    objects: &mut Vec<PublishedObject>,
+    may_write: bool,
+    binds: &Binds<'_>,
+    binding: &Bind<'_>,
+) -> Option<Result<(), BindingFault>>
+    requires rises { rises objects.old.items ≡ true }
+    requires only { binds.now ≡ var_bind binding.now ∷ [] }
+    ensures own { is_some result ≡ are_all_named objects.old.items binds.now }
+    ensures refusal { IfSome result (λ done. refusal_in done ≡ refusal_of objects.old.items may_write binds.now) }
+    ensures written { IfSome result (λ done. objects.new.items
+        ≡ written_unless objects.old.items binds.now (refusal_of objects.old.items may_write binds.now)) }
+    ensures kept { IfNone result (objects.new.items ≡ objects.old.items) }
+    ensures rises { rises objects.new.items ≡ true }
+{
+    let Ok(place) = place_of(objects.as_slice(), &binding.name) else {
+        return None;
+    };
+    let slots: Slots = [0; 16];
+    let checked = judged_there(
+        objects.as_slice(),
+        place,
+        may_write,
+        binds,
+        0,
+        &slots,
+        binding,
+    );
+    if let Err(status) = checked {
+        return Some(Err(BindingFault { index: 1, status }));
+    }
+    set_there(objects, place, binding);
+    Some(Ok(()))
 }
 
 /// Whether each name is that of an object.
