@@ -4,6 +4,7 @@ import datetime
 import os
 import pathlib
 import random
+import re
 import signal
 import subprocess
 import sys
@@ -32,7 +33,7 @@ from .test_clock import jump
 from .test_compose import GOOD, confirmation
 from .test_database import BLANK, OTHER, SIGN, two_stores
 from .test_rights import narrowed
-from .visits import Bench, Visitors, run
+from .visits import Bench, Visitor, Visitors, run
 
 BERLIN, WEEK = "Europe/Berlin", "0123456"
 HOUR = 3600.0
@@ -428,6 +429,38 @@ def test_a_plan_on_a_sign(tmp_path: pathlib.Path, where: str) -> None:
         assert lines(held)[1][2] == "blank 1 65535 100 192.0.2.1"
 
 
+async def shown(one: Visitor, page: str) -> str:
+    """What a plan's page says that it shows."""
+    found = re.search(r'name="shown" value="([0-9a-f]{64})"', (await one.get(page))[1])
+    assert found is not None, page
+    return found[1]
+
+
+def test_what_a_page_showed_begins_alone(tmp_path: pathlib.Path, where: str) -> None:
+    """A plan that somebody changed since is shown anew instead: with another text, a sign more or a sign less."""
+
+    async def act(bench: Bench, visitor: Visitors) -> None:
+        held, one = bench.store.database, await bench.logged_in(visitor, "operator")
+        number = plans.keep(held, "Fog", [(bench.one, LINE)], "operator")
+        page = f"/plans/{number}"
+        for change in (
+            lambda: plans.keep(held, "Fog", [(bench.one, LINE.replace("464f47", "494345"))], "operator"),
+            lambda: plans.keep(held, "Fog", [(bench.gantry, LINE)], "operator"),
+            lambda: plans.take_out(held, number, bench.one, "operator"),
+        ):
+            before = await shown(one, page)
+            change()
+            status, text, _ = await one.post(page, {"do": "begin", "shown": before})
+            assert (status, lines(held)) == (422, []) and "changed meanwhile" in text, "nothing was begun"
+            assert before not in text and await shown(one, page) in text, "as it is now"
+        assert (await one.post(page, {"do": "begin"}))[0] == 422, "of a page that shows nothing"
+        fields = {"do": "begin", "shown": await shown(one, page)}
+        assert (await one.post(page, fields))[0] == 303
+        assert lines(held) == [(bench.gantry, "operator", LINE)]
+
+    run(tmp_path, where, act)
+
+
 def test_the_pages_of_plans(tmp_path: pathlib.Path, where: str) -> None:
     async def act(bench: Bench, visitor: Visitors) -> None:
         held = bench.store.database
@@ -457,8 +490,9 @@ def test_the_pages_of_plans(tmp_path: pathlib.Path, where: str) -> None:
         assert "until" not in (await one.get("/plans"))[1].split("<tbody>")[1]
         for wrong in ({"first_day": "x"}, {"ends": ""}, {"last_day": "2020-01-01"}, {"do": "x"}):
             assert (await one.post(then, {**good, **wrong}))[0] == 422, wrong
-        assert (await one.post(then, {"do": "begin"}))[0] == 303 and len(lines(held)) == 2
-        assert (await one.post(then, {"do": "begin"}))[0] == 422
+        begin = {"do": "begin", "shown": await shown(one, then)}
+        assert (await one.post(then, begin))[0] == 303 and len(lines(held)) == 2
+        assert (await one.post(then, begin))[0] == 422
         page = (await one.get(then))[1]
         assert "until it is ended by hand" in page and "End it now" in page and "/batches/1" in page
         assert "plan Road" in (await one.get("/batches/1"))[1].replace("Plan road", "plan Road")

@@ -4,6 +4,7 @@ What is due is done in one transaction: the run of the plan, under a key that is
 done once, however many workers look, and wherever one of them is killed; workers carry the commands out as all others.
 """
 
+import hashlib
 import secrets
 from dataclasses import dataclass
 
@@ -70,6 +71,11 @@ class Plan:
     @property
     def signs(self) -> list[int]:
         return [sign for sign, _ in self.lines]
+
+    @property
+    def shown(self) -> str:
+        """A digest of what it puts on which signs, by which a page says what it showed."""
+        return hashlib.sha256(repr(self.lines).encode()).hexdigest()
 
 
 def _schedule(row: Row) -> Schedule:
@@ -202,14 +208,16 @@ def told(times: Times) -> str:
     return f"from {times.first_day} until {times.last_day}, {days}, {begins} to {ends}{zone}"
 
 
-def begin(database: Database, number: int, who: str) -> Run:
-    """Begins a plan by hand; it is on until it is ended by hand."""
+def begin(database: Database, number: int, who: str, shown: str | None = None) -> Run:
+    """Begins a plan by hand, as somebody has seen it where that is said; it is on until it is ended by hand."""
     with database.transaction(is_alone=True):
         plan = _let(database, number, who)
         if plan.is_on:
             raise Refusal("the plan is on already")
         if not plan.lines:
             raise Refusal("the plan has no sign yet")
+        if shown not in (None, plan.shown):
+            raise Refusal("this plan was changed meanwhile: look at it again")
         return _begin(database, plan, f"by hand {secrets.token_hex(8)}", who, None)
 
 

@@ -127,7 +127,7 @@ async def change(request: web.Request) -> web.StreamResponse:
 
     def done(database: Database) -> None:
         if do == "begin":
-            plans.begin(database, number, who)
+            plans.begin(database, number, who, held.get("shown", ""))
         elif do == "end":
             plans.end(database, number, who)
         elif do == "take":
