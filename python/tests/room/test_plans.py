@@ -330,8 +330,9 @@ def test_who_may_change_a_plan(where: str) -> None:
     number = planned(store, one)
     person(held, "other", level=Level.SEE)
     person(held, "reader", Role.READER)
+    acts: tuple[Callable[[Database, int, str], object], ...] = (plans.begin, plans.end, plans.remove)
     for who in ("other", "reader", "nobody"):
-        for act in (plans.begin, plans.end, plans.remove):
+        for act in acts:
             with pytest.raises(Refusal, match="may not command every sign of this plan"):
                 act(held, number, who)
         with pytest.raises(Refusal, match="may not command"):
