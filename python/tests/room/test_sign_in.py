@@ -2,6 +2,7 @@
 
 import pathlib
 import re
+from typing import Callable
 
 import pytest
 
@@ -14,7 +15,8 @@ from aiohttp.test_utils import make_mocked_request
 
 from wisangub.refusal import Refusal
 from wisangub.room import users as program
-from wisangub.room.store import database, logins, passwords, users
+from wisangub.room.store import database, logins, passwords, tokens, users
+from wisangub.room.store.database import Database
 from wisangub.room.store.users import Role
 from wisangub.room.web.security import address_of
 from wisangub.room.web.sign_in import local
@@ -294,6 +296,21 @@ def test_what_ends_a_log_in(tmp_path: pathlib.Path, where: str) -> None:
     run(tmp_path, where, act)
 
 
+def ending(held: Database, does: str) -> Callable[[str, str], bool]:
+    """A look at the operator's password; before it says what it found, somebody ends all his log-ins."""
+    is_password = passwords.is_password
+
+    def found(password: str, secret: str) -> bool:
+        is_his = is_password(password, secret)
+        if does == "password":
+            users.change_password(held, "operator", "another password", "a test")
+        else:
+            users.disable(held, "operator", True, "a test")
+        return is_his
+
+    return found
+
+
 @pytest.mark.parametrize("does", ("password", "disable"))
 def test_what_ends_all_log_ins_ends_the_one_that_begins(
     tmp_path: pathlib.Path, where: str, monkeypatch: pytest.MonkeyPatch, does: str
@@ -301,22 +318,35 @@ def test_what_ends_all_log_ins_ends_the_one_that_begins(
     """The old password was looked at before, and the log-in stands in the database after."""
 
     async def act(bench: Bench, visitor: Visitors) -> None:
-        held, is_password = bench.store.database, passwords.is_password
-
-        def ended(password: str, secret: str) -> bool:
-            found = is_password(password, secret)
-            if does == "password":
-                users.change_password(held, "operator", "another password", "a test")
-            else:
-                users.disable(held, "operator", True, "a test")
-            return found
-
+        held = bench.store.database
         one = visitor()
         with monkeypatch.context() as patched:
-            patched.setattr(passwords, "is_password", ended)
+            patched.setattr(passwords, "is_password", ending(held, does))
             assert (await one.log_in("operator"))[0] == 403
         assert held.run("SELECT count(*) FROM logins WHERE name = 'operator' AND ended IS NULL") == [(0,)]
         assert (await one.answered("/")).status == 303
+        if does == "password":
+            assert await visitor().log_in("operator", "another password") == (303, "/")
+
+    run(tmp_path, where, act)
+
+
+@pytest.mark.parametrize("does", ("password", "disable"))
+@pytest.mark.parametrize("path", ("/account", "/account/tokens"))
+def test_what_ends_all_log_ins_ends_what_the_present_password_begins(
+    tmp_path: pathlib.Path, where: str, monkeypatch: pytest.MonkeyPatch, path: str, does: str
+) -> None:
+    """No token stands after it, and no password that was chosen by who knew the old one."""
+
+    async def act(bench: Bench, visitor: Visitors) -> None:
+        held = bench.store.database
+        one = await bench.logged_in(visitor, "operator")
+        fields = {"do": "add", "name": "map", "days": "9", "old": PASSWORD, "new": PASSWORD[::-1]}
+        with monkeypatch.context() as patched:
+            patched.setattr(passwords, "is_password", ending(held, does))
+            assert (await one.post(path, {**fields, "again": fields["new"]}))[0] == 422
+        assert tokens.listed(held) == [] and (await one.answered("/account")).status == 303
+        assert (await visitor().log_in("operator", fields["new"]))[0] == 403
         if does == "password":
             assert await visitor().log_in("operator", "another password") == (303, "/")
 

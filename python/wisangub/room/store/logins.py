@@ -9,7 +9,7 @@ from wisangub.refusal import Refusal
 
 from .audit import note
 from .connection import Database
-from .users import Role
+from .users import Role, check_secret
 from .values import SLACK, time_of, whole
 
 LASTS = 12 * 3600  # seconds of a log-in: a shift
@@ -172,10 +172,8 @@ def begin(database: Database, name: str, address: str, secret: str | None = None
     """A log-in: what its cookie says. The user's failed ones from this address are forgotten. Refused where the user no
     longer has the secret by which his password was found right: with another one all log-ins have ended."""
     made = secrets.token_urlsafe(24)
-    is_his = "SELECT 1 FROM users WHERE name = ? AND secret = ? AND disabled = 0"
     with database.transaction(is_alone=True):
-        if secret is not None and not database.run(is_his, name, secret):
-            raise Refusal(f"user {name} has another password, or may not log in")
+        check_secret(database, name, secret)
         forgive(database, name, address)
         database.run(
             "INSERT INTO logins (id, name, address, begun) VALUES (?, ?, ?, {clock})", _hidden(made), name, address

@@ -13,7 +13,7 @@ from wisangub.room.plain import counted
 from .audit import note
 from .connection import Database, Row
 from .rules import name_of
-from .users import Role
+from .users import Role, check_secret
 from .values import SLACK, time_of, time_or_none, whole
 
 MOST_DAYS, DAYS = 3650, 365  # that a token is good for, at most and where nothing is said
@@ -66,13 +66,17 @@ def _token(row: Row) -> Token:
     )
 
 
-def add(database: Database, name: str, user: str, reads_only: bool, days: int, who: str) -> str:
-    """A new token in the name of a user: what is sent."""
+def add(
+    database: Database, name: str, user: str, reads_only: bool, days: int, who: str, secret: str | None = None
+) -> str:
+    """A new token in the name of a user: what is sent. Refused where he no longer has the secret by which his password
+    was found right: another one has ended his tokens."""
     held = name_of(name, "a token's name")
     if not 1 <= days <= MOST_DAYS:
         raise Refusal(f"a token is good for 1 to {MOST_DAYS} days")
     made = _PREFIX + secrets.token_urlsafe(32)
     with database.transaction(is_alone=True):
+        check_secret(database, user, secret)
         if not database.run("SELECT 1 FROM users WHERE name = ? AND disabled = 0", user):
             raise Refusal(f"there is no user {user} who may log in")
         if any(token.name == held for token in listed(database, user)):

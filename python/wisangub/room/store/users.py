@@ -56,6 +56,14 @@ def secret(database: Database, name: str) -> str | None:
     return str(rows[0][0]) if rows else None
 
 
+def check_secret(database: Database, name: str, held: str | None) -> None:
+    """Refuses a user who no longer has the secret by which his password was found right, where that is said, or who may
+    no more log in: another password has ended all that he began by that one."""
+    is_his = "SELECT 1 FROM users WHERE name = ? AND secret = ? AND disabled = 0"
+    if held is not None and not database.run(is_his, name, held):
+        raise Refusal(f"user {name} has another password, or may not log in")
+
+
 def _checked(password: str) -> str:
     """What is kept of a password that is taken."""
     fault = passwords.fault_of(password)
@@ -82,10 +90,13 @@ def add(database: Database, name: str, role: Role, password: str, who: str) -> N
         raise Refusal(f"there is a user {name} already") from None
 
 
-def _change(database: Database, name: str, column: str, value: str | int, who: str, what: str) -> None:
+def _change(
+    database: Database, name: str, column: str, value: str | int, who: str, what: str, held: str | None = None
+) -> None:
     """Changes a column of a user, and ends what he is logged in with and his tokens. One administrator at least is
     left."""
     with database.transaction(is_alone=True):
+        check_secret(database, name, held)
         if not database.run(f"UPDATE users SET {column} = ? WHERE name = ? RETURNING name", value, name):
             raise Refusal(f"there is no user {name}")
         if column != "secret" and not database.run(
@@ -97,8 +108,9 @@ def _change(database: Database, name: str, column: str, value: str | int, who: s
         note(database, who, what)
 
 
-def change_password(database: Database, name: str, password: str, who: str) -> None:
-    _change(database, name, "secret", _checked(password), who, f"user {name} has another password")
+def change_password(database: Database, name: str, password: str, who: str, held: str | None = None) -> None:
+    """Another password; where it is said, of who has this secret still."""
+    _change(database, name, "secret", _checked(password), who, f"user {name} has another password", held)
 
 
 def change_role(database: Database, name: str, role: Role, who: str) -> None:

@@ -136,18 +136,20 @@ async def end_login(request: web.Request) -> web.StreamResponse:
     raise web.HTTPSeeOther("/account")
 
 
-async def _not_him(request: web.Request, password: str) -> web.Response | None:
-    """The page that refuses who does not know the present password of who is logged in, or has to wait."""
+async def _present(request: web.Request, password: str) -> str | web.Response:
+    """What is kept of the present password of who is logged in; or the page that refuses who does not know it, or has
+    to wait."""
     service, visitor = service_of(request), visitor_of(request)
     of = address_of(request, service.settings.is_behind_tls)
     if seconds := await sign_in.to_wait(service, visitor.name, of):
         return await _account_page(request, f"Nothing was changed: please try again in {seconds} s.", 429)
-    if not await sign_in.is_right(service, visitor.name, password):
+    secret = await sign_in.found_by(service, visitor.name, password)
+    if secret is None:
         what = "a wrong present password was given"
         await service.connections.run(lambda database: logins.failed(database, visitor.name, of, what))
         return await _account_page(request, "Nothing was changed: the present password is another one.", 403)
     await service.connections.run(lambda database: logins.forgive(database, visitor.name, of))
-    return None
+    return secret
 
 
 async def own_tokens(request: web.Request) -> web.StreamResponse:
@@ -156,17 +158,21 @@ async def own_tokens(request: web.Request) -> web.StreamResponse:
     fields = {key: str(value) for key, value in (await request.post()).items()}
     days = fields.get("days", "")
     of = int(days) if days.isascii() and days.isdecimal() and len(days) < 6 else 0
+    secret = None
+    if fields.get("do") == "add":
+        found = await _present(request, fields.get("old", ""))
+        if isinstance(found, web.Response):
+            return found
+        secret = found
 
     def done(database: Database) -> tuple[str, str]:
         if fields.get("do") == "end":
             return _ended(database, fields.get("number", ""), name, name), ""
         if fields.get("do") != "add":
             raise Refusal("nothing was asked for")
-        made = tokens.add(database, fields.get("name", ""), name, fields.get("reads") == "1", of, name)
+        made = tokens.add(database, fields.get("name", ""), name, fields.get("reads") == "1", of, name, secret)
         return "The token is shown this once: keep it where the other system has it.", made
 
-    if fields.get("do") == "add" and (page := await _not_him(request, fields.get("old", ""))) is not None:
-        return page
     try:
         said, made = await service.connections.run(done)
     except Refusal as refused:
@@ -179,12 +185,17 @@ async def own_password(request: web.Request) -> web.StreamResponse:
     service, visitor = service_of(request), visitor_of(request)
     fields = await request.post()
     old, new, again = (str(fields.get(key, "")) for key in ("old", "new", "again"))
-    if (page := await _not_him(request, old)) is not None:
-        return page
+    secret = await _present(request, old)
+    if isinstance(secret, web.Response):
+        return secret
     if new != again:
         return await _account_page(request, "Nothing was changed: the two new passwords differ.", 422)
+
+    def done(database: Database) -> None:
+        users.change_password(database, visitor.name, new, visitor.name, secret)
+
     try:
-        await service.connections.run(lambda database: users.change_password(database, visitor.name, new, visitor.name))
+        await service.connections.run(done)
     except Refusal as refused:
         return await _account_page(request, f"Nothing was changed: {refused}.", 422)
     raise web.HTTPSeeOther("/login")

@@ -44,18 +44,13 @@ async def form(request: web.Request) -> web.Response:
     return _shown(request, local(request.query.get("next", "/")))
 
 
-async def _found_by(service: Service, name: str, password: str) -> str | None:
+async def found_by(service: Service, name: str, password: str) -> str | None:
     """What is kept of the password, where it is that of somebody of this name; it takes the same time where there is
     nobody."""
     kept = await service.connections.run(lambda database: users.secret(database, name))
     async with _ONE_AT_A_TIME:
         found = await asyncio.to_thread(lambda: passwords.is_password(password, kept or passwords.nobody()))
     return kept if found else None
-
-
-async def is_right(service: Service, name: str, password: str) -> bool:
-    """Whether somebody of this name has this password."""
-    return await _found_by(service, name, password) is not None
 
 
 async def to_wait(service: Service, name: str, address: str) -> int:
@@ -78,7 +73,7 @@ async def log_in(request: web.Request) -> web.StreamResponse:
         answer = _shown(request, then, f"Too many log-ins failed. Please try again in {seconds} s.", 429, name)
         answer.headers["Retry-After"] = str(seconds)
         return answer
-    secret = await _found_by(service, name, password)
+    secret = await found_by(service, name, password)
     if secret is None:
         await service.connections.run(lambda database: logins.failed(database, name, of))
         return _shown(request, then, _WRONG, 403, name)
