@@ -4,13 +4,14 @@ import contextlib
 import json
 import pathlib
 import signal
+import struct
 import subprocess
 import sys
 import tempfile
 import time
 
 from model import text
-from wisangub.process.places import TOP
+from wisangub.process.places import TOP, environment
 from wisangub.refusal import Refusal
 from wisangub.tester.several.listed import read
 
@@ -35,7 +36,7 @@ def test_each_sign_has_its_verdict_and_its_reports() -> None:
             "west 127.0.0.1:1 no.sign\n",
             encoding="utf-8",
         )
-        call = [*CALL, str(folder / "list"), "--into", str(folder / "reports"), *OPTIONS]
+        call = [*CALL, str(folder / "list"), "--into", str(folder / "reports"), "--pcap", *OPTIONS]
         ended = subprocess.run(call, cwd=TOP, capture_output=True, timeout=LONG, check=False)
         assert ended.returncode == 1 and b"1 conforms, 1 differs, 1 not tested" in ended.stdout, ended
         assert b"north at 127.0.0.1:%d: conforms: nothing differs in" % ports[0] in ended.stdout, ended
@@ -44,6 +45,27 @@ def test_each_sign_has_its_verdict_and_its_reports() -> None:
         assert "no.sign" in held[2]["words"]
         for kind in ("html", "json", "junit.xml", "txt"):
             assert (folder / f"reports/south.{kind}").stat().st_size, kind
+        for at, sign in enumerate(("north", "south")):
+            captured = (folder / f"reports/{sign}.pcap").read_bytes()
+            assert [struct.pack(">H", port) in captured for port in ports] == [not at, bool(at)], "each its own"
+
+
+def test_no_file_is_of_all_signs() -> None:
+    """Each test would write it over: what --pdf and --pcap of all make is called by the signs."""
+    table = [
+        (("--pcap", "all.pcap"), "where --pdf and --pcap have no FILE: these are no options"),
+        (("--only", "get", "--pdf", "all.pdf"), "where --pdf and --pcap have no FILE: these are no options"),
+        (("--js", "all.json"), "--js is not for a test of several signs"),
+        (("--jun=all.xml",), "--jun=all.xml is not for a test of several signs"),
+    ]
+    with tempfile.TemporaryDirectory() as name:
+        folder = pathlib.Path(name)
+        (folder / "list").write_text("west 127.0.0.1:1 no.sign\n", encoding="utf-8")
+        for options, words in table:
+            call = [*CALL, str(folder / "list"), "--into", str(folder / "reports"), *options]
+            ended = subprocess.run(call, cwd=folder, env=environment(), capture_output=True, timeout=LONG, check=False)
+            assert ended.returncode == 2 and words in ended.stderr.decode(), (options, ended)
+            assert [path.name for path in folder.iterdir()] == ["list"], "nothing was begun"
 
 
 def test_a_sign_whose_reports_cannot_be_written_keeps_no_other_from_its_test() -> None:
@@ -88,6 +110,7 @@ def test_a_list_at_fault_is_refused_with_its_line() -> None:
         ("north 127.0.0.1:1 'a.sign\n", "line 1: No closing quotation"),
         ("north 127.0.0.1:1 a.sign --json=x\n", "--json=x is not for a test of several signs"),
         ("north 127.0.0.1:1 a.sign --lossy 101\n", "line 1: these are no options of a test"),
+        ("north 127.0.0.1:1 a.sign --pcap x\nsouth 127.0.0.1:2 a.sign --pca=./x\n", "x is a file of north too"),
         ("# nobody\n", "names no sign"),
     ]
     with tempfile.TemporaryDirectory() as folder:

@@ -1,5 +1,6 @@
 """The list of the signs that are tested: a line each."""
 
+import argparse
 import pathlib
 import re
 import shlex
@@ -11,21 +12,26 @@ from wisangub.tester.cli import arguments
 _FORM = "NAME HOST:PORT DESCRIPTION [OPTION ..]"
 _NAME = re.compile(r"[A-Za-z0-9][A-Za-z0-9._-]*")
 ALL = "several"  # what the report of all signs is called, as those of a sign are by its name
-_OWN = ("--to", "--sign", "--html", "--junit", "--json", "--repeat", "--resume", "--person")  # no option of a line
+REPORTS = ("html", "json", "junit")  # of each sign
+_OWN = ("to", "sign", *REPORTS, "repeat", "resume", "person")  # no option of a line
+FILES = ("pdf", "pcap")  # of a sign by its name where all have them, or else as its line says
+_NOTHING = ["--to", "\0", "--sign", "\0"]  # the options of a test, and none that somebody can say
 
 
 @dataclass(frozen=True)
 class Listed:
-    """A sign of the list: its name, its address, its description, and options of its test alone."""
+    """A sign of the list: its name, its address, its description, and options of its test alone, with the files that
+    these name."""
 
     name: str
     to: str
     sign: pathlib.Path
     options: tuple[str, ...] = ()
+    files: tuple[pathlib.Path, ...] = ()
 
-    def call(self, folder: pathlib.Path, options: list[str]) -> list[str]:
-        """The words of its test, with options that hold for all, whose reports are in this folder."""
-        reports = [word for kind in ("html", "json", "junit") for word in (f"--{kind}", str(self.report(folder, kind)))]
+    def call(self, folder: pathlib.Path, options: list[str], kinds: tuple[str, ...] = REPORTS) -> list[str]:
+        """The words of its test, with options that hold for all, whose reports of these kinds are in this folder."""
+        reports = [word for kind in kinds for word in (f"--{kind}", str(self.report(folder, kind)))]
         return ["--to", self.to, "--sign", str(self.sign), *reports, *options, *self.options]
 
     def report(self, folder: pathlib.Path, kind: str) -> pathlib.Path:
@@ -47,8 +53,7 @@ def read(path: pathlib.Path) -> list[Listed]:
             raise Refusal(f"{path}, line {number}: {fault}") from None
         if words:
             found.append(_listed(path, number, words))
-            if found[-1].name in [held.name for held in found[:-1]]:
-                raise Refusal(f"{path}, line {number}: another sign is called {found[-1].name}")
+            _check_alone(found[-1], found[:-1], f"{path}, line {number}")
     if not found:
         raise Refusal(f"{path} names no sign; a line of it is: {_FORM}")
     return found
@@ -61,16 +66,33 @@ def _listed(path: pathlib.Path, number: int, words: list[str]) -> Listed:
         raise Refusal(f"{where}: such a line is: {_FORM}")
     if words[0] == ALL:
         raise Refusal(f"{where}: {ALL}.json is the report of all signs: none of them is called {ALL}")
-    refused(words[3:], where)
-    return Listed(words[0], words[1], path.parent / words[2], tuple(words[3:]))
+    asked = checked(words[3:], where)
+    files = tuple(path.resolve() for path in map(vars(asked).get, FILES) if path is not None)
+    return Listed(words[0], words[1], path.parent / words[2], tuple(words[3:]), files)
 
 
-def refused(options: list[str], where: str) -> None:
-    """Raises Refusal where one of the options is none that a test of several signs takes."""
-    for word in options:
-        if word.split("=")[0] in _OWN:
-            raise Refusal(f"{where}: {word} is not for a test of several signs")
+def _check_alone(held: Listed, others: list[Listed], where: str) -> None:
+    """Raises Refusal where the name of a sign, or a file that its test writes, is another one's."""
+    for other in others:
+        if held.name == other.name:
+            raise Refusal(f"{where}: another sign is called {held.name}")
+        for path in held.files:
+            if path in other.files:
+                raise Refusal(f"{where}: {path} is a file of {other.name} too")
+
+
+def checked(options: list[str], where: str) -> argparse.Namespace:
+    """What the options of a test of several signs say. Raises Refusal where one of them is none."""
     try:
-        arguments().parse_args(["--to", "HOST:PORT", "--sign", "DESCRIPTION", *options])
+        asked, nothing = arguments().parse_args([*_NOTHING, *options]), vars(arguments().parse_args(_NOTHING))
     except SystemExit:
         raise Refusal(f"{where}: these are no options of a test") from None
+    for name in _OWN:
+        if vars(asked)[name] != nothing[name]:
+            raise Refusal(f"{where}: {_word(options, name)} is not for a test of several signs")
+    return asked
+
+
+def _word(options: list[str], name: str) -> str:
+    """How an option of this name is spelled, which may be by its first letters."""
+    return next(word for word in options if len(word) > 2 and f"--{name}".startswith(word.split("=")[0]))

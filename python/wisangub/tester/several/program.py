@@ -2,8 +2,8 @@
 
 A line of LIST is a sign: NAME HOST:PORT DESCRIPTION and options of its test alone. All other options hold for all. Each
 sign is tested in a process of its own, so many at a time; its reports are NAME.html, NAME.json, NAME.junit.xml and
-NAME.txt in FOLDER. A line a sign is printed as it ends, and last how many have which verdict. An interrupt ends the
-tests that run, which put their signs back, and begins no other.
+NAME.txt in FOLDER, and with --pdf and --pcap NAME.pdf and NAME.pcap. A line a sign is printed as it ends, and last how
+many have which verdict. An interrupt ends the tests that run, which put their signs back, and begins no other.
 """
 
 import argparse
@@ -22,7 +22,7 @@ from wisangub.refusal import Refusal, reason
 from wisangub.tester.findings.results import Verdict
 from wisangub.tester.options import count
 
-from .listed import ALL, Listed, read, refused
+from .listed import ALL, FILES, REPORTS, Listed, checked, read
 
 _WRONG = "not tested"  # what a command that is wrong comes to
 _WORDS = {verdict.status: verdict.value for verdict in Verdict} | {2: _WRONG}
@@ -35,6 +35,7 @@ class Several:
 
     folder: pathlib.Path
     options: list[str]
+    kinds: tuple[str, ...] = REPORTS  # the files of each sign
     waiting: "queue.SimpleQueue[Listed]" = field(default_factory=queue.SimpleQueue)
     ended: dict[str, tuple[int, str]] = field(default_factory=dict)
     running: list["subprocess.Popen[bytes]"] = field(default_factory=list)
@@ -71,7 +72,7 @@ class Several:
     def _test(self, held: Listed) -> None:
         """A sign's test, and its line."""
         path = self.folder / f"{held.name}.txt"
-        call = [sys.executable, "-m", "wisangub.tester", *held.call(self.folder, self.options)]
+        call = [sys.executable, "-m", "wisangub.tester", *held.call(self.folder, self.options, self.kinds)]
         with path.open("wb") as out:
             process = subprocess.Popen(
                 call, env=environment(), stdin=subprocess.DEVNULL, stdout=out, stderr=out, process_group=0
@@ -123,9 +124,12 @@ def main() -> int:
     )
     parser.add_argument("--into", type=pathlib.Path, required=True, metavar="FOLDER", help="where the reports are put")
     parser.add_argument("--jobs", type=count, default=8, metavar="N", help="signs at a time, 8 where nothing is said")
+    parser.add_argument("--pdf", action="store_true", help="the report of each as a PDF, where Chromium is there")
+    parser.add_argument("--pcap", action="store_true", help="what each was sent and what came, as tcpdump writes it")
     asked, options = parser.parse_known_args()
+    kinds = tuple(kind for kind in FILES if vars(asked)[kind])
     try:
-        refused(options, parser.prog)
+        checked(options, f"{parser.prog}{', where --pdf and --pcap have no FILE' if kinds else ''}")
         signs = read(asked.list)
         asked.into.mkdir(parents=True, exist_ok=True)
     except Refusal as fault:
@@ -134,7 +138,7 @@ def main() -> int:
     except OSError as fault:
         print(reason(fault), file=sys.stderr)
         return 2
-    several = Several(asked.into, options)
+    several = Several(asked.into, options, REPORTS + kinds)
 
     def stopped(_number: int, _frame: FrameType | None) -> None:
         several.stop()
