@@ -13,10 +13,22 @@
 #include <time.h>
 #include <unistd.h>
 
+#include "files.h"
 #include "sockets.h"
 
 enum { MODE = 0600, LINE = 2 * (DATAGRAM_MOST + 1) + NI_MAXHOST + 128 };
+enum { OPENED = O_WRONLY | O_CREAT | O_APPEND | O_CLOEXEC | O_NOCTTY | O_NONBLOCK };
 enum { MILLION = 1000000, LEFT = 4 }; /* so many millions of octets of its disk a log leaves to a journal */
+
+/* A file of this name; a pipe is not waited for until somebody reads it. */
+static int opened(const char *path)
+{
+    int file = open(path, OPENED, MODE);
+    if (file < 0 && errno == ENXIO) {
+        refuse(path, ": nobody reads it");
+    }
+    return had(file, path);
+}
 
 void log_open(struct log *log, const char *path)
 {
@@ -24,7 +36,7 @@ void log_open(struct log *log, const char *path)
     int is_own = path != NULL && strcmp(path, "-") != 0;
     *log = (struct log){.path = path, .file = STDOUT_FILENO};
     if (is_own) {
-        log->file = had(open(path, O_WRONLY | O_CREAT | O_APPEND | O_CLOEXEC | O_NOCTTY, MODE), path);
+        log->file = opened(path);
     }
     log->is_on_disk = path != NULL && fstat(log->file, &found) == 0 && S_ISREG(found.st_mode);
     if (is_own && log->is_on_disk) {

@@ -14,7 +14,7 @@ struct log {
 };
 
 /* Opens a file, for its owner alone, which is written to at its end; `-` is standard output. Ends with a message where
- * it cannot be opened. */
+ * it cannot be opened, or is a pipe that nobody reads. */
 void log_open(struct log *log, const char *path);
 
 /* An event in words, of a peer or of none, and octets of a datagram or none. A log that is not written, whose reader

@@ -17,6 +17,7 @@ from wisangub.endpoint.log import LEAST_LEFT, Log
 from wisangub.endpoint.records import whole
 from wisangub.output import LOG
 
+from . import with_centres, with_objects
 from .form1 import older
 from .test_journal import HEAD, LINES, NOW, kept, made
 
@@ -182,6 +183,19 @@ def test_a_log_that_is_no_file_of_a_disk_is_written() -> None:
     assert os.read(read, 100).endswith(b" - one\n")
     os.close(read)
     os.close(write)
+
+
+def test_a_log_that_nobody_reads_is_not_waited_for(tmp_path: pathlib.Path) -> None:
+    """A pipe with a name, which is taken where somebody reads it."""
+    pipe = str(tmp_path / "pipe")
+    os.mkfifo(pipe)
+    for refused in (with_objects.refused, with_centres.refused):
+        assert refused("--log", pipe) == (2, f"{pipe}: nobody reads it\n")
+    read = os.open(pipe, os.O_RDONLY | os.O_NONBLOCK)
+    log = Log(pipe, is_json=False)
+    log.event("one")
+    assert os.read(read, 100).endswith(b" - one\n")
+    os.close(read)
 
 
 def test_a_log_whose_reader_stands_still_leaves_events_out() -> None:

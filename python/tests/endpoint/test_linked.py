@@ -22,6 +22,7 @@ from .ends import SIGN
 from .form1 import older
 from .test_journal import HEAD, LINES, NOW, kept, made, refused
 from .test_shortening import Sign, Taken
+from .with_centres import refused as refused_centre
 from .with_objects import COUNTER
 from .with_objects import refused as refused_start
 from .with_objects import served
@@ -135,6 +136,26 @@ def test_one_front_end_by_either_name(linked: Linked) -> None:
         assert refused(lambda: opened(Place.of(str(other)))) == f"{other}: another front end holds this journal"
         journal.close()
     assert linked.stands()
+
+
+@pytest.mark.parametrize("is_there", (False, True))
+def test_no_other_file_is_what_takes_the_journals_place(linked: Linked, is_there: bool) -> None:
+    """By its name, and beside what the journal leads to: it would be gone with the first shortening."""
+    for beside, journal in ((f"{linked.real}.new", linked.path), (f"{linked.links}/one.new", linked.links / "one")):
+        if is_there:
+            pathlib.Path(beside).write_bytes(b"its own")
+        for what, option, refuse in (
+            ("log", "--log", refused_start),
+            ("description", "--sign", refused_start),
+            ("file of objects", "--objects", refused_start),
+            ("program", "--signtool", refused_start),
+            ("log", "--log", refused_centre),
+            ("description", "--sign", refused_centre),
+            ("program", "--signtool", refused_centre),
+        ):
+            why = f"{beside} cannot be the {what} and the file beside the journal\n"
+            assert refuse("--journal", str(journal), option, beside) == (2, why), what
+        assert not journal.exists() and (not is_there or pathlib.Path(beside).read_bytes() == b"its own")
 
 
 def test_a_link_that_leads_elsewhere_is_another_hands(linked: Linked) -> None:

@@ -15,6 +15,7 @@ from wisangub.snmp.mib import Mib
 from .files import MODE
 from .sockets import Address, named
 
+_OPENED = os.O_WRONLY | os.O_CREAT | os.O_APPEND | os.O_CLOEXEC | os.O_NOCTTY | os.O_NONBLOCK
 LEAST_LEFT = 4_000_000  # octets of its disk that a log leaves to a journal: whoever sends datagrams writes lines of it
 
 
@@ -27,15 +28,17 @@ def _is_on_disk(file: int) -> bool:
 
 
 def _file_of(path: str) -> int:
-    """The file that is written to at its end; `-` is standard output."""
+    """The file that is written to at its end; `-` is standard output. A pipe is not waited for until somebody reads
+    it."""
     if path == "-":
         return 1
     try:
-        file = os.open(path, os.O_WRONLY | os.O_CREAT | os.O_APPEND | os.O_CLOEXEC | os.O_NOCTTY, MODE)
+        file = os.open(path, _OPENED, MODE)
         if _is_on_disk(file):
             os.fchmod(file, MODE)
     except OSError as fault:
-        raise Refusal(reason(fault)) from fault
+        why = f"{path}: nobody reads it" if fault.errno == errno.ENXIO else reason(fault)
+        raise Refusal(why) from fault
     return file
 
 

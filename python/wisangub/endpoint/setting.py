@@ -56,14 +56,18 @@ def checked(asked: argparse.Namespace) -> None:
             raise Refusal(f"--{option} is of a --journal FILE")
     if asked.json and not asked.log:
         raise Refusal("--json is of a --log FILE")
-    for what, other in (
-        ("journal", asked.journal),
-        ("file beside the journal", asked.journal and asked.journal + NEW),
-        ("description", asked.sign),
-        ("file of objects", getattr(asked, "objects", None)),
-    ):
+    read = {"description": asked.sign, "file of objects": getattr(asked, "objects", None)}
+    for what, other in {"journal": asked.journal, **read}.items():
         if asked.log and other and _is_same(asked.log, other):
             raise Refusal(f"{asked.log} cannot be the log and the {what}")
+    for what, path in {"log": asked.log, **read, "program": asked.signtool}.items():
+        if asked.journal and path and _is_beside(path, asked.journal):
+            raise Refusal(f"{path} cannot be the {what} and the file beside the journal")
+
+
+def _is_beside(path: str, journal: str) -> bool:
+    """Whether a file stands beside a journal and takes its place, by its name or by that which it leads to."""
+    return any(_is_same(path, name + NEW) for name in (journal, os.path.realpath(journal)))
 
 
 def _is_same(one: str, other: str) -> bool:
