@@ -1,6 +1,7 @@
 #define _GNU_SOURCE
 #include "asked.h"
 
+#include <errno.h>
 #include <getopt.h>
 #include <limits.h>
 #include <stdio.h>
@@ -104,22 +105,45 @@ static void take(struct asked *asked, int option, const char *word)
     }
 }
 
-/* A log's lines would damage each other file, and a file beside a journal takes its place. */
-static void look_at_log(const struct asked *asked)
+static int is_named_beside(const char *path, const char *journal)
 {
-    char beside[PATH_MAX];
-    const char *journal = asked->journal.path;
-    snprintf(beside, sizeof beside, "%s" NAME_BESIDE, journal != NULL ? journal : "");
+    char beside[PATH_MAX + sizeof NAME_BESIDE];
+    snprintf(beside, sizeof beside, "%s" NAME_BESIDE, journal);
+    return file_is_same(path, beside);
+}
+
+/* Whether a file stands beside a journal and takes its place, by its name or by that which it leads to; which is told
+ * of a file that is not there yet too. */
+static int is_beside(const char *path, const char *journal)
+{
+    char real[PATH_MAX] = "";
+    int is_real = realpath(journal, real) != NULL || errno == ENOENT;
+    return is_named_beside(path, journal) || (is_real && is_named_beside(path, real));
+}
+
+static _Noreturn void refuse_both(const char *path, const char *what, const char *other)
+{
+    fprintf(stderr, "%s cannot be the %s and the %s\n", path, what, other);
+    exit(2);
+}
+
+/* A log's lines would damage each other file; what stands beside a journal is gone as it is shortened. */
+static void look_at_files(const struct asked *asked)
+{
+    const char *log = asked->log, *journal = asked->journal.path;
     const struct {
         const char *path, *what;
-    } others[] = {{journal, "journal"},
-                  {journal != NULL ? beside : NULL, "file beside the journal"},
-                  {asked->description, "description"},
-                  {asked->objects, "file of objects"}};
-    for (size_t at = 0; asked->log != NULL && at < sizeof others / sizeof *others; at++) {
-        if (others[at].path != NULL && file_is_same(asked->log, others[at].path)) {
-            fprintf(stderr, "%s cannot be the log and the %s\n", asked->log, others[at].what);
-            exit(2);
+    } files[] = {
+        {journal, "journal"}, {asked->description, "description"}, {asked->objects, "file of objects"}, {log, "log"}};
+    enum { FILES = sizeof files / sizeof *files };
+    for (size_t at = 0; at < FILES - 1; at++) {
+        if (log != NULL && files[at].path != NULL && file_is_same(log, files[at].path)) {
+            refuse_both(log, "log", files[at].what);
+        }
+    }
+    for (size_t at = 1; at < FILES; at++) {
+        if (journal != NULL && files[at].path != NULL && is_beside(files[at].path, journal)) {
+            refuse_both(files[at].path, files[at].what, "file beside the journal");
         }
     }
 }
@@ -191,6 +215,6 @@ struct asked asked_for(int count, char **words)
     look_at_journal(&asked);
     look_at_shortening(&asked);
     asked.description = words[optind];
-    look_at_log(&asked);
+    look_at_files(&asked);
     return asked;
 }

@@ -2,6 +2,7 @@
 
 from __future__ import annotations
 
+import os
 import pathlib
 import re
 import signal
@@ -110,6 +111,20 @@ def _unread(trial: Trial) -> None:
     trial.check("it is said", status == 0 and is_said, faults)
 
 
+def _waited_for(trial: Trial) -> None:
+    """A pipe with a name is no log that a start waits for; one that somebody reads is taken."""
+    path, sign = trial.folder / "log.pipe", str(TOP / "signs/bench.sign")
+    os.mkfifo(path)
+    words = trial.called(trial.way, "signd", "--port", "0", "--log", str(path), sign)
+    trial.same("a log that nobody reads", trial.ran(words, seconds=_MOST_WAIT), (2, f"{path}: nobody reads it\n"))
+    read = os.open(path, os.O_RDONLY | os.O_NONBLOCK)
+    front_end = FrontEnd(trial, "signd", None, "--log", str(path), "--no-ticks")
+    trial.same("a log that is read: signd ends", front_end.end()[0], 0)
+    lines = os.read(read, 1000).decode("ascii").splitlines()
+    trial.check("its lines", [line[25:] for line in lines] == ["- start", "- end"], lines)
+    os.close(read)
+
+
 def _as_it_stands(path: pathlib.Path) -> tuple[bytes, int] | None:
     """A file's octets and mode; None where there is none."""
     return (path.read_bytes(), path.stat().st_mode) if path.exists() else None
@@ -137,6 +152,29 @@ def _of_others(trial: Trial) -> None:
             trial.same(f"the {what} stays", _as_it_stands(log), before)
 
 
+def _beside(trial: Trial) -> None:
+    """Nothing that signd reads or writes is what takes a journal's place, or that of the file that a link leads to."""
+    usual = TOP / "signs/bench.sign"
+    (trial.folder / "one.link").symlink_to(trial.folder / "led.to")
+    for journal, beside in (
+        ("one.journal", "one.journal.new"),
+        ("one.link", "led.to.new"),
+        ("one.link", "one.link.new"),
+    ):
+        path = trial.folder / beside
+        for what, options, sign in (
+            ("log", ["--log", path], usual),
+            ("file of objects", ["--objects", path], usual),
+            ("description", [], path),
+        ):
+            path.write_bytes(usual.read_bytes())
+            words = ["--port", "0", "--journal", trial.folder / journal, *options, sign]
+            found = trial.ran(trial.called(trial.way, "signd", *map(str, words)), seconds=_MOST_WAIT)
+            said = f"{path} cannot be the {what} and the file beside the journal\n"
+            trial.same(f"{beside} as the {what}", found, (2, said))
+            trial.check(f"{beside} stays", path.read_bytes() == usual.read_bytes())
+
+
 def _leaves_room(trial: Trial) -> None:
     """A log leaves what is left of a small disk to the journal."""
     mounted = Mounted(trial.folder / "mounted-log")
@@ -160,5 +198,7 @@ def run(trial: Trial) -> None:
     _pictures(trial)
     _unwritten(trial)
     _unread(trial)
+    _waited_for(trial)
     _of_others(trial)
+    _beside(trial)
     _leaves_room(trial)
