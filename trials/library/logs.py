@@ -162,14 +162,15 @@ def _beside(trial: Trial) -> None:
         ("one.link", "one.link.new"),
     ):
         path = trial.folder / beside
-        for what, options, sign in (
-            ("log", ["--log", path], usual),
-            ("file of objects", ["--objects", path], usual),
-            ("description", [], path),
+        for what, option, sign in (
+            ("log", "log", usual),
+            ("file of objects", "objects", usual),
+            ("description", "", path),
         ):
             path.write_bytes(usual.read_bytes())
-            words = ["--port", "0", "--journal", trial.folder / journal, *options, sign]
-            found = trial.ran(trial.called(trial.way, "signd", *map(str, words)), seconds=_MOST_WAIT)
+            options = (f"--{option}", str(path)) if option else ()
+            words = ("--port", "0", "--journal", str(trial.folder / journal), *options, str(sign))
+            found = trial.ran(trial.called(trial.way, "signd", *words), seconds=_MOST_WAIT)
             said = f"{path} cannot be the {what} and the file beside the journal\n"
             trial.same(f"{beside} as the {what}", found, (2, said))
             trial.check(f"{beside} stays", path.read_bytes() == usual.read_bytes())

@@ -185,9 +185,10 @@ async def own_password(request: web.Request) -> web.StreamResponse:
     service, visitor = service_of(request), visitor_of(request)
     fields = await request.post()
     old, new, again = (str(fields.get(key, "")) for key in ("old", "new", "again"))
-    secret = await _present(request, old)
-    if isinstance(secret, web.Response):
-        return secret
+    found = await _present(request, old)
+    if isinstance(found, web.Response):
+        return found
+    secret = found
     if new != again:
         return await _account_page(request, "Nothing was changed: the two new passwords differ.", 422)
 
