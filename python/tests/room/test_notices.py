@@ -301,6 +301,10 @@ def test_the_file_of_who_is_told(tmp_path: pathlib.Path) -> None:
         ("[[webhook]]\nurl = 'file:///etc/passwd'", "http or https"),
         ("[[webhook]]\nurl = 'http://a@b/'", "no user"),
         ("[quiet]\nfrom = '25:00'\nuntil = '06:00'", "hour must be"),
+        ("[[webhook]]\nurl = 'https://a:65536/'", "Port out of range"),
+        ("[[webhook]]\nurl = 'https://a:b/'", "Port could not be cast"),
+        ("[quiet]\nfrom = '22:00Z'\nuntil = '06:00'", "without a zone"),
+        ("[quiet]\nfrom = '22:00'\nuntil = '06:00+01:00'", "without a zone"),
         ("[quiet]\nfrom = '22:00'\nuntil = '06:00'\nkinds = ['x']", "no kind 'x'"),
         ("[quiet", "at end of document"),
     ):

@@ -209,7 +209,7 @@ def _mail(held: dict[str, Any], folder: pathlib.Path) -> Mail:
 
 def _webhook(url: str) -> Webhook:
     parts = urlsplit(url)
-    if parts.scheme not in ("http", "https") or not parts.hostname or parts.username is not None:
+    if parts.scheme not in ("http", "https") or not parts.hostname or parts.username is not None or parts.port == 0:
         raise ValueError("a webhook has a url of http or https, with a host and no user")
     return Webhook(url)
 
@@ -219,6 +219,8 @@ def _quiet(held: dict[str, Any]) -> Quiet:
     if unknown := set(kinds) - set(KINDS):
         raise ValueError(f"there is no kind {sorted(unknown)[0]!r}: there are {', '.join(KINDS)}")
     begin, end = (datetime.time.fromisoformat(str(held[word])) for word in ("from", "until"))
+    if begin.tzinfo is not None or end.tzinfo is not None:
+        raise ValueError("quiet times are by the clock of the machine, without a zone")
     return Quiet(begin, end, kinds)
 
 
