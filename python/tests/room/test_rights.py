@@ -12,7 +12,7 @@ from . import needs
 needs.modules("aiohttp", "jinja2")
 
 from wisangub.refusal import Refusal
-from wisangub.room.store import alarms, database, groups, history, library, rights, rules
+from wisangub.room.store import alarms, database, groups, history, library, rights, rules, tokens
 from wisangub.room.store.library import Written
 from wisangub.room.store.messages import RowSaid
 from wisangub.room.store.rights import Level, Rights
@@ -219,6 +219,25 @@ def test_a_sign_that_is_not_one_s_own_is_nowhere(tmp_path: pathlib.Path, where: 
             status, page, _ = await one.post(path, {})
             assert status == 404 and "gantry" not in page and "GANTRY" not in page, path
         assert (await boss.get("/"))[1].count('<li class="card') == 3, "an administrator sees all"
+
+    run(tmp_path, where, act)
+
+
+def test_alarms_of_other_signs_hide_no_alarm_that_may_be_seen(tmp_path: pathlib.Path, where: str) -> None:
+    """However many there are, and each is newer."""
+
+    async def act(bench: Bench, visitor: Visitors) -> None:
+        narrowed(bench, "reader", Level.SEE, bench.one)
+        narrowed(bench, "operator", Level.SEE)
+        sql = "INSERT INTO alarms (sign, kind, what, begun, ended) VALUES (?, 'silent', 'no reply', {clock}, {clock})"
+        with bench.store.database.transaction():
+            bench.store.database.run_all(sql, [(sign,) for sign in [bench.one, *[bench.gantry] * 250]])
+        for name, count in (("reader", 1), ("operator", 0), ("administrator", 200)):
+            page = (await (await bench.logged_in(visitor, name)).get("/alarms"))[1]
+            assert page.count("no reply") == count, name
+            headers = {"Authorization": f"Bearer {tokens.add(bench.store.database, 'map', name, True, 1, name)}"}
+            held = json.loads(await (await visitor().answered("/api/1/alarms", headers=headers)).text())
+            assert len(held["alarms"]) == count, name
 
     run(tmp_path, where, act)
 

@@ -1,7 +1,7 @@
 """The table of alarms: what is wrong with a sign, as its readings, its table, its commands and it itself say."""
 
 from dataclasses import dataclass
-from typing import Sequence
+from typing import Callable, Sequence
 
 from wisangub.room.device import errors
 from wisangub.snmp.names import RowStatus
@@ -19,6 +19,7 @@ EVERY = 5.0  # seconds from one look for alarms to the next, of all workers toge
 _CENTRAL = 8  # the mode of what a central system activated
 _MOST_READ = 1000  # signs that are asked for at once
 _MOST_TEXT = 60  # characters of a text that an alarm says
+_OPEN = "(alarms.ended IS NULL OR alarms.seen_by IS NULL)"
 _FOUND = """
 SELECT alarms.id, alarms.sign, signs.name, alarms.kind, alarms.what, alarms.begun, alarms.ended, alarms.seen_by,
        alarms.seen_at
@@ -55,12 +56,20 @@ def _alarm(row: Row) -> Alarm:
     )
 
 
-def listed(database: Database, sign: int | None = None, most: int = 200) -> list[Alarm]:
-    """Alarms that stand or that nobody has seen, of one sign or of all: those that nobody has seen first, the newest
-    first."""
+def listed(
+    database: Database, sign: int | None = None, most: int = 200, may_see: Callable[[int], bool] | None = None
+) -> list[Alarm]:
+    """Alarms that stand or that nobody has seen, of one sign, of those that somebody may see, or of all: those that
+    nobody has seen first, the newest first."""
     where, values = ("", []) if sign is None else (" AND alarms.sign = ?", [sign])
+    if may_see is not None:
+        every = [
+            whole(row[0]) for row in database.run(f"SELECT DISTINCT sign FROM alarms WHERE {_OPEN}{where}", *values)
+        ]
+        values = list(filter(may_see, every))
+        where = f" AND alarms.sign IN ({places(values)})" if values else " AND 1 = 0"
     rows = database.run(
-        f"{_FOUND} WHERE (alarms.ended IS NULL OR alarms.seen_by IS NULL){where}"
+        f"{_FOUND} WHERE {_OPEN}{where}"
         " ORDER BY CASE WHEN alarms.seen_by IS NULL THEN 0 ELSE 1 END, alarms.id DESC LIMIT ?",
         *values,
         most,

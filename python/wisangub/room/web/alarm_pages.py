@@ -11,14 +11,14 @@ from .service import rights_of, service_of, visitor_of
 
 
 async def listed(request: web.Request) -> web.Response:
-    service = service_of(request)
+    service, may = service_of(request), rights_of(request)
 
     def found(database: Database) -> tuple[list[Alarm], float]:
-        return alarms.listed(database), queries.now(database)
+        rows = alarms.listed(database, may_see=None if may.sees_all else may.may_see)
+        return rows, queries.now(database)
 
     rows, now = await service.connections.run(found)
-    rights = rights_of(request)
-    return service.page(request, "alarms.html", alarms=[one for one in rows if rights.may_see(one.sign)], now=now)
+    return service.page(request, "alarms.html", alarms=rows, now=now)
 
 
 async def acknowledge(request: web.Request) -> web.StreamResponse:

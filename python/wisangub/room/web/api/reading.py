@@ -146,10 +146,10 @@ async def batch(request: web.Request) -> web.Response:
 
 
 async def alarm_list(request: web.Request) -> web.Response:
-    may_see = rights_of(request).may_see
+    may = rights_of(request)
+    may_see = None if may.sees_all else may.may_see
     return await _made(
-        request,
-        lambda database: {"alarms": [views.alarm(one) for one in alarms.listed(database) if may_see(one.sign)]},
+        request, lambda database: {"alarms": list(map(views.alarm, alarms.listed(database, may_see=may_see)))}
     )
 
 
