@@ -234,6 +234,36 @@ def test_a_text_is_published_once_for_a_key(tmp_path: pathlib.Path, where: str) 
     run(tmp_path, where, act)
 
 
+def test_what_a_sign_shows_meanwhile_makes_nothing_else_of_a_key(tmp_path: pathlib.Path, where: str) -> None:
+    """A request that comes again gets what was asked for, though its priority or checksum would be another one now."""
+
+    async def act(bench: Bench, visitor: Visitors) -> None:
+        system = System(bench, visitor, "operator")
+        row = {"sign": bench.one, "memory": "changeable", "row": 1}
+        bench.read(bench.one, priority=77)
+        bench.table(bench.one)
+        first = await system.post("/blank", {"signs": [bench.one]}, "k1")
+        shown = await system.post("/show", row, "k2")
+        assert first[0] == shown[0] == 202
+        bench.read(bench.one, number=-9, priority=3, text="")
+        held = json.dumps({"text": "41", "owner": "-", "checksum": 1, "beacon": 0, "pixel": 0, "priority": 200})
+        bench.store.messages.keep([RowSaid(bench.one, 3, 1, -10, 4, held)])
+        assert await system.post("/blank", {"signs": [bench.one]}, "k1") == first
+        assert await system.post("/show", row, "k2") == shown
+        for path, said, key in (
+            ("/blank", {"signs": [bench.two]}, "k1"),
+            ("/blank", {"signs": [bench.one], "minutes": 5}, "k1"),
+            ("/blank", {"signs": [bench.one], "activation_priority": 3}, "k1"),
+            ("/blank", {"signs": [bench.one]}, "k2"),
+            ("/show", {**row, "activation_priority": 200}, "k2"),
+            ("/show", {**row, "minutes": 5}, "k2"),
+        ):
+            assert (await system.post(path, said, key))[0] == 409, (path, said)
+        assert len(bench.store.database.run("SELECT id FROM commands")) == 2
+
+    run(tmp_path, where, act)
+
+
 def test_what_is_no_text_is_refused(tmp_path: pathlib.Path, where: str) -> None:
     async def act(bench: Bench, visitor: Visitors) -> None:
         system = System(bench, visitor, "operator")

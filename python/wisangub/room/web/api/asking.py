@@ -120,12 +120,13 @@ async def blank(request: web.Request) -> web.Response:
     """Signs that are to show nothing."""
     key, asked = key_of(request), await body(request, "Blank")
     draft = _draft(request, "blank", asked, signs_of(request, asked["signs"]))
-    if "activation_priority" not in asked:
+    has_priority = "activation_priority" in asked
+    if not has_priority:
         shown = await service_of(request).connections.run(
             lambda database: compose.shown_priorities(database, draft.signs)
         )
         draft = dataclasses.replace(draft, priority=max(shown))
-    return await _send(request, draft, key)
+    return await _send(request, draft, key, has_priority)
 
 
 async def show(request: web.Request) -> web.Response:
@@ -137,17 +138,23 @@ async def show(request: web.Request) -> web.Response:
     if not found or found[0].status != RowStatus.VALID:
         raise _wrong("/row", "the sign's table, as it was last read, has no valid message there")
     priority = asked.get("activation_priority", found[0].priority or rules.MOST)
-    return await _send(request, dataclasses.replace(draft, checksum=found[0].checksum, priority=priority), key)
+    draft = dataclasses.replace(draft, checksum=found[0].checksum, priority=priority)
+    return await _send(request, draft, key, "activation_priority" in asked)
 
 
-def _content(sign: int, line: str) -> tuple[int, str]:
-    """A command without the address of this machine, which may be another one when it is asked for again."""
+def _content(sign: int, line: str, has_priority: bool) -> tuple[int, list[str]]:
+    """A command without what may be another one when it is asked for again: this machine's address, the checksum of a
+    sign's row, and the priority where it is that of what is shown or of the row."""
     words = line.split(" ")
-    return sign, f"activate {words[1][:16]}" if words[0] == "activate" else " ".join(words[:-1])
+    if words[0] == "activate":
+        code = words[1]
+        words = ["activate", code[:4], code[6:12], code[4:6], ""]
+    return sign, words[:-1] if has_priority or words[0] == "publish" else words[:-2]
 
 
-async def _send(request: web.Request, draft: Draft, key: str) -> web.Response:
-    """Asks for it, once: a key that came before gets what was asked for with it then."""
+async def _send(request: web.Request, draft: Draft, key: str, has_priority: bool = True) -> web.Response:
+    """Asks for it, once: a key that came before gets what was asked for with it then. `has_priority`: its priority was
+    said, and is not what a sign says."""
     service, visitor = service_of(request), visitor_of(request)
 
     def done(database: Database) -> views.Value:
@@ -156,8 +163,8 @@ async def _send(request: web.Request, draft: Draft, key: str) -> web.Response:
         number = Commands(database).ask_all(lines, visitor.name, what, f"{visitor.login} {key}", through)
         found = history.batch(database, number)
         assert found is not None
-        asked = sorted(_content(one.sign, one.line) for one in found.commands)
-        if asked != sorted(_content(*one) for one in lines):
+        asked = sorted(_content(one.sign, one.line, has_priority) for one in found.commands)
+        if asked != sorted(_content(*one, has_priority) for one in lines):
             raise Wrong(409, "Nothing was done: this key was used for something else.")
         return views.batch(found, found.commands)
 
