@@ -165,6 +165,38 @@ def test_a_text_is_written_approved_and_used(tmp_path: pathlib.Path, where: str)
     run(tmp_path, where, act)
 
 
+def test_what_a_page_showed_is_written_anew_alone(tmp_path: pathlib.Path, where: str) -> None:
+    """What somebody else wrote meanwhile is not lost, and what was written here stays in the form."""
+
+    async def act(bench: Bench, visitor: Visitors) -> None:
+        one, other = await bench.logged_in(visitor, OPERATOR), await bench.logged_in(visitor, ADMINISTRATOR)
+        number = await written(one, purpose=(purpose := str(rules.purposes(bench.store.database)[0].id)))
+        path, held = f"/library/{number}", bench.store.database
+
+        def shown(page: str) -> str:
+            found = re.search(r'name="shown" value="([0-9a-f]{64})"', page)
+            assert found is not None
+            return found[1]
+
+        mine = {"do": "change", "folder": "", "name": "Mine", "text": "MINE", "purpose": purpose}
+        before = shown((await one.get(path))[1])
+        assert (await other.post(path, {**mine, "name": "Other", "text": "OTHER", "shown": before}))[0] == 303
+        for fields in ({**mine, "shown": before}, {"do": "remove", "shown": before}):
+            status, page, _ = await one.post(path, fields)
+            assert status == 422 and "changed meanwhile" in page and "<h1>Other</h1>" in page
+            assert (">MINE</textarea>" in page) == (fields["do"] == "change")
+        text = library.found(held, number)
+        assert text is not None and (text.name, text.text) == ("Other", b"OTHER")
+        assert (await one.post(path, {**mine, "shown": shown(page)}))[0] == 303
+        rules.forbid(held, "ice", "boss")
+        status, page, _ = await one.post(path, {**mine, "text": "MINE ICE", "shown": shown((await one.get(path))[1])})
+        assert status == 422 and "“ice” may not be shown" in page and ">MINE ICE</textarea>" in page
+        fields = {"do": "remove", "shown": shown(page)}
+        assert (await one.post(path, fields))[2] == "/library" and library.found(held, number) is None
+
+    run(tmp_path, where, act)
+
+
 def test_a_text_that_does_not_fit_is_not_approved(tmp_path: pathlib.Path) -> None:
     async def act(bench: Bench, visitor: Visitors) -> None:
         boss = await bench.logged_in(visitor, ADMINISTRATOR)

@@ -1,5 +1,6 @@
 """The library: texts by folder and name, and for which kinds of signs each is approved."""
 
+import hashlib
 from dataclasses import dataclass
 
 from wisangub.refusal import Refusal
@@ -10,6 +11,7 @@ from .connection import Database, Row, Taken
 from .values import texts, time_of, whole, whole_or_none
 
 _MOST_TEXT = 512  # octets
+_CHANGED = "this text was changed meanwhile: look at it again"
 _TEXTS = """
 SELECT texts.id, texts.folder, texts.name, texts.text, texts.purpose, purposes.name, texts.written_by, texts.written_at
 FROM texts JOIN purposes ON purposes.id = texts.purpose
@@ -62,6 +64,11 @@ class Text:
     @property
     def called(self) -> str:
         return f"{self.folder} / {self.name}" if self.folder else self.name
+
+    @property
+    def shown(self) -> str:
+        """A digest of what can be written anew, by which a page says what it showed."""
+        return hashlib.sha256(repr((self.folder, self.name, self.text, self.purpose)).encode()).hexdigest()
 
     @property
     def kinds(self) -> set[str]:
@@ -134,12 +141,15 @@ def add(database: Database, written: Written, who: str) -> int:
         raise Refusal("there is a text of this name in the folder already, or no such purpose") from None
 
 
-def change(database: Database, number: int, written: Written, who: str, may_approve: bool) -> None:
-    """Writes a text anew, which ends its approvals; an approved one is changed by who may approve alone."""
+def change(
+    database: Database, number: int, written: Written, who: str, may_approve: bool, shown: str | None = None
+) -> None:
+    """Writes a text anew, as somebody has seen it where that is said, which ends its approvals; an approved one is
+    changed by who may approve alone."""
     held = written.checked(rules.words(database))
     try:
         with database.transaction(is_alone=True):
-            _let(database, number, may_approve)
+            _let(database, number, may_approve, shown)
             database.run("DELETE FROM approvals WHERE text = ?", number)
             database.run(
                 "UPDATE texts SET folder = ?, name = ?, text = ?, purpose = ?, written_by = ?, written_at = {clock}"
@@ -156,22 +166,24 @@ def change(database: Database, number: int, written: Written, who: str, may_appr
         raise Refusal("there is a text of this name in the folder already, or no such purpose") from None
 
 
-def remove(database: Database, number: int, who: str, may_approve: bool) -> None:
-    """Takes a text away; an approved one by who may approve alone."""
+def remove(database: Database, number: int, who: str, may_approve: bool, shown: str | None = None) -> None:
+    """Takes a text away, as somebody has seen it where that is said; an approved one by who may approve alone."""
     with database.transaction(is_alone=True):
-        text = _let(database, number, may_approve)
+        text = _let(database, number, may_approve, shown)
         database.run("DELETE FROM approvals WHERE text = ?", number)
         database.run("DELETE FROM texts WHERE id = ?", number)
         note(database, who, f"library: {text.called} is removed")
 
 
-def _let(database: Database, number: int, may_approve: bool) -> Text:
-    """The text, for who may change it."""
+def _let(database: Database, number: int, may_approve: bool, shown: str | None) -> Text:
+    """The text, for who may change it, and has seen it as it is."""
     text = found(database, number)
     if text is None:
         raise Refusal("there is no such text any more")
     if text.approvals and not may_approve:
         raise Refusal("this text is approved: an administrator changes it")
+    if shown not in (None, text.shown):
+        raise Refusal(_CHANGED)
     return text
 
 
@@ -181,7 +193,7 @@ def approve(database: Database, number: int, text: bytes, kind: str, who: str) -
     with database.transaction(is_alone=True):
         held = found(database, number)
         if held is None or held.text != text:
-            raise Refusal("this text was changed meanwhile: look at it again")
+            raise Refusal(_CHANGED)
         if database.run(
             "INSERT INTO approvals (text, kind, approved_by, approved_at) VALUES (?, ?, ?, {clock})"
             " ON CONFLICT DO NOTHING RETURNING kind",

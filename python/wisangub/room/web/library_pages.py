@@ -89,8 +89,10 @@ def _number_of(request: web.Request) -> int:
     return int(request.match_info["text"])
 
 
-async def _page(request: web.Request, said: str = "", status: int = 200) -> web.Response:
-    """A text on every kind of signs."""
+async def _page(
+    request: web.Request, said: str = "", status: int = 200, written: Written | None = None
+) -> web.Response:
+    """A text on every kind of signs, with what was written anew where that was refused."""
     service, number = service_of(request), _number_of(request)
 
     def found(database: Database) -> tuple[Text | None, list[Purpose], float]:
@@ -107,6 +109,7 @@ async def _page(request: web.Request, said: str = "", status: int = 200) -> web.
         "text.html",
         status=status,
         text=text,
+        written=written or text,
         kinds=[Kind(look, by_kind.get(look.face.key)) for look in looks],
         may_change=visitor_of(request).may_administer or not text.approvals,
         purposes=purposes,
@@ -122,19 +125,21 @@ async def text(request: web.Request) -> web.Response:
 async def change(request: web.Request) -> web.StreamResponse:
     """Writes a text anew, or removes it."""
     service, visitor, number = service_of(request), visitor_of(request), _number_of(request)
-    do = str((await request.post()).get("do", ""))
+    fields = await request.post()
+    shown = str(fields["shown"]) if "shown" in fields else None
+    may_approve, written = visitor.may_administer, None
     try:
-        if do == "remove":
+        if fields.get("do") == "remove":
             await service.connections.run(
-                lambda database: library.remove(database, number, visitor.name, visitor.may_administer)
+                lambda database: library.remove(database, number, visitor.name, may_approve, shown)
             )
             raise web.HTTPSeeOther("/library")
-        written = await _written(request)
+        held = written = await _written(request)
         await service.connections.run(
-            lambda database: library.change(database, number, written, visitor.name, visitor.may_administer)
+            lambda database: library.change(database, number, held, visitor.name, may_approve, shown)
         )
     except Refusal as refused:
-        return await _page(request, f"Nothing was changed: {refused}.", 422)
+        return await _page(request, f"Nothing was changed: {refused}.", 422, written)
     raise web.HTTPSeeOther(f"/library/{number}")
 
 
