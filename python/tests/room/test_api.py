@@ -239,7 +239,7 @@ def test_what_a_sign_shows_meanwhile_makes_nothing_else_of_a_key(tmp_path: pathl
 
     async def act(bench: Bench, visitor: Visitors) -> None:
         system = System(bench, visitor, "operator")
-        row = {"sign": bench.one, "memory": "changeable", "row": 1}
+        row: dict[str, Any] = {"sign": bench.one, "memory": "changeable", "row": 1}
         bench.read(bench.one, priority=77)
         bench.table(bench.one)
         first = await system.post("/blank", {"signs": [bench.one]}, "k1")

@@ -1,8 +1,10 @@
 """What watches the service: /health for everybody, and metrics as Prometheus reads them."""
 
+import asyncio
 import importlib.util
 import pathlib
 import re
+import time
 
 import pytest
 
@@ -49,6 +51,24 @@ def test_health_asks_the_database_once_a_second(tmp_path: pathlib.Path, monkeypa
         for _ in range(20):
             await visitor().get("/health")
         assert 1 <= len(asked) < 10
+
+    run(tmp_path, str(tmp_path / "database"), act)
+
+
+def test_who_asks_while_the_database_is_asked_waits_for_its_answer(
+    tmp_path: pathlib.Path, monkeypatch: pytest.MonkeyPatch
+) -> None:
+    """At the first look too: a database that answers is not away."""
+
+    def slowly(_: Database) -> float:
+        time.sleep(0.3)
+        return 1.0
+
+    monkeypatch.setattr(gauges, "worker_age", slowly)
+
+    async def act(bench: Bench, visitor: Visitors) -> None:
+        found = await asyncio.gather(*(visitor().get("/health") for _ in range(4)))
+        assert set(found) == {(200, '{"status": "ok"}')}
 
     run(tmp_path, str(tmp_path / "database"), act)
 

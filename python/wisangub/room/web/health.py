@@ -1,8 +1,9 @@
 """What watches the service asks for: /health, and /metrics as Prometheus reads them."""
 
+import asyncio
 import importlib.util
 import time
-from dataclasses import dataclass
+from dataclasses import dataclass, field
 from typing import TYPE_CHECKING, Awaitable, Callable
 
 from aiohttp import web
@@ -35,17 +36,19 @@ class Watch:
     looked: float = -_KEPT
     is_answering: bool = False
     worker_age: float | None = None
+    turn: asyncio.Lock = field(default_factory=asyncio.Lock)
 
     async def look(self) -> None:
-        """Asks the database, where it was not asked just before."""
-        if time.monotonic() - self.looked < _KEPT:
-            return
-        self.looked = time.monotonic()
-        try:
-            self.worker_age = await self.service.connections.run(gauges.worker_age)
-            self.is_answering = True
-        except Failed:
-            self.is_answering = False
+        """Asks the database, where it was not asked just before; who asks meanwhile waits for the answer."""
+        async with self.turn:
+            if time.monotonic() - self.looked < _KEPT:
+                return
+            try:
+                self.worker_age = await self.service.connections.run(gauges.worker_age)
+                self.is_answering = True
+            except Failed:
+                self.is_answering = False
+            self.looked = time.monotonic()
 
     @property
     def has_worker(self) -> bool:
