@@ -298,6 +298,34 @@ def test_a_stream_ends_where_rights_change(tmp_path: pathlib.Path, monkeypatch: 
     run(tmp_path, str(tmp_path / "database"), act)
 
 
+def test_the_signs_that_a_page_showed_are_changed_alone(tmp_path: pathlib.Path, where: str) -> None:
+    """A sign that another administrator put into a group, or took out, is not the other way again."""
+
+    async def act(bench: Bench, visitor: Visitors) -> None:
+        held, boss = bench.store.database, await bench.logged_in(visitor, "administrator")
+        number = groups.add(held, "A 9", "route", "boss")
+        known = frozenset(bench.service.signs)
+
+        def signs() -> frozenset[int]:
+            return next(one.signs for one in groups.listed(held) if one.id == number)
+
+        async def shown() -> tuple[str, str]:
+            found = re.search(r'name="shown" value="([0-9a-f]{64})"', (await boss.get(f"/groups/{number}"))[1])
+            assert found is not None
+            return "shown", found[1]
+
+        before = await shown()
+        groups.change_signs(held, number, frozenset([bench.one]), known, "another")
+        fields = [("do", "signs"), ("sign", str(bench.gantry))]
+        status, page, _ = await boss.post(f"/groups/{number}", [*fields, before])
+        assert status == 422 and "changed meanwhile" in page and signs() == {bench.one}
+        assert page.count(" checked>") == 1 and before[1] not in page, "as it is now"
+        assert (await boss.post(f"/groups/{number}", [*fields, await shown()]))[0] == 200
+        assert signs() == {bench.gantry}
+
+    run(tmp_path, where, act)
+
+
 def test_the_pages_of_groups(tmp_path: pathlib.Path, where: str) -> None:
     async def act(bench: Bench, visitor: Visitors) -> None:
         boss, one = [await bench.logged_in(visitor, name) for name in ("administrator", "operator")]

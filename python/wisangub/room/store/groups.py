@@ -1,6 +1,8 @@
 """Groups of signs, and what users may in each."""
 
+import hashlib
 from dataclasses import dataclass
+from typing import Iterable
 
 from wisangub.refusal import Refusal
 
@@ -28,6 +30,15 @@ class Group:
     def has_all(self) -> bool:
         """Whether every sign is in it, without being named."""
         return self.kind == _ALL
+
+    @property
+    def shown(self) -> str:
+        """A digest of its signs, by which a page says what it showed."""
+        return _digest(self.signs)
+
+
+def _digest(signs: Iterable[int]) -> str:
+    return hashlib.sha256(repr(sorted(signs)).encode()).hexdigest()
 
 
 def listed(database: Database) -> list[Group]:
@@ -90,11 +101,16 @@ def remove(database: Database, number: int, who: str) -> None:
         note(database, who, f"group {name} is removed")
 
 
-def change_signs(database: Database, number: int, signs: frozenset[int], known: frozenset[int], who: str) -> None:
-    """The group has these of the known signs, and keeps those of other fleets."""
+def change_signs(
+    database: Database, number: int, signs: frozenset[int], known: frozenset[int], who: str, shown: str | None = None
+) -> None:
+    """The group has these of the known signs, and keeps those of other fleets. Refused where it has others than
+    somebody has seen, where that is said."""
     with database.transaction(is_alone=True):
         name = _named(database, number)
         had = {whole(row[0]) for row in database.run("SELECT sign FROM group_members WHERE of_group = ?", number)}
+        if shown not in (None, _digest(had)):
+            raise Refusal("the signs of this group were changed meanwhile: look at them again")
         new, gone = (signs & known) - had, (had & known) - signs
         database.run_all(
             "INSERT INTO group_members (of_group, sign) VALUES (?, ?)", [(number, sign) for sign in sorted(new)]

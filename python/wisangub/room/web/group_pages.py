@@ -79,11 +79,12 @@ async def change(request: web.Request) -> web.StreamResponse:
     service, who, number = service_of(request), visitor_of(request).name, _number_of(request)
     fields = await request.post()
     do, name, level = (str(fields.get(key, "")) for key in ("do", "name", "level"))
+    shown = str(fields["shown"]) if "shown" in fields else None
     chosen = frozenset(int(word) for word in map(str, fields.getall("sign", [])) if word.isdecimal() and len(word) < 10)
 
     def done(database: Database) -> str:
         if do == "signs":
-            groups.change_signs(database, number, chosen, frozenset(service.signs), who)
+            groups.change_signs(database, number, chosen, frozenset(service.signs), who, shown)
             return "The group has these signs."
         if do == "right":
             groups.give(database, number, name, _level(level), who)
