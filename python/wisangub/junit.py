@@ -22,12 +22,17 @@ def _printable(words: str) -> str:
     return _NOT_IN_XML.sub(lambda found: found[0].encode("unicode_escape").decode("ascii"), words)
 
 
-def write(path: pathlib.Path, suite: str, cases: Sequence[Case]) -> None:
-    """Writes the report of a suite; raises OSError where the file cannot be written."""
+def text(suite: str, cases: Sequence[Case]) -> str:
+    """The report of a suite."""
     failed = sum(bool(case.fault) for case in cases)
     top = ET.Element("testsuite", name=suite, tests=str(len(cases)), failures=str(failed), errors="0", skipped="0")
     for case in cases:
         made = ET.SubElement(top, "testcase", classname=f"{suite}.{case.group}", name=_printable(case.name))
         if case.fault:
             ET.SubElement(made, "failure", message=_printable(case.fault.splitlines()[0])).text = _printable(case.fault)
-    path.write_text(ET.tostring(top, encoding="unicode", xml_declaration=True) + "\n", encoding="utf-8")
+    return ET.tostring(top, encoding="unicode", xml_declaration=True) + "\n"
+
+
+def write(path: pathlib.Path, suite: str, cases: Sequence[Case]) -> None:
+    """Writes the report of a suite; raises OSError where the file cannot be written."""
+    path.write_text(text(suite, cases), encoding="utf-8")

@@ -38,6 +38,19 @@ def test_stops_after_three_silent_requests() -> None:
         assert "3 requests one after the other without a reply: stopped" in ended.stderr
 
 
+def test_a_report_that_cannot_be_written_is_no_difference() -> None:
+    """It is looked at before the first datagram; a disk that is full is found at the end."""
+    with socket.socket(socket.AF_INET, socket.SOCK_DGRAM) as udp_socket:
+        udp_socket.bind(("127.0.0.1", 0))
+        for path, why, count in (
+            ("/nowhere/report.xml", "/nowhere/report.xml.new: No such file or directory", 0),
+            ("/dev/full", "No space left on device", 3),
+        ):
+            ended = asked(udp_socket.getsockname()[1], "--junit", path)
+            assert (ended.returncode, received(udp_socket)) == (2, count), ended
+            assert ended.stderr == f"the report cannot be written: {why}\n"
+
+
 def test_goes_on_where_replies_are_wrong() -> None:
     with socket.socket(socket.AF_INET, socket.SOCK_DGRAM) as udp_socket:
         udp_socket.bind(("127.0.0.1", 0))

@@ -8,19 +8,30 @@ requests one after the other that should have had a reply and had none it stops,
 """
 
 import argparse
+import contextlib
 import json
 import pathlib
 import socket
 import sys
 import time
-from typing import Any
+from typing import Any, Iterator
 
 from wisangub import junit
 from wisangub.process.places import TOP, add_version, called
-from wisangub.refusal import Refusal
+from wisangub.refusal import Refusal, reason
 from wisangub.tester.options import above_nothing, address
+from wisangub.whole import WholeFile
 
 _MOST_SILENT = 3
+
+
+@contextlib.contextmanager
+def _written() -> Iterator[None]:
+    """A report that cannot be written is refused in words, and no difference of the sign."""
+    try:
+        yield
+    except OSError as fault:
+        raise Refusal(f"the report cannot be written: {reason(fault)}") from None
 
 
 def _cases(path: pathlib.Path) -> list[dict[str, Any]]:
@@ -87,13 +98,17 @@ def main() -> int:
     parser.add_argument("--junit", type=pathlib.Path, metavar="FILE", help="a report as JUnit has it is written here")
     options = parser.parse_args()
     to = _resolved(*address(options.to))
+    with _written():
+        report = WholeFile(options.junit) if options.junit else None
     every = _cases(TOP / "vectors/requests.jsonl")
     wanted = [case for case in every if not case["changes"]]
     with socket.socket(socket.AF_INET, socket.SOCK_DGRAM) as udp_socket:
         udp_socket.settimeout(options.wait)
         tried, is_silent = _compare(udp_socket, to, wanted)
-    if options.junit:
-        junit.write(options.junit, "vectors", tried)
+    if report is not None:
+        with _written():
+            report.write(junit.text("vectors", tried))
+            report.close()
     if is_silent:
         print(
             f"{options.to} left {_MOST_SILENT} requests one after the other without a reply: stopped", file=sys.stderr
