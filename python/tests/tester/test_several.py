@@ -79,6 +79,26 @@ def test_a_sign_whose_reports_cannot_be_written_keeps_no_other_from_its_test() -
         assert "File name too long" in held[0]["words"] and "no.sign" in held[1]["words"]
 
 
+def test_a_report_of_all_that_cannot_be_written_is_found_at_the_start() -> None:
+    """No sign differs for it, and none is tested; a disk that is full then is found at the end."""
+    with tempfile.TemporaryDirectory() as name:
+        folder = pathlib.Path(name)
+        (folder / "list").write_text("west 127.0.0.1:1 no.sign\n", encoding="utf-8")
+        for is_full in (False, True):
+            reports = folder / f"reports-{is_full}"
+            reports.mkdir()
+            report = reports / "several.json"
+            if is_full:
+                report.symlink_to("/dev/full")
+            else:
+                report.mkdir()
+            call = [*CALL, str(folder / "list"), "--into", str(reports), *OPTIONS]
+            ended = subprocess.run(call, cwd=TOP, capture_output=True, timeout=LONG, check=False)
+            why = b"No space left on device" if is_full else b"Is a directory"
+            assert ended.returncode == 2 and why in ended.stderr and ended.stderr.count(b"\n") == 1, ended
+            assert (reports / "west.txt").exists() == is_full
+
+
 def test_an_interrupt_ends_the_tests_that_run_and_begins_no_other() -> None:
     with tempfile.TemporaryDirectory() as name, contextlib.ExitStack() as ends:
         folder, port = pathlib.Path(name), free_port()

@@ -21,6 +21,7 @@ from wisangub.process.places import add_version, called, environment
 from wisangub.refusal import Refusal, reason
 from wisangub.tester.findings.results import Verdict
 from wisangub.tester.options import count
+from wisangub.whole import WholeFile
 
 from .listed import ALL, FILES, REPORTS, Listed, checked, read
 
@@ -91,8 +92,8 @@ class Several:
             print(f"{held.name} at {held.to}: {said}", flush=True)
 
 
-def _summary(signs: list[Listed], several: Several) -> int:
-    """Prints how many have which verdict, keeps that as JSON, and says the status of all."""
+def _summary(signs: list[Listed], several: Several, report: WholeFile) -> int:
+    """Prints how many have which verdict, keeps that as JSON, and says the status of all; 2 where it is not kept."""
     statuses = {held.name: several.ended.get(held.name, (3, "not begun"))[0] for held in signs}
     verdicts = {name: _WORDS.get(status, _WRONG) for name, status in statuses.items()}
     counts = {word: list(verdicts.values()).count(word) for word in dict.fromkeys([*_WORDS.values()])}
@@ -106,7 +107,11 @@ def _summary(signs: list[Listed], several: Several) -> int:
         }
         for held in signs
     ]
-    (several.folder / f"{ALL}.json").write_text(json.dumps(whole, indent=1) + "\n", encoding="utf-8")
+    try:
+        report.write(json.dumps(whole, indent=1) + "\n")
+    except OSError as fault:
+        print(f"the report of all signs cannot be written: {reason(fault)}", file=sys.stderr)
+        return 2
     known = [status if status in (0, *_ORDER) else 2 for status in statuses.values()]
     return next((status for status in _ORDER if status in known), 0)
 
@@ -132,6 +137,7 @@ def main() -> int:
         checked(options, f"{parser.prog}{', where --pdf and --pcap have no FILE' if kinds else ''}")
         signs = read(asked.list)
         asked.into.mkdir(parents=True, exist_ok=True)
+        report = WholeFile(asked.into / f"{ALL}.json")
     except Refusal as fault:
         print(fault, file=sys.stderr)
         return 2
@@ -146,7 +152,7 @@ def main() -> int:
     for number in (signal.SIGINT, signal.SIGTERM):
         signal.signal(number, stopped)
     several.run(signs, asked.jobs)
-    return _summary(signs, several)
+    return _summary(signs, several, report)
 
 
 if __name__ == "__main__":
