@@ -157,6 +157,17 @@ def test_nobody_waits_for_what_others_fail(where: str) -> None:
 STRANGER, SAME_NET, NEIGHBOUR = "2001:db8:1:2::1", "2001:db8:1:2:ffff::9", "2001:db8:1:3::1"
 
 
+def test_another_address_of_the_same_machine_is_no_way_around(where: str, monkeypatch: pytest.MonkeyPatch) -> None:
+    held = database.opened(where)
+    monkeypatch.setattr(passwords, "COST", 2**4)
+    users.add(held, "ann", Role.OPERATOR, PASSWORD, "a test")
+    waits = [logins.attempt(held, "ann", f"2001:db8:1:2::{at:x}") for at in range(logins.FREE + 1)]
+    assert not any(waits[: logins.FREE]) and waits[-1] > 1, "each guess comes from another address"
+    assert logins.attempt(held, "ann", NEIGHBOUR) == 0 == logins.attempt(held, "bob", STRANGER)
+    logins.begin(held, "ann", STRANGER)
+    assert not any(logins.attempt(held, "ann", SAME_NET) for _ in range(logins.FREE)), "a success forgets them all"
+
+
 def test_who_fails_under_many_names_waits_whatever_name_comes_next(where: str, monkeypatch: pytest.MonkeyPatch) -> None:
     held = database.opened(where)
     monkeypatch.setattr(passwords, "COST", 2**4)

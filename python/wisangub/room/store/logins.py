@@ -95,11 +95,12 @@ def attempt(database: Database, name: str, address: str) -> float:
 
 
 def _left_of_name(database: Database, name: str, address: str) -> float:
-    """Seconds that this name still waits at this address, since it failed there."""
+    """Seconds that this name still waits at this address, since it failed there or, of IPv6, at another one that the
+    same machine can choose."""
     failed, last, newest, now = database.run(
-        "SELECT count(*), max(at), max(id), {clock} FROM failed_logins WHERE name = ? AND address = ?",
+        "SELECT count(*), max(at), max(id), {clock} FROM failed_logins WHERE name = ? AND network = ?",
         _hidden(name),
-        address,
+        network_of(address),
     )[0]
     left = 0.0 if last is None else time_of(last) + wait_after(whole(failed)) - time_of(now)
     if left > 0:
@@ -154,7 +155,7 @@ def failed(database: Database, name: str, address: str, what: str = "a log-in fa
 
 def forgive(database: Database, name: str, address: str | None = None) -> None:
     """Forgets the failed log-ins of a name, from one address or from all."""
-    where, values = ("", []) if address is None else (" AND address = ?", [address])
+    where, values = ("", []) if address is None else (" AND network = ?", [network_of(address)])
     database.run(f"DELETE FROM failed_logins WHERE name = ?{where}", _hidden(name), *values)
 
 
