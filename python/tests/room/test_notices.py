@@ -37,6 +37,7 @@ class Server(socketserver.ThreadingTCPServer):
     allow_reuse_address = daemon_threads = True
     heard: list[Any]
     answer: Any = None
+    is_curt = False  # it closes the connection where a client takes its leave
     folder = pathlib.Path()  # of its certificate
 
     @property
@@ -65,6 +66,8 @@ class Smtp(socketserver.StreamRequestHandler):
                 self.server.heard.append(said)
             elif verb in ("MAIL", "RCPT"):
                 said.append(line.partition(":")[2])
+            elif verb == "QUIT" and self.server.is_curt:
+                return
             self.wfile.write(self.server.answer if verb == "RCPT" and self.server.answer else b"250 well\r\n")
 
 
@@ -183,6 +186,19 @@ def test_what_failed_is_tried_again_and_not_for_ever(where: str, capsys: pytest.
             later(store.database)
             teller.tell(store.database)
         assert store.database.run("SELECT tries FROM notices WHERE target = 'mail'") == [(alarms.TRIES,)]
+
+
+def test_a_mail_that_was_taken_is_told(where: str) -> None:
+    store, _, sign = two_stores(where)
+    store.readings.keep([Said(sign, -1, fault="no reply")])
+    store.alarms.look()
+    with standing(Smtp) as smtp:
+        smtp.is_curt = True
+        teller = Notices(where, Settings((mail(smtp),)))
+        for _ in range(3):
+            teller.tell(store.database)
+            later(store.database)
+        assert len(smtp.heard) == 1, "whatever the server says, or does not, as the connection ends"
 
 
 @pytest.mark.parametrize("address", ("duty@", "duty@[", "duty <"))

@@ -109,7 +109,8 @@ class Mail:
         if self.user:
             server.login(self.user, self.password)
         server.send_message(made)
-        server.quit()
+        with contextlib.suppress(OSError):  # it has the mail, and would get it again
+            server.quit()
 
 
 @dataclass(frozen=True)
