@@ -37,6 +37,7 @@ class Server(socketserver.ThreadingTCPServer):
     allow_reuse_address = daemon_threads = True
     heard: list[Any]
     answer: Any = None
+    refused = ""  # a word of the addresses of mail that it answers so; of all for none
     is_curt = False  # it closes the connection where a client takes its leave
     folder = pathlib.Path()  # of its certificate
 
@@ -68,7 +69,8 @@ class Smtp(socketserver.StreamRequestHandler):
                 said.append(line.partition(":")[2])
             elif verb == "QUIT" and self.server.is_curt:
                 return
-            self.wfile.write(self.server.answer if verb == "RCPT" and self.server.answer else b"250 well\r\n")
+            is_refused = verb == "RCPT" and self.server.refused in line
+            self.wfile.write(self.server.answer if is_refused and self.server.answer else b"250 well\r\n")
 
 
 class StartTls(Smtp):
@@ -199,6 +201,23 @@ def test_a_mail_that_was_taken_is_told(where: str) -> None:
             teller.tell(store.database)
             later(store.database)
         assert len(smtp.heard) == 1, "whatever the server says, or does not, as the connection ends"
+
+
+def test_who_alone_is_not_told_is_said(where: str, capsys: pytest.CaptureFixture[str]) -> None:
+    store, _, sign = two_stores(where)
+    with standing(Smtp) as smtp:
+        smtp.answer, smtp.refused = b"550 who is that\r\n", "gone@"
+        teller = Notices(where, Settings((replace(mail(smtp), to=("duty@example.org", "gone@example.org")),)))
+        for number in range(1, 4):
+            store.readings.keep([Said(sign, -number, fault=f"no reply {number}")])
+            store.database.run("UPDATE alarm_looks SET at = 0")
+            store.alarms.look()
+            teller.tell(store.database)
+            later(store.database)
+            teller.tell(store.database)
+        assert len(smtp.heard) == 3, "the others are told once"
+    said = capsys.readouterr().err
+    assert said.count("gone@example.org") == 1 and "550" in said and "duty@" not in said
 
 
 @pytest.mark.parametrize("address", ("duty@", "duty@[", "duty <"))

@@ -53,8 +53,9 @@ class Target(Protocol):
     def name(self) -> str:
         ...
 
-    def tell(self, found: list[Alarm]) -> None:
-        """Raises where it was not done: OSError, smtplib.SMTPException, http.client.HTTPException, or else."""
+    def tell(self, found: list[Alarm]) -> str:
+        """Which of many do not know it, and why; empty where none. Raises where it was not done: OSError,
+        smtplib.SMTPException, http.client.HTTPException, or else."""
 
 
 @contextlib.contextmanager
@@ -87,7 +88,7 @@ class Mail:
     name: str = "mail"
     limit: float = _LIMIT
 
-    def tell(self, found: list[Alarm]) -> None:
+    def tell(self, found: list[Alarm]) -> str:
         made = email.message.EmailMessage()
         made["From"], made["To"] = self.sender, ", ".join(self.to)
         made["Subject"] = _line(found[0])[:120] if len(found) == 1 else f"{len(found)} alarms of signs"
@@ -98,19 +99,25 @@ class Mail:
         setattr(server, "_host", self.host)  # whose certificate it has to be: `connect` by itself says nobody's
         try:
             with _limited(lambda: _cut(server), self.limit):
-                self._send(server, context, made)
+                refused = self._send(server, context, made)
         finally:
             server.close()
+        words = {to: f"{code} {' '.join(why.decode(errors='replace').split())}" for to, (code, why) in refused.items()}
+        return ", ".join(f"{to}: {why}" for to, why in sorted(words.items()))
 
-    def _send(self, server: smtplib.SMTP, context: ssl.SSLContext, made: email.message.EmailMessage) -> None:
+    def _send(
+        self, server: smtplib.SMTP, context: ssl.SSLContext, made: email.message.EmailMessage
+    ) -> dict[str, tuple[int, bytes]]:
+        """Hands it to the server: which addresses that one refused, where it took others."""
         server.connect(self.host, self.port)
         if self.security == "starttls":
             server.starttls(context=context)
         if self.user:
             server.login(self.user, self.password)
-        server.send_message(made)
+        refused = server.send_message(made)
         with contextlib.suppress(OSError):  # it has the mail, and would get it again
             server.quit()
+        return refused
 
 
 @dataclass(frozen=True)
@@ -124,7 +131,7 @@ class Webhook:
     def name(self) -> str:
         return f"webhook {hashlib.sha256(self.url.encode()).hexdigest()[:16]}"  # a secret may stand in the address
 
-    def tell(self, found: list[Alarm]) -> None:
+    def tell(self, found: list[Alarm]) -> str:
         parts = urlsplit(self.url)
         kind = http.client.HTTPSConnection if parts.scheme == "https" else http.client.HTTPConnection
         server = kind(parts.hostname or "", parts.port, timeout=_PATIENCE)
@@ -138,6 +145,7 @@ class Webhook:
                 raise http.client.HTTPException(f"it answers with {status}")
         finally:
             server.close()
+        return ""
 
 
 def _cut(server: http.client.HTTPConnection | smtplib.SMTP) -> None:
@@ -260,15 +268,15 @@ class Notices:
             if not found:
                 continue
             try:
-                target.tell(found)
+                left = target.tell(found)
             except Exception as fault:  # also an IndexError, of what is no address: others are told all the same
                 self._say(target.name, str(fault) or type(fault).__name__)
             else:
-                self.faults.pop(target.name, None)
                 alarms.told(database, target.name, found)
+                self._say(target.name, left)
 
     def _say(self, of: str, words: str) -> None:
-        """Says a fault once."""
-        if self.faults.get(of) != words:
+        """Says a fault once; none, where there is none any more."""
+        if words and self.faults.get(of) != words:
             LOG.warning(f"alarms are not told ({of}): {words}")
         self.faults[of] = words
