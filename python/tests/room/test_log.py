@@ -76,6 +76,17 @@ def test_what_went_out_is_what_the_model_sends(octets: bytes) -> None:
     assert [one.sent for one in handed] == twin.sent
 
 
+@pytest.mark.parametrize("changed", [SWAPPED, TEXT.replace(b"communities ", b"communities x")], ids=["order", "words"])
+def test_what_went_out_is_not_told_by_another_description(changed: bytes) -> None:
+    before, now = sign_of(TEXT), sign_of(changed)
+    twin = Twin(before)
+    twin.carry(HELLO, random.Random(1))
+    assert before.digest != now.digest and any(twin.sent)
+    handed = replayed(PROGRAM, now, twin.lines)
+    assert [(one.number, one.line, one.at) for one in handed] == twin.lines
+    assert [one.sent for one in handed if one.sent is not None] == [], "it was not sent so"
+
+
 def test_lines_that_no_centre_begins_sent_nothing() -> None:
     sign = sign_of(TEXT)
     assert replayed(PROGRAM, sign, []) == []

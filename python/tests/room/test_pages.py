@@ -2,6 +2,7 @@
 
 import pathlib
 import re
+from dataclasses import replace
 
 from . import needs
 
@@ -194,6 +195,20 @@ def test_no_community_stands_anywhere(tmp_path: pathlib.Path, where: str) -> Non
         assert WRITER.encode().hex() in held, "lines do hold it"
 
     run(tmp_path, where, act)
+
+
+def test_the_log_of_another_description_tells_nothing_that_was_not_sent(tmp_path: pathlib.Path) -> None:
+    async def act(bench: Bench, visitor: Visitors) -> None:
+        filled(bench)
+        one = await bench.logged_in(visitor, "administrator")
+        path, sign = f"/signs/{bench.one}/log", bench.service.signs[bench.one]
+        before = (await one.get(path))[1]
+        assert "To the sign" in before and "is not told" not in before
+        bench.service.signs[bench.one] = replace(sign, text=sign.text.replace(b"communities ", b"communities x"))
+        after = (await one.get(path))[1]
+        assert "To the sign" not in after and "From the sign" in after and "is not told" in after
+
+    run(tmp_path, str(tmp_path / "database"), act)
 
 
 def test_headers_of_every_answer(tmp_path: pathlib.Path) -> None:

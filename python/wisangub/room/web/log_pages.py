@@ -16,7 +16,7 @@ from wisangub.snmp.mib import Mib
 
 from .faces import Face
 from .record_pages import number_of
-from .replay import Handed, replayed
+from .replay import Handed, head_of, replayed
 from .service import Service, service_of, sign_of
 from .words import Asked, asked
 
@@ -92,6 +92,7 @@ async def log(request: web.Request) -> web.Response:
         "log.html",
         sign=sign,
         entries=list(reversed(said)),
+        is_told=not lines or head_of(service.signs[sign_id], lines) is not None,
         now=now,
         tab="log",
         before=first if first > 1 else None,

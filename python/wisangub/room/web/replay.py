@@ -1,4 +1,5 @@
-"""What a sign's centre sent, from its lines: a centre is decided by them, and the program is handed them again."""
+"""What a sign's centre sent, from its lines: a centre is decided by them, and by the description of its sign, and the
+program is handed them again."""
 
 from dataclasses import dataclass
 
@@ -21,10 +22,17 @@ class Handed:
     sent: bytes | None
 
 
-def replayed(program: str, sign: Sign, lines: list[Line]) -> list[Handed]:
-    """The lines of one centre, the first of which says which one it is, each with what went out for it. Raises Refusal
-    or OSError where the program does not answer."""
+def head_of(sign: Sign, lines: list[Line]) -> Head | None:
+    """Which centre the lines are of; None where the first does not say it, or it went by another description of the
+    sign, or by other rules."""
     head = Head.of(lines[0][1].encode()) if lines else None
+    return None if head is None or head != Head("centre", sign.digest, head.first) else head
+
+
+def replayed(program: str, sign: Sign, lines: list[Line]) -> list[Handed]:
+    """The lines of one centre, each with what went out for it, as far as it is known. Raises Refusal or OSError where
+    the program does not answer."""
+    head = head_of(sign, lines)
     if head is None or head.first is None:
         return [Handed(*line, None) for line in lines]
     answers = [b"", *_answered(program, sign, head.first, [line.encode() for _, line, _ in lines[1:]])]
