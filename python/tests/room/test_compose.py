@@ -2,6 +2,9 @@
 
 import pathlib
 import re
+import socket
+from dataclasses import replace
+from typing import Any
 
 import pytest
 
@@ -11,14 +14,19 @@ needs.modules("aiohttp", "jinja2")
 
 from model import layout, text
 from wisangub.endpoint.lack import spelled
-from wisangub.room.store import history, queries
+from wisangub.room import fleet
+from wisangub.room.store import database, history, queries
+from wisangub.room.web import send
 from wisangub.room.web.compose import marked
 from wisangub.room.web.draft import Draft, joined
 from wisangub.room.web.faces import face_of
 from wisangub.room.web.pictures import drawn
+from wisangub.room.web.service import Service
+from wisangub.room.web.settings import Settings
 from wisangub.room.web.words import asked
 
-from .visits import Bench, Visitor, Visitors, run
+from .bench import PROGRAM
+from .visits import Bench, Visitor, Visitors, entered, run
 
 GOOD = {
     "text": "[fo2]FOG",
@@ -262,3 +270,24 @@ def test_words_of_a_draft() -> None:
         Draft("activate", (1,), memory=3, number=258, priority=9, minutes=5, checksum=0x9A66).line("me", "192.0.2.1")
         == "activate 0005090301029a66c0000201"
     )
+
+
+def test_no_name_is_looked_up_for_a_command(tmp_path: pathlib.Path, monkeypatch: pytest.MonkeyPatch) -> None:
+    looked, at_once = set(), socket.getaddrinfo
+
+    def slow(host: str, *words: Any, **named: Any) -> Any:
+        """A server of names that never answers."""
+        looked.add(host)
+        return at_once(host, *words, **{**named, "flags": socket.AI_NUMERICHOST})
+
+    where = str(tmp_path / "database")
+    database.opened(where).close()
+    signs = fleet.read(entered(tmp_path))
+    service = Service(
+        Settings(where, PROGRAM), [replace(signs[0], host="localhost"), replace(signs[1], host="no.test")]
+    )
+    monkeypatch.setattr(socket, "getaddrinfo", slow)
+    lines = send.lines_of(service, Draft(signs=tuple(service.signs), text="FOG"), "operator")
+    service.close()
+    assert looked == {"127.0.0.1"}, "who blanks many signs waits for no server of names"
+    assert [line.split(" ")[-1] for _, line in lines] == ["127.0.0.1", "0.0.0.0"]

@@ -24,10 +24,14 @@ _NOWHERE = "0.0.0.0"
 _NOTHING = "Nothing of this number was asked for."
 
 
-def _own_address(sign: Sign) -> str:
-    """This machine's address towards a sign, as an activation names it; 0.0.0.0 where it is of IPv6."""
+def _own_address(service: Service, sign: Sign) -> str:
+    """This machine's address towards a sign, as an activation names it; 0.0.0.0 where it is of IPv6, or where it is not
+    known where the sign is. No name is looked up for it: that takes long where no server of names answers."""
+    host = service.addresses.of((sign.host, sign.port)).host
+    if not host:
+        return _NOWHERE
     try:
-        with connected(sign.host, sign.port) as udp_socket:
+        with connected(host, sign.port) as udp_socket:
             return str(udp_socket.getsockname()[0]) if udp_socket.family == socket.AF_INET else _NOWHERE
     except (Refusal, OSError):
         return _NOWHERE
@@ -70,7 +74,7 @@ async def confirmed(request: web.Request) -> Confirmed | web.Response:
 
 def lines_of(service: Service, draft: Draft, owner: str) -> list[tuple[int, str]]:
     """The line of each sign."""
-    return [(sign_id, draft.line(owner, _own_address(service.signs[sign_id]))) for sign_id in draft.signs]
+    return [(sign_id, draft.line(owner, _own_address(service, service.signs[sign_id]))) for sign_id in draft.signs]
 
 
 async def send(request: web.Request) -> web.StreamResponse:

@@ -9,6 +9,7 @@ from aiohttp import web
 from markupsafe import Markup
 
 from wisangub.endpoint.endings import with_step
+from wisangub.room.addresses import Addresses
 from wisangub.room.fleet import Sign
 from wisangub.room.plain import counted, plain_of
 from wisangub.room.store.keys import key_of
@@ -43,6 +44,7 @@ class Service:
         self.by_key = {face.key: face for face in self.faces.values()}
         self.seal = Seal(key_of(held), settings.is_behind_tls)
         self.connections.let_go()
+        self.addresses = Addresses([(sign.host, sign.port) for sign in signs]).wait()
         self.pictures = Pictures(settings.program)
         self.limits = Limits(settings.patience, settings.is_behind_tls)
         self.mib = Mib.read()
@@ -114,6 +116,7 @@ class Service:
 
     def close(self) -> None:
         self.connections.close()
+        self.addresses.close()
 
 
 SERVICE = "service"
