@@ -80,6 +80,18 @@ def test_the_history_is_looked_through(tmp_path: pathlib.Path, where: str) -> No
     run(tmp_path, where, act)
 
 
+def test_the_first_day_of_the_calendar_is_refused_in_words(
+    tmp_path: pathlib.Path, monkeypatch: pytest.MonkeyPatch
+) -> None:
+    async def act(bench: Bench, visitor: Visitors) -> None:
+        monkeypatch.setattr(bench.service.clock, "zone", None)  # the machine's
+        one = await bench.logged_in(visitor, "administrator")
+        for page in ("/history", "/audit", "/history.csv", "/audit.csv"):
+            assert (await one.get(f"{page}?first=0001-01-01"))[0] in (200, 400), page
+
+    run(tmp_path, str(tmp_path / "database"), act)
+
+
 def test_a_page_goes_on_where_it_ended(tmp_path: pathlib.Path, monkeypatch: pytest.MonkeyPatch) -> None:
     monkeypatch.setattr(search, "SLICE", 7)
     monkeypatch.setattr(search, "MOST_SEEN", 60)

@@ -49,7 +49,8 @@ class Asked:
             if word := query.get(key, ""):
                 try:
                     days[key] = datetime.date.fromisoformat(word)
-                    clock.begins(days[key] + _DAY)
+                    for day in (days[key], days[key] + _DAY):
+                        clock.begins(day)
                 except (ValueError, OverflowError, OSError):
                     raise web.HTTPBadRequest(text="A day is written as 2026-11-28.") from None
         who, first, last = query.get("who", ""), days.get("first"), days.get("last")
