@@ -161,6 +161,22 @@ def test_a_row_of_csv_is_no_formula(tmp_path: pathlib.Path, where: str) -> None:
     run(tmp_path, where, act)
 
 
+def test_no_part_of_a_row_of_csv_is_a_formula(tmp_path: pathlib.Path) -> None:
+    """A spreadsheet of a country whose numbers have a comma takes a row apart at semicolons, and at each end of a line,
+    since for it no cell begins with a quote."""
+
+    async def act(bench: Bench, visitor: Visitors) -> None:
+        ask(bench, bench.one, "ICE;=1+1;", BERLIN)
+        ask(bench, bench.one, "A-B;-C\t+D", BERLIN)
+        one = await bench.logged_in(visitor, "administrator")
+        assert [row["text"] for row in await rows(one, "/history.csv")] == ["A-B;'-C\t'+D", "ICE;'=1+1;"]
+        assert (await one.answered("/history.csv?find=x%0A@SUM(A1)%0D-A")).status == 200
+        said = [row["what"] for row in await rows(one, "/audit.csv")]
+        assert "exported the history, find=x\n'@SUM(A1)\r'-A" in said
+
+    run(tmp_path, str(tmp_path / "database"), act)
+
+
 def test_csv_of_more_than_a_slice(tmp_path: pathlib.Path, monkeypatch: pytest.MonkeyPatch) -> None:
     from wisangub.room.web import exports
 

@@ -2,6 +2,7 @@
 
 import csv
 import io
+import re
 import socket
 import struct
 from dataclasses import replace
@@ -23,14 +24,15 @@ from .service import Service, service_of, visitor_of
 
 _COMMANDS = ("number", "asked", "sign", "who", "what", "text", "how", "outcome", "why", "ended")
 _ENTRIES = ("number", "at", "who", "what")
+_FORMULA = re.compile(r"(^|[;\t\r\n])(?=[=+\-@\t\r])")  # where some spreadsheet would see the beginning of one
 _AT_ONCE = struct.pack("ii", 1, 0)  # what waits to go out is thrown away
 _Slice = Callable[[Database, int | None], tuple[list[Sequence[Any]], int | None]]
 
 
 def _cell(value: Any) -> str:
-    """A cell. A word that a spreadsheet would take for a formula has an apostrophe before it."""
-    word = "" if value is None else str(value)
-    return f"'{word}" if word[:1] in ("=", "+", "-", "@", "\t", "\r") else word
+    """A cell. What a spreadsheet would take for a formula has an apostrophe before it, also where that one takes a cell
+    apart at semicolons and at ends of lines."""
+    return "" if value is None else _FORMULA.sub(r"\1'", str(value))
 
 
 def _lines(rows: Sequence[Sequence[Any]]) -> bytes:
