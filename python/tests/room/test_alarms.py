@@ -2,8 +2,9 @@
 
 import json
 import pathlib
+import random
 import time
-from typing import Sequence
+from typing import Callable, Sequence
 
 import pytest
 
@@ -12,15 +13,18 @@ from . import needs
 needs.modules("aiohttp", "jinja2")
 
 from wisangub.room.store import alarms, database, queries
-from wisangub.room.store.alarms import ERROR, FAILED, OTHER, SILENT
+from wisangub.room.store.alarms import ERROR, FAILED, OTHER, SILENT, Alarm
 from wisangub.room.store.connection import Database
 from wisangub.room.store.lines import News
 from wisangub.room.store.messages import RowSaid
 from wisangub.room.store.readings import Said
+from wisangub.room.store.sqlite import Sqlite
 from wisangub.room.store.store import Store
 
 from .bench import HELLO, bench
-from .test_database import BLANK, two_stores
+from .test_database import BLANK
+from .test_database import OTHER as ANOTHER
+from .test_database import SIGN, two_stores
 from .visits import SHOWN, Bench, Visitors, run
 
 CODE = "ffff64" + str(SHOWN["source"]) + str(SHOWN["requester"])  # the activation of what SHOWN says
@@ -101,6 +105,65 @@ def test_rows_in_error_and_commands_that_failed(where: str) -> None:
         }.get(how, f"command {command} {how}")
     store.messages.keep([RowSaid(sign, 3, 2, -3, 4, "{}"), RowSaid(sign, 3, 4, -4, 1, None)])
     assert look(store) == []
+
+
+def put(store: Store, rows: Sequence[tuple[int, str, float | None, str | None]]) -> None:
+    """Alarms of signs and kinds, when each ended, and who has seen it."""
+    with store.database.transaction():
+        store.database.run_all(
+            "INSERT INTO alarms (sign, kind, what, begun, ended, seen_by) VALUES (?, ?, 'x', 1, ?, ?)", list(rows)
+        )
+
+
+def test_the_newest_alarms_are_listed(where: str) -> None:
+    store, chance = Store(database.opened(where)), random.Random(1)
+    signs = list(store.signs.enter([SIGN, ANOTHER]))
+    standing = [(sign, kind, None, chance.choice([None, "me"])) for sign in signs for kind in alarms.KINDS]
+    ended = [(chance.choice(signs), SILENT, 2.0, chance.choice([None, "me"])) for _ in range(60)]
+    rows = chance.sample([*standing, *ended], len(standing) + len(ended))
+    put(store, rows)
+
+    def wanted(of: Sequence[int]) -> list[Alarm]:
+        found = [
+            one
+            for (number,) in store.database.run("SELECT id FROM alarms ORDER BY id DESC")
+            for one in every
+            if one.id == number and one.sign in of and (one.ended is None or one.seen_by is None)
+        ]
+        return sorted(found, key=lambda one: one.seen_by is not None)
+
+    every = [
+        Alarm(
+            number, sign, {signs[0]: SIGN.name, signs[1]: ANOTHER.name}[sign], kind, "x", 1.0, ended_at, seen_by, None
+        )
+        for number, (sign, kind, ended_at, seen_by) in enumerate(rows, 1)
+    ]
+    for most in (3, 25, 200):
+        assert alarms.listed(store.database, most=most) == wanted(signs)[:most]
+        for sign in signs:
+            assert alarms.listed(store.database, sign, most) == wanted([sign])[:most]
+            assert alarms.listed(store.database, None, most, lambda one: one == sign) == wanted([sign])[:most]
+    assert alarms.listed(store.database, may_see=lambda _: False) == []
+
+
+def test_alarms_of_years_that_nobody_has_seen_are_not_all_read(tmp_path: pathlib.Path) -> None:
+    store = Store(database.opened(str(tmp_path / "database")))
+    held = store.database
+    assert isinstance(held, Sqlite)
+    one, two = store.signs.enter([SIGN, ANOTHER])
+    put(store, [(one, SILENT, 2.0, None)] * 30_000 + [(two, SILENT, 2.0, None), (two, SILENT, None, None)])
+    put(store, [(one, SILENT, None, "me"), *[(one, SILENT, 2.0, "me")] * 30_000])
+    done: list[int] = []
+    held.connection.set_progress_handler(lambda: done.append(1), 1000)  # instructions of SQLite
+
+    def few(ask: Callable[[], list[Alarm]], count: int) -> bool:
+        done.clear()
+        return len(ask()) == count and len(done) < 25
+
+    assert few(lambda: alarms.listed(held), 200)
+    assert few(lambda: alarms.listed(held, one), 200) and few(lambda: alarms.listed(held, two), 2)
+    assert few(lambda: alarms.listed(held, may_see=lambda sign: sign == two), 2)
+    assert few(lambda: alarms.to_tell(held, "mail", alarms.KINDS), 1)
 
 
 def test_one_worker_looks_at_a_time(where: str) -> None:

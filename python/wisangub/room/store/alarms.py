@@ -1,5 +1,6 @@
 """The table of alarms: what is wrong with a sign, as its readings, its table, its commands and it itself say."""
 
+import heapq
 from dataclasses import dataclass
 from typing import Callable, Sequence
 
@@ -19,7 +20,6 @@ EVERY = 5.0  # seconds from one look for alarms to the next, of all workers toge
 _CENTRAL = 8  # the mode of what a central system activated
 _MOST_READ = 1000  # signs that are asked for at once
 _MOST_TEXT = 60  # characters of a text that an alarm says
-_OPEN = "(alarms.ended IS NULL OR alarms.seen_by IS NULL)"
 _FOUND = """
 SELECT alarms.id, alarms.sign, signs.name, alarms.kind, alarms.what, alarms.begun, alarms.ended, alarms.seen_by,
        alarms.seen_at
@@ -60,21 +60,27 @@ def listed(
     database: Database, sign: int | None = None, most: int = 200, may_see: Callable[[int], bool] | None = None
 ) -> list[Alarm]:
     """Alarms that stand or that nobody has seen, of one sign, of those that somebody may see, or of all: those that
-    nobody has seen first, the newest first."""
-    where, values = ("", []) if sign is None else (" AND alarms.sign = ?", [sign])
+    nobody has seen first, the newest first. Of however many there are the newest alone are read."""
+    signs: list[int | None] = [sign]
     if may_see is not None:
-        every = [
-            whole(row[0]) for row in database.run(f"SELECT DISTINCT sign FROM alarms WHERE {_OPEN}{where}", *values)
-        ]
-        values = list(filter(may_see, every))
-        where = f" AND alarms.sign IN ({places(values)})" if values else " AND 1 = 0"
-    rows = database.run(
-        f"{_FOUND} WHERE {_OPEN}{where}"
-        " ORDER BY CASE WHEN alarms.seen_by IS NULL THEN 0 ELSE 1 END, alarms.id DESC LIMIT ?",
-        *values,
-        most,
-    )
-    return list(map(_alarm, rows))
+        every = [whole(row[0]) for row in database.run("SELECT id FROM signs")] if sign is None else [sign]
+        signs = [*filter(may_see, every)]
+    unseen = _newest(database, "seen_by IS NULL", "id", signs, most)
+    seen = _newest(database, "ended IS NULL AND seen_by IS NOT NULL", "id + 0", signs, most)  # of the few that stand
+    numbers = [*dict.fromkeys([*unseen, *seen])][:most]
+    rows = database.run(f"{_FOUND} WHERE alarms.id IN ({places(numbers)})", *numbers) if numbers else []
+    found = {one.id: one for one in map(_alarm, rows)}
+    return [found[number] for number in numbers]
+
+
+def _newest(database: Database, which: str, order: str, signs: Sequence[int | None], most: int) -> list[int]:
+    """The numbers of the newest alarms that are so, of each of these signs by its index, or of all for none."""
+    found: list[int] = []
+    for sign in signs:
+        where, values = ("", []) if sign is None else (" AND sign = ?", [sign])
+        sql = f"SELECT id FROM alarms WHERE {which}{where} ORDER BY {order} DESC LIMIT ?"
+        found += [whole(row[0]) for row in database.run(sql, *values, most)]
+    return heapq.nlargest(most, found)
 
 
 def signs_with(database: Database, kind: str) -> set[int]:
@@ -113,9 +119,10 @@ def to_tell(database: Database, target: str, kinds: Sequence[str]) -> list[Alarm
     with database.transaction(is_alone=True):
         rows = database.run(
             f"{_FOUND} LEFT JOIN notices ON notices.alarm = alarms.id AND notices.target = ?"
-            f" WHERE alarms.ended IS NULL AND alarms.seen_by IS NULL AND alarms.kind IN ({places(kinds)})"
+            # `COALESCE`, so that it is by those that stand, of which there are few
+            f" WHERE alarms.ended IS NULL AND COALESCE(alarms.seen_by, '') = '' AND alarms.kind IN ({places(kinds)})"
             " AND (notices.alarm IS NULL OR (notices.told IS NULL AND notices.tries < ?"
-            " AND (notices.next_try <= {clock} OR notices.next_try > {clock} + ?))) ORDER BY alarms.id LIMIT ?",
+            " AND (notices.next_try <= {clock} OR notices.next_try > {clock} + ?))) ORDER BY alarms.id + 0 LIMIT ?",
             target,
             *kinds,
             TRIES,
