@@ -23,6 +23,7 @@ from wisangub.refusal import Refusal
 from wisangub.room.store import database, history, plans, queries, rules
 from wisangub.room.store.database import Database
 from wisangub.room.store.rights import Level
+from wisangub.room.store.sqlite import Sqlite
 from wisangub.room.store.store import Store
 from wisangub.room.store.users import Role
 from wisangub.room.times import Times
@@ -268,6 +269,25 @@ def test_a_schedule_s_plan_is_begun_and_ended_once(where: str) -> None:
     plans.add_schedule(held, number, always(), "me")
     look(store)
     assert len(lines(held)) == 3, "another schedule is another"
+
+
+def test_runs_of_years_are_not_all_read(tmp_path: pathlib.Path) -> None:
+    held = database.opened(str(tmp_path / "database"))
+    assert isinstance(held, Sqlite)
+    with held.transaction():
+        held.run_all("INSERT INTO plans (name) VALUES (?)", [("none",), ("over",), ("on",)])
+        rows = [
+            (plan, f"{plan} {at}", at, None if (plan, at) == (3, 7000) else at)
+            for plan in (2, 3)
+            for at in range(15_000)
+        ]
+        held.run_all(
+            "INSERT INTO plan_runs (plan, occurrence, who, begun, ended, said) VALUES (?, ?, 'me', ?, ?, '')", rows
+        )
+    done: list[int] = []
+    held.connection.set_progress_handler(lambda: done.append(1), 1000)  # instructions of SQLite
+    last = {plan.name: plan.last and (plan.last.begun, plan.is_on) for plan in plans.listed(held)}
+    assert last == {"none": None, "over": (14_999, False), "on": (7000, True)} and len(done) < 10
 
 
 def test_a_schedule_that_was_missed_is_not_begun_late(where: str) -> None:

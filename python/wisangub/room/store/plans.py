@@ -24,7 +24,10 @@ EVERY = 5.0  # seconds from one look for what is due to the next, of all workers
 _ACTIVATION = 7  # the step that may have put a text on a sign, whatever came of it
 _SCHEDULES = "SELECT id, code, plan, author, first_day, last_day, days, begins, ends, zone FROM schedules"
 # of each plan the run that stands, or else the newest
-_LAST = "SELECT coalesce(max(CASE WHEN ended IS NULL THEN id END), max(id)) FROM plan_runs GROUP BY plan"
+_LAST = (
+    "SELECT COALESCE((SELECT id FROM plan_runs WHERE plan = plans.id AND ended IS NULL),"
+    " (SELECT max(id) FROM plan_runs WHERE plan = plans.id)) FROM plans"
+)
 _RUNS = "SELECT id, plan, occurrence, who, begun, until, ended, batch, said FROM plan_runs"
 
 
