@@ -67,19 +67,9 @@ def _copied(source: str, target: pathlib.Path) -> None:
 
 def environment(url: str) -> dict[str, str]:
     """The place of a database of PostgreSQL for its programs: a password stands in no list of processes."""
-    from psycopg.conninfo import conninfo_to_dict
+    from .postgresql import variables_of  # psycopg is needed for it alone
 
-    words = {
-        "host": "PGHOST",
-        "port": "PGPORT",
-        "user": "PGUSER",
-        "password": "PGPASSWORD",
-        "dbname": "PGDATABASE",
-        "sslmode": "PGSSLMODE",
-        "sslrootcert": "PGSSLROOTCERT",
-        "passfile": "PGPASSFILE",
-    }
-    held = {words[name]: str(value) for name, value in conninfo_to_dict(url).items() if name in words}
+    held = variables_of(url)
     if "PGDATABASE" not in held:
         raise Refusal("the database has no name: postgresql://USER@HOST/NAME")
     return {**os.environ, **held}
