@@ -75,6 +75,7 @@ def test_a_restored_database_uses_no_number_again(tmp_path: pathlib.Path, where:
         before = numbers_sent(at)
         told = backup.restore(empty, tmp_path / "copy", "me", None)
         assert "2 commands that had not ended are ended as unknown" in told
+        assert "Users and tokens that were ended since count again" in told, "which somebody has to end once more"
         at.where, at.store = empty, Store(database.opened(empty))
         assert [at.store.commands.how(begun), at.store.commands.how(waiting)] == [RESTORED, advance.NOT_DONE]
         assert at.ended(at.worker(), at.ask(HELLO)) == "accepted"

@@ -8,6 +8,7 @@ how many numbers were used since. Where that is too many, or no clock can be bel
 import datetime
 from dataclasses import dataclass
 
+from wisangub.process.places import called
 from wisangub.refusal import Refusal
 from wisangub.room.fleet import LAST_NUMBER
 from wisangub.room.worker.session import PACE, RESTORED
@@ -56,7 +57,9 @@ class Step:
         return (
             f"The newest entry of this database is of {when}, {self.seconds:.0f} seconds ago.\n"
             f"What happened since is not in it: its ledger lacks the activations of that time, and {self.ended}"
-            " commands that had not ended are ended as unknown. Users log in anew, with the passwords of that time.\n"
+            " commands that had not ended are ended as unknown. Users log in anew, with the passwords of that time."
+            f" Users and tokens that were ended since count again: {called('wisangub-control users')} and"
+            f" {called('wisangub-control tokens')} list them.\n"
             f"Each centre of its {self.signs} signs begins anew, from {numbers},"
             " above all that were used before"
         )
