@@ -14,10 +14,13 @@ from . import needs
 
 needs.modules("aiohttp", "jinja2")
 
+from aiohttp import web
+
 from trials.room.beside import Service
 from wisangub.room.service import Pages
 from wisangub.room.store import passwords
 from wisangub.room.web.limits import Patience
+from wisangub.room.web.service import Service as OfPages
 
 from .bench import HELLO, PROGRAM, bench
 from .visits import Bench
@@ -85,6 +88,31 @@ def asked(port: int, first: bytes, body: bytes = b"", **headers: bytes) -> bytes
     lines = [first + b" HTTP/1.1", b"Host: a", b"Connection: close", b"Content-Length: %d" % len(body)]
     lines += [name.replace("_", "-").encode() + b": " + value for name, value in headers.items()]
     return said(port, b"\r\n".join([*lines, b"", body]))
+
+
+LONG = 10_000_000  # octets of a page, more than two machines keep between a program and another
+
+
+def test_a_page_that_comes_slowly_comes_whole(tmp_path: pathlib.Path, monkeypatch: pytest.MonkeyPatch) -> None:
+    monkeypatch.setattr(passwords, "COST", 2**4)
+    with pages(tmp_path / "slow", patience=Patience(head=LATE, idle=2.0)) as standing:
+        monkeypatch.setattr(OfPages, "page", lambda *_, **__: web.Response(body=bytes(LONG)))
+        with socket.socket() as connection:
+            connection.setsockopt(socket.SOL_SOCKET, socket.SO_RCVBUF, 65536)
+            connection.settimeout(LATE)
+            connection.connect(("127.0.0.1", standing.port))
+            connection.sendall(HEAD + b"Connection: close\r\n\r\n")
+            size = 0
+            while more := connection.recv(100_000):
+                size += len(more)
+                time.sleep(0.05)
+        assert size > LONG, "all of it, though it took longer than a connection waits for its next request"
+        begun = time.monotonic()
+        with socket.create_connection(("127.0.0.1", standing.port), LATE) as connection:
+            connection.sendall(HEAD + b"\r\n")
+            while standing.service.limits.standing and time.monotonic() - begun < LATE:
+                time.sleep(0.1)
+        assert not standing.service.limits.standing, "who takes nothing of it keeps no connection"
 
 
 def test_what_is_no_text_is_refused_and_told_nowhere(

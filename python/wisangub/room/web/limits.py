@@ -2,10 +2,12 @@
 
 A connection waits where no request of it is under way: as it begins, until the head of its request has come, and
 between two requests. It waits for a while and no longer, and where there are too many connections the one that waited
-longest gives way to a new one. So who opens connections and says nothing, or says it slowly, takes nobody's place.
+longest gives way to a new one. So who opens connections and says nothing, or says it slowly, takes nobody's place. One
+that still takes an answer is not given up for that, as long as it takes more of it.
 """
 
 import asyncio
+import math
 from collections import Counter
 from dataclasses import dataclass, field
 from typing import Callable
@@ -122,7 +124,18 @@ class Limits:
     def _wait(self, one: Connection, seconds: float) -> None:
         self._end_wait(one)
         self.waiting[one] = None
-        one.timer = asyncio.get_running_loop().call_later(seconds, self._give_up, one)
+        self._look_later(one, seconds, math.inf)
+
+    def _look_later(self, one: Connection, seconds: float, left: float) -> None:
+        one.timer = asyncio.get_running_loop().call_later(seconds, self._look, one, seconds, left)
+
+    def _look(self, one: Connection, seconds: float, before: float) -> None:
+        """Gives up who has waited so long, unless he has taken some of an answer of which so many octets were left."""
+        left = 0 if one.transport is None else one.transport.get_write_buffer_size()
+        if 0 < left < before:
+            self._look_later(one, seconds, left)
+        else:
+            self._give_up(one)
 
     def _end_wait(self, one: Connection) -> None:
         self.waiting.pop(one, None)
