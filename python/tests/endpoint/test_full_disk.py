@@ -1,12 +1,14 @@
 """A disk that is full, or can only be read, at a start and while a front end runs."""
 
 import argparse
+import contextlib
 import errno
 import fcntl
 import os
 import pathlib
+import signal
 import tempfile
-from typing import Any
+from typing import Any, Iterator
 from unittest import mock
 
 from wisangub.endpoint.clock import Moment
@@ -16,6 +18,7 @@ from wisangub.endpoint.keeper import Keeper
 from wisangub.endpoint.log import LEAST_LEFT, Log
 from wisangub.endpoint.records import whole
 from wisangub.output import LOG
+from wisangub.refusal import Refusal
 
 from . import with_centres, with_objects
 from .form1 import older
@@ -44,6 +47,22 @@ class Disk:
 
     def patches(self) -> Any:
         return mock.patch.multiple("os", write=self.writes, open=self.opens)
+
+
+@contextlib.contextmanager
+def ends_in_time(seconds: int = 5) -> Iterator[None]:
+    """Raises TimeoutError where what is within goes on for longer."""
+
+    def late(*_: Any) -> None:
+        raise TimeoutError
+
+    before = signal.signal(signal.SIGALRM, late)
+    signal.alarm(seconds)
+    try:
+        yield
+    finally:
+        signal.alarm(0)
+        signal.signal(signal.SIGALRM, before)
 
 
 def lines_of(journal: Journal) -> list[bytes]:
@@ -112,6 +131,26 @@ def test_a_file_that_another_hand_changed_meanwhile_is_not_written_to() -> None:
                 found = str(refused)
         journal.close()
         assert "another hand" in found
+
+
+def test_a_torn_file_that_another_hand_changed_while_the_disk_was_full_is_not_cut() -> None:
+    for changed in (b"", b"datagram 30 #5 5 00000000 and more"):
+        with tempfile.TemporaryDirectory() as folder:
+            path = pathlib.Path(folder, "journal")
+            path.write_bytes(made(str(path)) + b"datagram 30")
+            disk = Disk(errno.ENOSPC)
+            with disk.patches():
+                journal = Journal.opened(str(path), HEAD, is_patient=True)
+                path.write_bytes(changed)  # as of who makes room on the disk
+                disk.is_full = False
+                try:
+                    with ends_in_time():
+                        journal.keep([b"tick"])
+                    found = ""
+                except Refusal as refused:
+                    found = str(refused)
+            journal.close()
+            assert "another hand" in found and path.read_bytes() == changed
 
 
 def test_each_minute_it_is_said_what_the_next_start_will_not_know() -> None:

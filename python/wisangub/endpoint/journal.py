@@ -131,6 +131,8 @@ class Journal:
         """What is to be done with the file before the next record."""
         if not self.is_written:
             self.open_again()
+        if self.found and not stands(self.file, self.place, self.found.length):
+            raise Refusal(f"{self.path}: another hand moved or changed it meanwhile", 1)
         own(self.file, self.path)
         if self.found is None:
             self.begin()
