@@ -1,6 +1,7 @@
 """The sign that watches a central system."""
 
 import contextlib
+import errno
 import json
 import pathlib
 import signal
@@ -9,7 +10,7 @@ import subprocess
 import sys
 import tempfile
 from dataclasses import replace
-from typing import Iterator
+from typing import Any, Iterator
 
 from model import text
 from model.centre import Centre
@@ -17,13 +18,14 @@ from trials.wrong_signs.bench import ModelJudge, ModelOracle
 from wisangub.process.places import TOP
 from wisangub.snmp import wire
 from wisangub.snmp.names import Memory, RowStatus, scalar
-from wisangub.tester.centre.program import Report
+from wisangub.tester.centre.program import Report, serve
 from wisangub.tester.centre.watch import Habit, Watch
 from wisangub.tester.context import ADDRESS, Context, activate
 from wisangub.tester.findings.results import Verdict
 from wisangub.tester.requests.messages import spelled
 from wisangub.tester.requests.objects import Column, Row, instance, integer
 from wisangub.tester.requests.steps import Ask, get, get_next, put
+from wisangub.tester.sign.clock import RealClock
 from wisangub.tester.sign.described import described
 
 from .endpoints import LONG, in_real_time
@@ -252,6 +254,25 @@ def test_it_answers_on_a_port_and_tells_at_its_end() -> None:
                 assert udp_socket.recv(2000)
             status, said = ended(sign)
             assert status == 1 and "used again for another request: 1" in said, said
+
+
+class NoWayBack(socket.socket):
+    """A socket that sends nothing, for a reason of the system: to port 0, or to all hosts, as a forged sender has."""
+
+    def sendto(self, *_: Any) -> int:
+        raise OSError(errno.EINVAL, "Invalid argument")
+
+
+def test_a_sender_to_whom_nothing_can_be_sent_ends_nothing() -> None:
+    watch = Watch(b"public")
+    with NoWayBack(socket.AF_INET, socket.SOCK_DGRAM) as here, socket.socket(
+        socket.AF_INET, socket.SOCK_DGRAM
+    ) as there:
+        here.bind(("127.0.0.1", 0))
+        for number in (1, 2):
+            there.sendto(get(scalar("defaultPageOnTime")).octets(number, CONTEXT.communities), here.getsockname())
+        serve(here, ModelOracle(text.BENCH), RealClock(), watch, 1.0)
+    assert watch.requests == 2
 
 
 def test_a_wrong_command_is_a_word() -> None:

@@ -28,7 +28,6 @@ from wisangub.tester.requests.objects import Column, Row
 from wisangub.tester.requests.steps import get
 from wisangub.tester.sign.clock import Clock, RealClock
 from wisangub.tester.sign.described import Bad, cause, described
-from wisangub.tester.sign.link import unheard
 from wisangub.tester.sign.oracle import made
 from wisangub.whole import WholeFile
 
@@ -78,7 +77,7 @@ def serve(
             reply = sign.datagram(octets)
             watch.heard(clock.now() - begun, octets, reply)
             if reply is not None:
-                with unheard():
+                with contextlib.suppress(OSError):  # nobody hears it, as where a sender is forged
                     udp_socket.sendto(reply, sender)
 
 
