@@ -196,6 +196,17 @@ def test_junit_has_a_case_a_difference_and_skips_what_was_not_asked_for() -> Non
     assert [held.get("value") for held in suite[0].iter("property")] == [words.head(ABOUT)]
 
 
+def test_junit_passes_no_chapter_that_was_judged_in_part() -> None:
+    results, _ = found("minutes_are_rounded_down", "get", "durations")
+    held = results.chapters[0]
+    held.blocks -= 3  # as where the sign fell silent
+    suite = ET.fromstring(files.as_junit(results, ABOUT))
+    said = {case.get("name"): case.find("skipped") for case in suite.iter("testcase")}
+    case = said[held.chapter.name]
+    assert case is not None and case.get("message") == f"3 of {held.wanted} cases were not judged"
+    assert suite.get("skipped") == str(sum(one is not None for one in said.values()))
+
+
 def test_a_description_of_another_sign_ends_the_test_unless_it_goes_on_anyway() -> None:
     for is_anyway in (False, True):
         wider = text.BENCH.replace(b"size 23 14", b"size 24 14")

@@ -163,8 +163,8 @@ def as_junit(results: Results, about: About) -> str:
 
 
 def _chapter_cases(suite: ET.Element, name: str, results: Results, about: About) -> None:
-    """The test cases of a chapter: its differences, or that it shows none or was not asked for. Its seconds stand at
-    the first."""
+    """The test cases of a chapter: its differences, or that it shows none, was not asked for or not judged to its end.
+    Its seconds stand at the first."""
     held = next((chapter for chapter in results.chapters if chapter.chapter.name == name), None)
     seconds = f"{held.seconds if held is not None else 0:.3f}"
     differences = [difference for difference in results.differences() if difference.rule.chapter == name]
@@ -185,6 +185,8 @@ def _chapter_cases(suite: ET.Element, name: str, results: Results, about: About)
         case = ET.SubElement(suite, "testcase", classname=f"conform.{name}", name=name, time=seconds)
         if held is None and name != "before":
             ET.SubElement(case, "skipped", message="not asked for, or not come to")
+        elif held is not None and held.missing:
+            ET.SubElement(case, "skipped", message=f"{held.missing} of {held.wanted} cases were not judged")
 
 
 def _printable(text: str) -> str:
