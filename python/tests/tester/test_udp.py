@@ -192,6 +192,29 @@ def test_a_network_that_is_gone_for_a_while_is_no_answer() -> None:
                 assert fault.errno == number == errno.EIO
 
 
+class Flood:
+    """A socket at which something waits at any time."""
+
+    def __init__(self, is_readable: int) -> None:
+        self.file = is_readable
+
+    def fileno(self) -> int:
+        return self.file
+
+    def recv(self, _: int) -> bytes:
+        return b"more"
+
+
+def test_who_floods_holds_no_wait_up() -> None:
+    link, (here, there) = UdpLink("127.0.0.1", free_port(), RealClock()), socket.socketpair()
+    with link.socket, here, there:
+        there.send(b"more")
+        link.socket = Flood(here.fileno())  # type: ignore[assignment]
+        for _ in range(2):  # each wait takes what lies there, and ends
+            count = sum(1 for _ in range(10**5) if link.receive(link.clock.now() - 1) is not None)
+            assert 1000 <= count < 10**5
+
+
 class OtherPort(threading.Thread):
     """Repeats what comes to one port from another one."""
 

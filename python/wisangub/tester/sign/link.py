@@ -11,6 +11,7 @@ from wisangub.refusal import Refusal
 from .clock import Clock
 
 _MOST_RECEIVED = 65_535
+_MOST_BEHIND = 10_000  # datagrams that lay there already when the time was over; more than a socket has room for
 # of a datagram that nobody hears, or of one before it: no port, no way there, no network, a firewall, no room, too long
 _UNHEARD = frozenset(
     (
@@ -59,7 +60,7 @@ class UdpLink:
             raise Refusal(f"{host}: {fault.strerror}") from None
         self.socket = socket.socket(family, kind, protocol)
         self.socket.connect(address)
-        self.clock = clock
+        self.clock, self._behind = clock, 0
 
     def addresses(self) -> tuple[tuple[str, int], tuple[str, int]]:
         """Where datagrams go out, and where they go to."""
@@ -74,7 +75,9 @@ class UdpLink:
     def receive(self, until: float) -> bytes | None:
         while True:
             left = max(0.0, until - self.clock.now())
-            if not select.select([self.socket], [], [], left)[0]:
+            self._behind = 0 if left else self._behind + 1
+            if self._behind > _MOST_BEHIND or not select.select([self.socket], [], [], left)[0]:
+                self._behind = 0
                 return None
             with unheard():
                 return self.socket.recv(_MOST_RECEIVED)
