@@ -176,7 +176,7 @@ class Unheard(socket.socket):
 
 
 def test_a_network_that_is_gone_for_a_while_is_no_answer() -> None:
-    for number in (errno.ENETUNREACH, errno.EHOSTUNREACH, errno.ECONNREFUSED, errno.EPERM, errno.EIO):
+    for number in (errno.ENETUNREACH, errno.EHOSTUNREACH, errno.ECONNREFUSED, errno.EPERM, errno.EACCES, errno.EIO):
         link = UdpLink("127.0.0.1", free_port(), RealClock())
         with link.socket, Unheard(socket.AF_INET, socket.SOCK_DGRAM) as broken:
             broken.bind(("127.0.0.1", 0))

@@ -21,6 +21,7 @@ _UNHEARD = frozenset(
         errno.ENETUNREACH,
         errno.ENETDOWN,
         errno.EPERM,
+        errno.EACCES,
         errno.ENOBUFS,
         errno.EMSGSIZE,
     )
