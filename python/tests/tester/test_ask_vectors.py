@@ -1,12 +1,17 @@
 """wisangub-conform vectors at a port that is silent, and at one that answers wrongly."""
 
+import contextlib
+import json
 import pathlib
 import socket
 import subprocess
 import sys
 import tempfile
 import threading
+import time
 import xml.etree.ElementTree as ET
+
+from wisangub.process.places import TOP
 
 CALL = [sys.executable, "-m", "wisangub.tester", "vectors"]
 
@@ -111,6 +116,27 @@ def test_a_stranger_that_goes_on_sending_gives_a_silent_sign_no_more_time() -> N
         over.set()
         thread.join(20)
     assert ended.returncode == 2 and "3 requests one after the other without a reply: stopped" in ended.stderr
+
+
+def test_replies_that_come_twice_are_none_to_what_is_asked_next() -> None:
+    lines = (TOP / "vectors/requests.jsonl").read_text(encoding="ascii").splitlines()
+    cases = [case for case in map(json.loads, lines) if not case["changes"]]
+    replies = {case["request"]: case["reply"] for case in cases}
+    with socket.socket(socket.AF_INET, socket.SOCK_DGRAM) as udp_socket:
+        udp_socket.bind(("127.0.0.1", 0))
+        udp_socket.settimeout(20)
+
+        def answer() -> None:
+            with contextlib.suppress(OSError):
+                while octets := udp_socket.recvfrom(2048):
+                    reply = replies[octets[0].hex()]
+                    for _ in range(2 if reply else 0):
+                        udp_socket.sendto(bytes.fromhex(reply), octets[1])
+                        time.sleep(0.01)
+
+        threading.Thread(target=answer, daemon=True).start()
+        ended = asked(udp_socket.getsockname()[1])
+    assert ended.returncode == 0 and f"{len(cases)} passed, 0 failed" in ended.stdout, ended
 
 
 def test_refuses_what_is_no_address() -> None:

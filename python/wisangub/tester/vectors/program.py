@@ -39,33 +39,48 @@ def _cases(path: pathlib.Path) -> list[dict[str, Any]]:
     return [json.loads(line) for line in path.read_text(encoding="ascii").splitlines()]
 
 
-def _asked(udp_socket: socket.socket, to: tuple[str, int], request: str) -> str | None:
-    """The reply to a request, in hexadecimal digits; None where none comes. Of what comes from elsewhere, which is not
-    taken, the first is said; it gives the sign no more time."""
+def _listened(udp_socket: socket.socket) -> None:
+    """For as long as a reply may take, what comes is let go."""
+    until = time.monotonic() + (udp_socket.gettimeout() or 0)
+    with contextlib.suppress(TimeoutError):
+        while time.monotonic() < until:
+            udp_socket.recvfrom(65535)
+
+
+def _asked(udp_socket: socket.socket, to: tuple[str, int], request: str, earlier: set[str]) -> str | None:
+    """The reply to a request, in hexadecimal digits; None where none comes. One of earlier requests may come late or
+    twice: it is taken where no other comes. Of what comes from elsewhere, which is not taken, the first is said.
+    Neither gives the sign more time."""
     udp_socket.sendto(bytes.fromhex(request), to)
-    begun, told = time.monotonic(), False
+    begun, told, late = time.monotonic(), False, None
     try:
         while True:
             octets, sender = udp_socket.recvfrom(65535)
-            if sender == to:
+            if sender == to and octets.hex() not in earlier:
                 return octets.hex()
-            if not told:
+            if sender == to:
+                late = octets.hex()
+            elif not told:
                 where = f"{sender[0]}:{sender[1]}"
                 print(f"a reply came from {where}; is the sign behind an address translation?", file=sys.stderr)
                 told = True
             if time.monotonic() - begun > (udp_socket.gettimeout() or 0):
-                return None
+                return late
     except (TimeoutError, ConnectionRefusedError):
-        return None
+        return late
 
 
 def _compare(
     udp_socket: socket.socket, to: tuple[str, int], wanted: list[dict[str, Any]]
 ) -> tuple[list[junit.Case], bool]:
     """What came of each request; the last is whether the sign is silent, so that the rest was not asked."""
-    tried, silent = [], 0
+    tried, silent, earlier = [], 0, set[str]()
     for case in wanted:
-        reply = _asked(udp_socket, to, case["request"])
+        if case["reply"] is None:
+            _listened(udp_socket)  # an answer to what is to be dropped may be like that to an earlier request
+        own = {case["reply"]} if case["reply"] else set[str]()
+        reply = _asked(udp_socket, to, case["request"], earlier - own if own else own)
+        earlier |= own
         fault = "" if reply == case["reply"] else f"replied {reply}, wanted {case['reply']}"
         tried.append(junit.Case("requests", case["name"], fault))
         if fault:
