@@ -139,6 +139,13 @@ def test_replies_that_come_twice_are_none_to_what_is_asked_next() -> None:
     assert ended.returncode == 0 and f"{len(cases)} passed, 0 failed" in ended.stdout, ended
 
 
+def test_a_network_that_is_not_there_is_no_difference() -> None:
+    ended = subprocess.run(
+        [*CALL, "--to", "255.255.255.255:161"], capture_output=True, text=True, timeout=60, check=False
+    )
+    assert ended.returncode == 2 and "Traceback" not in ended.stderr, ended
+
+
 def test_refuses_what_is_no_address() -> None:
     table = [
         (["--to", "nobody"], "--to wants HOST:PORT"),

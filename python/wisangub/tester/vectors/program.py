@@ -117,9 +117,12 @@ def main() -> int:
         report = WholeFile(options.junit) if options.junit else None
     every = _cases(TOP / "vectors/requests.jsonl")
     wanted = [case for case in every if not case["changes"]]
-    with socket.socket(socket.AF_INET, socket.SOCK_DGRAM) as udp_socket:
-        udp_socket.settimeout(options.wait)
-        tried, is_silent = _compare(udp_socket, to, wanted)
+    try:
+        with socket.socket(socket.AF_INET, socket.SOCK_DGRAM) as udp_socket:
+            udp_socket.settimeout(options.wait)
+            tried, is_silent = _compare(udp_socket, to, wanted)
+    except OSError as fault:  # no way there, say
+        raise Refusal(f"{options.to}: {reason(fault)}") from None
     if report is not None:
         with _written():
             report.write(junit.text("vectors", tried))
