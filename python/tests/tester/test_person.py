@@ -3,6 +3,7 @@
 import io
 import json
 import xml.etree.ElementTree as ET
+from unittest import mock
 
 from model import text
 from model.sign import Sign
@@ -13,6 +14,8 @@ from wisangub.tester.person.answers import Answer, Reader
 from wisangub.tester.person.showings import showings
 from wisangub.tester.report import files, page, terminal, words
 from wisangub.tester.session import chapters_of
+from wisangub.tester.sign.clock import Clock
+from wisangub.tester.sign.link import Link
 
 ABOUT = words.About("127.0.0.1:1", "bench.sign", "model", None, 1, 0, False, "today")
 
@@ -74,6 +77,34 @@ def test_a_sign_that_takes_a_short_loss_for_a_long_one_differs() -> None:
     said = results.denied()
     assert results.verdict() is Verdict.DIFFERS and [held.name for held in said] == ["a short loss of power"]
     assert "expected:" in said[0].remark and results.way is not None and not results.way.reboots
+
+
+class Booting:
+    """A way to a sign that answers nothing for so many seconds after its power is back."""
+
+    def __init__(self, link: Link, clock: Clock, seconds: float) -> None:
+        self.link, self.clock, self.seconds, self.until = link, clock, seconds, 0.0
+        self.receive, self.close = link.receive, link.close
+
+    def send(self, octets: bytes) -> None:
+        if self.clock.now() >= self.until:
+            self.link.send(octets)
+
+
+def test_a_sign_that_takes_a_while_after_a_loss_of_power_loses_nothing_on_its_way() -> None:
+    sign = Sign(text.described(text.BENCH))
+    session = bench.session(text.BENCH, sign, requests=0)
+    port, person = session.pair.port, Person(sign)
+    port.link = way = Booting(port.link, session.pair.clock, 50.0)
+
+    def is_done(what: str) -> bool:
+        way.until = way.clock.now() + way.seconds
+        return Person.is_done(person, what)
+
+    session.person = person
+    with mock.patch.object(person, "is_done", is_done):
+        results = session.run(chapters_of(("communities",), False))
+    assert results.verdict() is Verdict.CONFORMS, results.unjudged()
 
 
 def test_what_is_not_answered_is_not_judged() -> None:

@@ -8,7 +8,7 @@ from wisangub.tester.chapters.block import look, message
 from wisangub.tester.context import Context, activate
 from wisangub.tester.findings.compare import value_words
 from wisangub.tester.requests.objects import Row, integer, octets, spoken
-from wisangub.tester.requests.steps import Step, put
+from wisangub.tester.requests.steps import Step, get, put
 from wisangub.tester.runs.runner import Runner
 from wisangub.tester.sign.pair import Inconclusive
 from wisangub.tester.state.known_state import Unreachable
@@ -18,7 +18,7 @@ from .answers import Answer, Answered, Person
 from .showings import Showing, showings
 
 SECONDS = 20  # that the power is to be off
-_MOST_ASKED = 40  # times that a sign without a reply is asked after its power is on
+_MOST_ASKED = 120  # times that a sign without a reply is asked after its power is on
 _BLANK = 5  # the blank message that is shown after a long loss
 _LOSSES = {"a short loss of power": 65535, "a long loss of power": 0}  # and dmsShortPowerLossTime
 _TIME = scalar("dmsShortPowerLossTime")
@@ -98,12 +98,14 @@ class Acceptance:
         ]
 
     def _is_on(self) -> bool:
-        """Whether the sign answers again; it was silent for a reason."""
-        way = self.runner.pair.port.way
-        longest = way.longest
+        """Whether the sign answers again. It was silent for a reason, and nothing of that was lost on the way."""
+        pair, way = self.runner.pair, self.runner.pair.port.way
+        longest, height = way.longest, get(scalar("vmsSignHeightPixels"))
         for _ in range(_MOST_ASKED):
             way.begin_anew()
-            if self.runner.reset.ask_height() is not None:
+            number = pair.port.new_number()
+            octets = height.octets(number, pair.communities)
+            if pair.port.ask_once(octets, number, is_counted=False).reply is not None:
                 way.longest = longest
                 return True
         return False
