@@ -99,6 +99,12 @@ def test_each_report_says_what_was_lost_on_the_way() -> None:
     assert "the longest silence was" in files.as_junit(tried(("communities",), slow=1.2, wait=1.0), ABOUT)
 
 
+def test_nothing_conforms_in_no_case() -> None:
+    results = tried(("device",))  # what is claimed beside the profile: nothing
+    assert results.verdict() is Verdict.NOT_JUDGED and results.verdict().status == 3, words.verdict(results)
+    assert words.verdict(results).endswith("and no case was asked for")
+
+
 def test_another_size_differs() -> None:
     results = tried(("communities",), description=WIDER)
     assert results.verdict() is Verdict.DIFFERS and results.configuration

@@ -129,6 +129,8 @@ class Results:
         found = ["the test had not come to its end when this was written"] if self.is_going_on else []
         found += [f"the test was stopped: {self.stopped}"] if self.stopped else []
         found += [line for chapter in self.asked if (line := self._unjudged_of(chapter))]
+        if not found and not any(held.wanted for held in self.chapters) and not self.person:
+            found.append("no case was asked for")
         if self.person is not None and (line := self._unanswered(self.person)):
             found.append(line)
         if not self.is_learnt:
