@@ -87,6 +87,18 @@ def test_a_right_sign_conforms_in_two_parts() -> None:
     assert first.verdict() is Verdict.NOT_JUDGED and results.verdict() is Verdict.CONFORMS, results.unjudged()
 
 
+def test_texts_that_were_judged_before_are_not_told_as_not_tested() -> None:
+    with tempfile.TemporaryDirectory() as folder:
+        path = pathlib.Path(folder) / "report.json"
+        chapters = chapters_of(("set", "priorities"), False)[::-1]  # the first of them carries texts
+        first = session(Sign(text.bench()), Interrupting()).run(chapters)
+        path.write_text(files.as_json(first, ABOUT, []), encoding="utf-8")
+        made = session(Sign(text.bench()), Interrupting(False))
+        Earlier.read(path, ABOUT, COMMUNITIES).put_into(made.results, made.pair.port.way)
+        results = made.run(chapters)
+    assert first.stopped and first.texts and results.texts == first.texts, results.texts
+
+
 def test_what_was_read_first_is_put_back_by_the_test_that_goes_on() -> None:
     with tempfile.TemporaryDirectory() as folder:
         path, sign = pathlib.Path(folder) / "report.json", Sign(text.bench())

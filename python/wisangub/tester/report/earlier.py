@@ -34,6 +34,7 @@ class Earlier:
     first: dict[Name, Value]  # the sign's own settings, where it could not be brought back to them
     counts: dict[str, Any]
     cases: list[Case]
+    texts: set[bytes]  # that were judged
 
     @staticmethod
     def read(path: pathlib.Path, about: About, communities: tuple[bytes, bytes]) -> "Earlier":
@@ -57,6 +58,7 @@ class Earlier:
         results.emptied += self.emptied
         results.first = self.first
         results.trace.cases += self.cases
+        results.texts |= self.texts
 
     def words(self) -> str:
         """What is taken up, in a line."""
@@ -80,7 +82,9 @@ def _earlier(held: dict[str, Any], communities: tuple[bytes, bytes]) -> Earlier:
     message = None if held["is_set_back"] else spelled(bytes.fromhex(held["first"]))
     first = {} if message is None else dict(message.bindings)
     cases = [Case(**case) for case in held["cases"] if case["chapter"] in by_name]
-    return Earlier(held["taken_up"] or held["when"], chapters, before, emptied, first, held["way_counts"], cases)
+    texts = {bytes.fromhex(digits) for digits in held["texts"].get("judged", ())}  # no word of earlier
+    when = held["taken_up"] or held["when"]
+    return Earlier(when, chapters, before, emptied, first, held["way_counts"], cases, texts)
 
 
 def _chapter(held: dict[str, Any]) -> ChapterResult:

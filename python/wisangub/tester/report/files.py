@@ -55,7 +55,11 @@ def as_json(results: Results, about: About, not_tested: list[str]) -> str:
             {"step": held.name, "answer": held.answer.value, "remark": held.remark} for held in results.person or ()
         ],
         "load": [vars(rate) for rate in results.load.done] if results.load is not None else None,
-        "texts": {"sent": len(results.texts), "known": results.texts_known},
+        "texts": {
+            "sent": len(results.texts),
+            "known": results.texts_known,
+            "judged": sorted(held.hex() for held in results.texts),
+        },
         "requirements": [_requirement(held) for held in results.trace.requirements()],
         "cases": [vars(case) for case in results.trace.cases],
         "taken_up": results.taken_up,
