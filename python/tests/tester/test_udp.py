@@ -13,6 +13,7 @@ import threading
 import time
 import xml.etree.ElementTree as ET
 from typing import Any
+from unittest import mock
 
 from model import text
 from trials.lossy_ways import Way
@@ -213,6 +214,17 @@ def test_who_floods_holds_no_wait_up() -> None:
         for _ in range(2):  # each wait takes what lies there, and ends
             count = sum(1 for _ in range(10**5) if link.receive(link.clock.now() - 1) is not None)
             assert 1000 <= count < 10**5
+
+
+def test_a_name_of_both_families_is_ipv4_as_for_the_front_ends() -> None:
+    both = [
+        (socket.AF_INET6, socket.SOCK_DGRAM, 0, "", ("::1", 1161, 0, 0)),
+        (socket.AF_INET, socket.SOCK_DGRAM, 0, "", ("127.0.0.1", 1161)),
+    ]
+    with mock.patch("socket.getaddrinfo", return_value=both):
+        link = UdpLink("localhost", 1161, RealClock())
+    assert link.addresses()[1] == ("127.0.0.1", 1161)
+    link.close()
 
 
 class OtherPort(threading.Thread):

@@ -52,13 +52,15 @@ def unheard() -> Iterator[None]:
 
 
 class UdpLink:
-    """A UDP socket that hears one address alone. Raises Refusal where there is no such host."""
+    """A UDP socket that hears one address alone, of IPv4 where a name has both. Raises Refusal where there is no such
+    host."""
 
     def __init__(self, host: str, port: int, clock: Clock) -> None:
         try:
-            family, kind, protocol, _, address = socket.getaddrinfo(host, port, type=socket.SOCK_DGRAM)[0]
+            found = socket.getaddrinfo(host, port, type=socket.SOCK_DGRAM)
         except socket.gaierror as fault:
             raise Refusal(f"{host}: {fault.strerror}") from None
+        family, kind, protocol, _, address = min(found, key=lambda one: one[0] != socket.AF_INET)
         self.socket = socket.socket(family, kind, protocol)
         self.socket.connect(address)
         self.clock, self._behind = clock, 0
