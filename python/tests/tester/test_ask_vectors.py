@@ -151,6 +151,7 @@ def test_refuses_what_is_no_address() -> None:
         (["--to", "nobody"], "--to wants HOST:PORT"),
         (["--to", "127.0.0.1:65536"], "--to wants HOST:PORT"),
         (["--to", "no.such.host.invalid:161"], "no.such.host.invalid: "),
+        (["--to", "no..host:161"], "no..host: no such host"),
         (["--wait", "0"], "--wait: a number above 0"),
     ]
     for words, said in table:

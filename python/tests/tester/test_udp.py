@@ -78,6 +78,7 @@ def test_a_wrong_command_is_a_word() -> None:
             (["--only", "nothing"], b"--only"),
             (["--repeat", ""], b"a sequence is octets"),
             (["--to", "no.such.host.invalid:161"], b"no.such.host.invalid"),
+            (["--to", "no..host:161"], b"no..host: no such host"),
             (["--to", "127.0.0.1"], b"--to wants HOST:PORT"),
             (["--to", "127.0.0.1:65536"], b"--to wants HOST:PORT"),
             *[

@@ -58,8 +58,8 @@ class UdpLink:
     def __init__(self, host: str, port: int, clock: Clock) -> None:
         try:
             found = socket.getaddrinfo(host, port, type=socket.SOCK_DGRAM)
-        except socket.gaierror as fault:
-            raise Refusal(f"{host}: {fault.strerror}") from None
+        except (OSError, UnicodeError) as fault:
+            raise Refusal(f"{host}: {getattr(fault, 'strerror', None) or 'no such host'}") from None
         family, kind, protocol, _, address = min(found, key=lambda one: one[0] != socket.AF_INET)
         self.socket = socket.socket(family, kind, protocol)
         self.socket.connect(address)

@@ -96,8 +96,8 @@ def _resolved(host: str, port: int) -> tuple[str, int]:
     """The address of a host. Raises Refusal where there is none."""
     try:
         return socket.gethostbyname(host), port
-    except OSError as fault:
-        raise Refusal(f"{host}: {fault.strerror}") from None
+    except (OSError, UnicodeError) as fault:
+        raise Refusal(f"{host}: {getattr(fault, 'strerror', None) or 'no such host'}") from None
 
 
 def main() -> int:
