@@ -15,7 +15,7 @@ import os
 import pathlib
 import subprocess
 import sys
-from collections.abc import Iterator
+from collections.abc import Callable, Iterator
 from dataclasses import dataclass
 
 from .kit import Kit
@@ -25,14 +25,16 @@ from .running import Running
 
 @dataclass
 class Proof(Running):
-    """A proof of one crate. What it was made from stands beside what it made, once it is whole."""
+    """A proof of one crate. What it was made from stands beside what it made, once it is whole, and where that is what
+    stands there still."""
 
     stamp: pathlib.Path | None = None
     made_from: str = ""
+    sum_now: Callable[[], str] = str
 
     def end(self) -> int:
         status = super().end()
-        if status == 0 and self.stamp:
+        if status == 0 and self.stamp and self.sum_now() == self.made_from:
             self.stamp.write_text(self.made_from, encoding="ascii")
         return status
 
@@ -53,6 +55,10 @@ class Proofs:
                 found.update(repr((str(path.relative_to(crate.folder)), path.read_bytes())).encode())
         return found.hexdigest()
 
+    def sum_now(self, name: str) -> str:
+        """The same of what stands there now: a run takes an hour, in which a file may be changed, and changed back."""
+        return Proofs(self.plan, self.kit, self.room).sum_of(name)
+
     def stamp(self, name: str) -> pathlib.Path:
         return self.room / f"{name}.sum"
 
@@ -70,8 +76,8 @@ class Proofs:
         for name in self.plan.crates:
             if crate.name in {name, *self.plan.below(name)}:
                 self.stamp(name).unlink(missing_ok=True)
-        stamp, made_from = self.stamp(crate.name), self.sum_of(crate.name)
-        proof = Proof(crate, jobs, crate.folder, is_first, stamp=stamp, made_from=made_from)
+        stamp, sum_now = self.stamp(crate.name), functools.partial(self.sum_now, crate.name)
+        proof = Proof(crate, jobs, crate.folder, is_first, stamp=stamp, made_from=sum_now(), sum_now=sum_now)
         words = [*self.kit.checked(self.plan, crate, self.room, jobs), "-o", str(self.made(crate.name))]
         proof.log.parent.mkdir(exist_ok=True)
         to = self.kit.compiled() if crate.name == self.plan.program else ["--statements"]

@@ -61,3 +61,22 @@ def test_the_compiler_is_given_each_library(proofs: Proofs) -> None:
     words = proofs.kit.checked(plan, plan.crates["program"], proofs.room, 3)
     assert words[1:5] == ["build", "--crate-name", "program", "src/main.rt"] and words[-2:] == ["--jobs", "3"]
     assert f"low={proofs.room}/low.rlib" in words and f"dependency={proofs.room}" in words
+
+
+@pytest.mark.parametrize("is_before", [True, False])
+def test_what_is_changed_meanwhile_and_back_again_is_not_taken_for_proved(proofs: Proofs, is_before: bool) -> None:
+    (proofs.kit.folder / "bin").mkdir()
+    (proofs.kit.folder / "bin/rattle").write_text("#!/bin/sh\n", encoding="utf-8")
+    (proofs.kit.folder / "bin/rattle").chmod(0o755)
+    source = planning.TOP / "crates/low/src/lib.rt"
+    assert proofs.proved() == set()  # as the run begins
+    for text in ("x\n", "y\n") if is_before else ("y\n",):
+        source.write_text(text if is_before else "x\n", encoding="utf-8")
+        proof = proofs.begin(proofs.plan.crates["low"], 1, True)
+        source.write_text(text, encoding="utf-8")
+        proof.process.wait(20)
+        proofs.made("low").touch()
+        assert proof.end() == 0
+        assert ("low" in Proofs(Plan(), proofs.kit, proofs.room).proved()) is is_before
+    source.write_text("x\n", encoding="utf-8")
+    assert Proofs(Plan(), proofs.kit, proofs.room).proved() == set()
