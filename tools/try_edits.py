@@ -192,6 +192,9 @@ def main() -> int:
     end_at_sigterm()
     edits = {name: edits_of(TOP / "crates" / name) for name in asked.crates}
     if asked.only:
+        known = {edit.name.partition("/")[2] for of in edits.values() for edit in of}
+        if unknown := sorted(set(asked.only) - known):
+            sys.exit(f"no edit of these crates is called {', '.join(unknown)}")
         edits = {name: [edit for edit in of if edit.name.partition("/")[2] in asked.only] for name, of in edits.items()}
     edits = {name: of for name, of in edits.items() if of}
     if asked.apply:

@@ -11,8 +11,10 @@ import pytest
 import try_edits
 from try_edits import Run, Work
 
+from building.plan import TOP
 from tries.kept import Kept
 from tries.trial import Outcome
+from upkeep.edits import edits_of
 
 
 @dataclass
@@ -69,3 +71,15 @@ def test_the_files_are_looked_at_once_a_check(run: Sums, tmp_path: pathlib.Path)
 def test_the_checks_are_told(run: Sums, tmp_path: pathlib.Path, capsys: pytest.CaptureFixture[str]) -> None:
     assert run.of(["same"] * 2).counted(work_of(["a", "b"], ["c"]), tmp_path) == (3, 0, 0)
     assert capsys.readouterr().err.startswith("tiny: 3 of 3 refused, 0 of them by an earlier run, 2 checks (")
+
+
+def test_a_name_that_no_edit_has_is_refused(monkeypatch: pytest.MonkeyPatch) -> None:
+    name = next(edit.name.partition("/")[2] for edit in edits_of(TOP / "crates/dms_face"))
+    for names, said in (([name], 0), ([name, "mistyped"], "no edit of these crates is called mistyped")):
+        only = [word for one in names for word in ("--only", one)]
+        monkeypatch.setattr("sys.argv", ["try_edits.py", "dms_face", "--apply", *only])
+        try:
+            found: object = try_edits.main()
+        except SystemExit as end:
+            found = end.code
+        assert found == said
