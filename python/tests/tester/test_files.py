@@ -14,7 +14,8 @@ import time
 
 from wisangub.process.places import TOP, environment
 from wisangub.refusal import Refusal, reason
-from wisangub.tester.findings.results import Results
+from wisangub.tester.chapters import ALL
+from wisangub.tester.findings.results import ChapterResult, Results
 from wisangub.tester.report import pdf, words
 from wisangub.tester.report.outputs import Outputs
 from wisangub.tester.sign.capture import Capture, packet_of
@@ -93,7 +94,8 @@ def test_a_disk_that_is_full_ends_no_test() -> None:
         folder = pathlib.Path(name)
         asked = argparse.Namespace(html=folder / "it.html", junit=folder / "it.xml", json=folder / "it.json", pdf=None)
         about = words.About("127.0.0.1:1", "bench.sign", "model", None, 1, 0, False, "today")
-        outputs, results = Outputs(asked, about, lambda _: []), Results(is_going_on=True)
+        judged = [ChapterResult(ALL[0], wanted=1, blocks=1)]
+        outputs, results = Outputs(asked, about, lambda _: []), Results(is_going_on=True, chapters=judged)
         outputs.write(results)
         (folder / "it.json.new").mkdir()  # as little can be written beside the report as where there is no room
         results.is_going_on = False
