@@ -9,5 +9,5 @@ pub mod BitLaws
 pub mod SameCells
 pub mod PageStyles
 pub mod FewStyles
-mod Filled
+pub mod Filled
 pub mod TextRuns

@@ -18,6 +18,7 @@ ghost use Rattle.dms_face_pages.specs.Styled.{style, IsLitStyle, Lights};
 ghost use Rattle.dms_face_pages.specs.Styles.{with_character, with_line, has_style, has_styles, most_styles};
 
 use crate::cells::Cells;
+use crate::placing::begin;
 use crate::styling::Styling;
 use crate::text_layout::{StyledGlyph, TextLine};
 use dms_face::room::{Block, Run};
@@ -192,18 +193,6 @@ impl Placed for TextLine<'_> {
             spacing: self.spacing(),
             gap: self.gap,
         }
-    }
-}
-
-/// Where something of a size begins at a place of the whole.
-fn begin(place: Place, whole: u32, size: u32) -> u32
-    ensures begin { result ≡ begin place whole size }
-    ensures inside { size ≤ whole → result + size ≤ whole }
-{
-    match place {
-        Place::Start => 0,
-        Place::Halfway => whole.saturating_sub(size) / 2,
-        Place::End => whole.saturating_sub(size),
     }
 }
 

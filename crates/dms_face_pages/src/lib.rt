@@ -18,6 +18,7 @@ mod lamps;
 mod page;
 mod page_octets;
 mod page_text;
+pub mod placing;
 pub mod styling;
 mod text_layout;
 mod text_pages;

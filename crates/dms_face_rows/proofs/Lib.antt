@@ -1,4 +1,3 @@
-mod Filled
 mod HeldLaws
 mod OctetLaws
 mod PageLaws

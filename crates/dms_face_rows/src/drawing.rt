@@ -8,7 +8,7 @@ ghost use Rattle.dms_face_font.specs.Font.{FontModel};
 ghost use Rattle.dms_face.specs.declared.room.Block.{Block as BlockModel};
 ghost use Rattle.dms_face.specs.declared.cell.Cell.{Cell as CellModel};
 ghost use Rattle.dms_face.specs.Layout.{Line, PageModel};
-ghost use Rattle.dms_face.specs.Room.{begin, extent_at, placed_from, character_block, line_block};
+ghost use Rattle.dms_face.specs.Room.{extent_at, placed_from, character_block, line_block};
 ghost use Rattle.dms_face.specs.Room.{line_height, greatest, characters_fit, page_fits};
 ghost use Rattle.dms_face.specs.Cells.{PlacedCharacter, is_lit_by, placed_in_line};
 ghost use Rattle.dms_face_pages.specs.Drawing.{has_place, lit_cell, placed_above, lines_characters};
@@ -20,6 +20,7 @@ use crate::held::{HeldLine, HeldPage};
 use crate::held_character::HeldCharacter;
 use dms_face::room::{Block, Run};
 use dms_face::{Cell, Face, Glyph, Place};
+use dms_face_pages::placing::begin;
 
 /// Lights the cell in this column, where there is one, unless it is lit already.
 fn light(cells: &mut [Cell], column: usize, lit: Cell)
@@ -90,17 +91,6 @@ fn draw_character(cells: &mut [Cell], y: u32, x: u32, top: u32, character: &Held
     let row = (y - top) as usize;
     if let Some(glyph) = character.glyph() {
         light_row(cells, x as usize, glyph, row, character.cell());
-    }
-}
-
-/// Where something of a size begins at a place of the whole.
-fn begin(place: Place, whole: u32, size: u32) -> u32
-    ensures { result ≡ begin place whole size }
-{
-    match place {
-        Place::Start => 0,
-        Place::Halfway => whole.saturating_sub(size) / 2,
-        Place::End => whole.saturating_sub(size),
     }
 }
 

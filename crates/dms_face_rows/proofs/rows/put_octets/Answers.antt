@@ -2,7 +2,7 @@ use Rattle.std.proofs.Common.{◌∙◌, ◌<◌, length, ap, arith}
 use Rattle.std.specs.Prelude.{slice_index_or, slice_set}
 use Rattle.dms_face_pages.specs.Drawn.{unlit}
 use Rattle.dms_face_pages.specs.PageOctets.{cell_octet}
-use Rattle.dms_face_rows.proofs.Filled.{filled_more}
+use Rattle.dms_face_pages.proofs.Filled.{filled_more}
 use Rattle.dms_face_rows.proofs.rows.put_octets.Goals as goal
 
 pub loop-x-preserved : goal.loop-x-preserved

@@ -2,7 +2,7 @@ use Rattle.std.proofs.Common.{◌≡◌}
 use Rattle.std.specs.Prelude.{slice_index_or}
 use Rattle.dms_face_pages.specs.Drawn.{unlit}
 use Rattle.dms_face_pages.specs.PageOctets.{cell_octet}
-use Rattle.dms_face_rows.proofs.Filled.{filled}
+use Rattle.dms_face_pages.proofs.Filled.{filled}
 use Rattle.dms_face_rows.proofs.rows.put_octets.Given as goal
 
 abbrev pub invariant-loop-x : goal.invariant-loop-x
