@@ -11,6 +11,7 @@ can be set share a slot of those in which a SET marks names."""
 import argparse
 import pathlib
 import sys
+import textwrap
 from collections.abc import Callable
 
 from mib_table import device
@@ -39,7 +40,11 @@ def _filled(text: str, begin: str, end: str, made: str, name: str) -> str:
     if text.count(begin) != 1 or text.count(end) != 1:
         raise BadTable(f"{name}: wants the marks `{begin}` and `{end}` once")
     before, _, rest = text.partition(begin)
-    return f"{before}{begin}\n\n{made}\n\n{end}{rest.partition(end)[2]}"
+    after = rest.partition(end)[2]
+    if rest.startswith("\n\n"):
+        return f"{before}{begin}\n\n{made}\n\n{end}{after}"
+    indent = before[before.rfind("\n") + 1 :]  # among other lines
+    return f"{before}{begin}\n{textwrap.indent(made, indent)}\n{indent}{end}{after}"
 
 
 def main() -> int:

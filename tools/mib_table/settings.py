@@ -1,6 +1,6 @@
-"""What is made of the table of objects for the settings that are numbers, for tools/objects.py: in dms_sign_access the
-settings and what a SET assigns, in dms_sign their ranges, and in dms_sign_state the type of them and what is said of
-each; in the code, and in the definitions."""
+"""What is made of the table of objects for the settings, for tools/objects.py: in dms_sign_access the settings and what a
+SET assigns, in dms_sign what they read and their ranges, with what is proved of each, and in dms_sign_state the type of
+those that are numbers and what is said of each; in the code, and in the definitions."""
 
 from __future__ import annotations
 
@@ -14,6 +14,8 @@ ASSIGNED, ASSIGNED_DEFINITIONS = (
     f"crates/dms_sign_access/{name}" for name in ("src/settings.rt", "specs/Settings.antt")
 )
 TYPED, RANGES = (f"crates/dms_sign/{name}" for name in ("src/sign/typed.rt", "specs/InRange.antt"))
+READ, READ_DEFINITIONS = (f"crates/dms_sign/{name}" for name in ("src/sign/values.rt", "specs/Values.antt"))
+RANGES_KEPT, WRITES_FIT = (f"crates/dms_sign/proofs/{name}.antt" for name in ("InRangeSets", "StepDefaults"))
 NUMBER_SETTINGS, NUMBER_DEFINITIONS = (
     f"crates/dms_sign_state/{name}" for name in ("src/number_settings.rt", "specs/NumberSettings.antt")
 )
@@ -243,11 +245,53 @@ pub record AreSettingsInRange (settings : SignSettings) : Type 0 where
   pub defaults : AreDefaultsInRange settings.defaults"""
 
 
+def _read(rows: list[Object]) -> str:
+    """What the settings that are numbers read."""
+    return "\n".join(
+        f"Scalar::{row.variant} => number_value(self.settings.{_words(row, '_')})," for row in _numbers(rows)
+    )
+
+
+def _read_definitions(rows: list[Object]) -> str:
+    """The same in the words of clauses."""
+    return "\n".join(
+        f"scalar_value s scalars.{row.variant} = number_value s.settings.{_words(row, '_')}" for row in _numbers(rows)
+    )
+
+
+def _ranges_kept(rows: list[Object]) -> str:
+    """The proof that a SET keeps the settings in their ranges."""
+    names = [(row.variant, _words(row, "_")) for row in _numbers(rows)]
+    numbers = "\n".join(f"  {name} = given_number scalars.{of} writes s.{name} all is.{name};" for of, name in names)
+    return f"""\
+set_by_in_range : (s : SignSettings) (writes : List Write) → AllByRecursion IsWriteInRange writes
+    → AreSettingsInRange s → AreSettingsInRange (set_by s writes)
+unfolding set_by
+set_by_in_range s writes all is = record {{
+  fallbacks = codes_by_in_range s.fallbacks writes all is.fallbacks;
+{numbers}
+  defaults = defaults_by_in_range s.defaults writes all is.defaults;
+}}"""
+
+
+def _writes_fit(rows: list[Object]) -> str:
+    """The proof that what is written to a setting that is a number fits."""
+    numbers = f"(number_in {_BOUNDS[0]} {_BOUNDS[1]} value)"
+    return "\n".join(
+        f"object_writes face scalars.{row.variant} value = any_number face scalars.{row.variant} {numbers} (λ n. refl)"
+        for row in _numbers(rows)
+    )
+
+
 SETTINGS: tuple[tuple[str, str, Callable[[list[Object]], str]], ...] = (
     (ASSIGNED, "//", _assigned),
     (ASSIGNED_DEFINITIONS, "--", _assigned_definitions),
     (TYPED, "//", _typed),
     (RANGES, "--", _ranges),
+    (READ, "//", _read),
+    (READ_DEFINITIONS, "--", _read_definitions),
+    (RANGES_KEPT, "--", _ranges_kept),
+    (WRITES_FIT, "--", _writes_fit),
     (NUMBER_SETTINGS, "//", _code),
     (NUMBER_DEFINITIONS, "--", _definitions),
 )

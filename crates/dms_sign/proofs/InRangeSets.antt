@@ -11,6 +11,7 @@ use Rattle.dms_wire.specs.MessageOf.{message_of}
 use Rattle.dms_wire.specs.Limits.{IsValueInLimits, AreBindingsInLimits}
 use Rattle.dms_wire.proofs.LimitsLaws.{spelled_in_limits}
 use Rattle.dms_wire.proofs.MessageOfLaws.{read_is_spelled}
+use Rattle.dms_face.specs.declared.defaults.Defaults.{Defaults}
 use Rattle.dms_face.specs.Face.{FaceModel}
 use Rattle.dms_face.proofs.Lists.{if_either, if_or, if_found}
 use Rattle.dms_table.specs.declared.activation.Cause.{Cause}
@@ -27,7 +28,8 @@ use Rattle.dms_codes.specs.Memory.{memory_of}
 use Rattle.dms_codes.specs.Limits.{longest_text, longest_owner}
 use Rattle.dms_table.specs.Activation.{ShownModel, decided}
 use Rattle.dms_mib.specs.declared.scalar.Scalar.{Scalar}
-use Rattle.dms_mib.specs.declared.scalar.Scalar.TheVariants.{DefaultBackgroundColor, DefaultForegroundColor, DefaultFlashOn, DefaultFlashOff, DefaultFont, DefaultJustificationLine, DefaultJustificationPage, DefaultPageOnTime, DefaultPageOffTime, ActivateMessage, MessageTimeRemaining, ShortPowerRecoveryMessage, LongPowerRecoveryMessage, ShortPowerLossTime, CommunicationsLossMessage, TimeCommLoss, PowerLossMessage, EndDurationMessage}
+use Rattle.dms_mib.specs.declared.scalar.Scalar.TheVariants as scalars
+use Rattle.dms_mib.specs.declared.scalar.Scalar.TheVariants.{DefaultBackgroundColor, DefaultForegroundColor, DefaultFlashOn, DefaultFlashOff, DefaultFont, DefaultJustificationLine, DefaultJustificationPage, DefaultPageOnTime, DefaultPageOffTime, ActivateMessage, MessageTimeRemaining, ShortPowerRecoveryMessage, LongPowerRecoveryMessage, CommunicationsLossMessage, PowerLossMessage, EndDurationMessage}
 use Rattle.dms_mib.specs.declared.instance.Instance.{Instance}
 use Rattle.dms_mib.specs.declared.instance.Instance.TheVariants as kinds
 use Rattle.dms_mib.specs.declared.objects.Access.{Access}
@@ -37,15 +39,17 @@ use Rattle.dms_mib.specs.declared.objects.Syntax.TheVariants.{Range, Octets}
 use Rattle.dms_mib.specs.Names.{scalar_number}
 use Rattle.dms_mib.specs.Objects.{scalar_row}
 use Rattle.dms_sign_access.specs.declared.reports.Reports.{Reports}
+use Rattle.dms_sign_access.specs.declared.settings.Fallbacks.{Fallbacks}
 use Rattle.dms_sign_access.specs.declared.settings.SignSettings.{SignSettings}
 use Rattle.dms_sign.specs.State.{SignState}
 use Rattle.dms_sign_access.specs.Access.{Write, SetNumber, SetCode, SetField, AskRow, Activate, SetRemaining, number_in, octets_in, font_in, ask_of, setting_in, object_write, cell_write, write_of}
 use Rattle.dms_sign_access.specs.Assignment.{given, number_for, code_for}
-use Rattle.dms_sign_access.specs.Settings.{set_by}
+use Rattle.dms_sign_access.specs.Ranges.{AreDefaultsInRange}
+use Rattle.dms_sign_access.specs.Settings.{codes_by, defaults_by, set_by}
 use Rattle.dms_sign.specs.SetRequest.{SetCause, settable_instance, write_at, with_write, with_writes, assigned}
 use Rattle.dms_sign.specs.Requests.{found_unless, as_decided, as_asked, with_remaining, commanded, commanded_if, writes_of, set_unless, answer_by, answer_of_any_size}
 use Rattle.dms_sign.specs.Reply.{is_heard, dropped, heard, on_message, on_message_if, received}
-use Rattle.dms_sign.specs.InRange.{AreOctets, AreOctetsUpTo, IsRowInRange, IsTableInRange, AreSettingsInRange, AreReportsInRange, IsSignInRange, IsBindingInLimits}
+use Rattle.dms_sign.specs.InRange.{AreOctets, AreOctetsUpTo, IsRowInRange, IsTableInRange, AreFallbacksInRange, AreSettingsInRange, AreReportsInRange, IsSignInRange, IsBindingInLimits}
 use Rattle.dms_sign.proofs.NumbersRead.{number_passes}
 use Rattle.dms_sign.proofs.InRangeLists.{either, if_mapped, if_then, if_at, all_filtered}
 use Rattle.dms_sign.proofs.InRangeShown.{IsDecisionInRange, showing_in_range, activation_is, decided_in_range, seconds_in_range, with_time, code_in_range}
@@ -302,30 +306,43 @@ with_writes_in_range : (table : TableModel) (writes : List Write) → IsTableInR
 with_writes_in_range table [] is all = is
 with_writes_in_range table (w ∷ ws) is all = with_writes_in_range (with_write table w) ws (with_write_in_range table w is all.0) all.1
 
-set_by_in_range : (s : SignSettings) (writes : List Write) → AllByRecursion IsWriteInRange writes → AreSettingsInRange s → AreSettingsInRange (set_by s writes)
+codes_by_in_range : (f : Fallbacks) (writes : List Write) → AllByRecursion IsWriteInRange writes → AreFallbacksInRange f
+    → AreFallbacksInRange (codes_by f writes)
+codes_by_in_range f writes all is = record {
+  short_power_recovery = given_code ShortPowerRecoveryMessage writes f.short_power_recovery all is.short_power_recovery;
+  long_power_recovery = given_code LongPowerRecoveryMessage writes f.long_power_recovery all is.long_power_recovery;
+  power_loss = given_code PowerLossMessage writes f.power_loss all is.power_loss;
+  end_duration = given_code EndDurationMessage writes f.end_duration all is.end_duration;
+  communications_loss = given_code CommunicationsLossMessage writes f.communications_loss all is.communications_loss;
+}
+
+defaults_by_in_range : (d : Defaults) (writes : List Write) → AllByRecursion IsWriteInRange writes → AreDefaultsInRange d
+    → AreDefaultsInRange (defaults_by d writes)
+defaults_by_in_range d writes all is = record {
+  background = given_number DefaultBackgroundColor writes d.background all is.background;
+  foreground = given_number DefaultForegroundColor writes d.foreground all is.foreground;
+  flash_on = given_number DefaultFlashOn writes d.flash_on all is.flash_on;
+  flash_off = given_number DefaultFlashOff writes d.flash_off all is.flash_off;
+  font = given_number DefaultFont writes d.font all is.font;
+  line = given_number DefaultJustificationLine writes d.line all is.line;
+  page = given_number DefaultJustificationPage writes d.page all is.page;
+  on = given_number DefaultPageOnTime writes d.on all is.on;
+  off = given_number DefaultPageOffTime writes d.off all is.off;
+}
+
+-- made by tools/objects.py --code
+
+set_by_in_range : (s : SignSettings) (writes : List Write) → AllByRecursion IsWriteInRange writes
+    → AreSettingsInRange s → AreSettingsInRange (set_by s writes)
 unfolding set_by
 set_by_in_range s writes all is = record {
-  fallbacks = record {
-    short_power_recovery = given_code ShortPowerRecoveryMessage writes s.fallbacks.short_power_recovery all is.fallbacks.short_power_recovery;
-    long_power_recovery = given_code LongPowerRecoveryMessage writes s.fallbacks.long_power_recovery all is.fallbacks.long_power_recovery;
-    power_loss = given_code PowerLossMessage writes s.fallbacks.power_loss all is.fallbacks.power_loss;
-    end_duration = given_code EndDurationMessage writes s.fallbacks.end_duration all is.fallbacks.end_duration;
-    communications_loss = given_code CommunicationsLossMessage writes s.fallbacks.communications_loss all is.fallbacks.communications_loss;
-  };
-  short_power_loss_time = given_number ShortPowerLossTime writes s.short_power_loss_time all is.short_power_loss_time;
-  time_comm_loss = given_number TimeCommLoss writes s.time_comm_loss all is.time_comm_loss;
-  defaults = record {
-    background = given_number DefaultBackgroundColor writes s.defaults.background all is.defaults.background;
-    foreground = given_number DefaultForegroundColor writes s.defaults.foreground all is.defaults.foreground;
-    flash_on = given_number DefaultFlashOn writes s.defaults.flash_on all is.defaults.flash_on;
-    flash_off = given_number DefaultFlashOff writes s.defaults.flash_off all is.defaults.flash_off;
-    font = given_number DefaultFont writes s.defaults.font all is.defaults.font;
-    line = given_number DefaultJustificationLine writes s.defaults.line all is.defaults.line;
-    page = given_number DefaultJustificationPage writes s.defaults.page all is.defaults.page;
-    on = given_number DefaultPageOnTime writes s.defaults.on all is.defaults.on;
-    off = given_number DefaultPageOffTime writes s.defaults.off all is.defaults.off;
-  };
+  fallbacks = codes_by_in_range s.fallbacks writes all is.fallbacks;
+  short_power_loss_time = given_number scalars.ShortPowerLossTime writes s.short_power_loss_time all is.short_power_loss_time;
+  time_comm_loss = given_number scalars.TimeCommLoss writes s.time_comm_loss all is.time_comm_loss;
+  defaults = defaults_by_in_range s.defaults writes all is.defaults;
 }
+
+-- the end of what is made
 
 pub assigned_in_range : (s : SignState) (writes : List Write) → IsSignInRange s → AllByRecursion IsWriteInRange writes → IsSignInRange (assigned s writes)
 unfolding assigned

@@ -18,7 +18,8 @@ use Rattle.dms_table.specs.Rows.{TableModel, Text, Owner, Beacon, Pixel, Priorit
 use Rattle.dms_codes.specs.Limits.{longest_text, longest_owner}
 use Rattle.dms_table.specs.Activation.{ShownModel}
 use Rattle.dms_mib.specs.declared.scalar.Scalar.{Scalar}
-use Rattle.dms_mib.specs.declared.scalar.Scalar.TheVariants.{DefaultBackgroundColor, DefaultForegroundColor, DefaultFlashOn, DefaultFlashOff, DefaultFont, DefaultJustificationLine, DefaultJustificationPage, DefaultPageOnTime, DefaultPageOffTime, ActivateMessage, MessageTimeRemaining, ShortPowerRecoveryMessage, LongPowerRecoveryMessage, ShortPowerLossTime, CommunicationsLossMessage, TimeCommLoss, PowerLossMessage, EndDurationMessage}
+use Rattle.dms_mib.specs.declared.scalar.Scalar.TheVariants as scalars
+use Rattle.dms_mib.specs.declared.scalar.Scalar.TheVariants.{DefaultBackgroundColor, DefaultForegroundColor, DefaultFlashOn, DefaultFlashOff, DefaultFont, DefaultJustificationLine, DefaultJustificationPage, DefaultPageOnTime, DefaultPageOffTime, ActivateMessage, MessageTimeRemaining, ShortPowerRecoveryMessage, LongPowerRecoveryMessage, CommunicationsLossMessage, PowerLossMessage, EndDurationMessage}
 use Rattle.dms_mib.specs.declared.instance.Instance.{Instance}
 use Rattle.dms_mib.specs.declared.instance.Instance.TheVariants as kinds
 use Rattle.dms_mib.specs.Names.{scalar_number}
@@ -95,11 +96,13 @@ object_writes face ActivateMessage value = any_mapped face Activate (octets_in 1
 object_writes face MessageTimeRemaining value = any_mapped face SetRemaining (number_in 0 65535 value) (λ x. tt)
 object_writes face ShortPowerRecoveryMessage value = any_mapped face (SetCode ShortPowerRecoveryMessage) (octets_in 5 5 value) (λ x. tt)
 object_writes face LongPowerRecoveryMessage value = any_mapped face (SetCode LongPowerRecoveryMessage) (octets_in 5 5 value) (λ x. tt)
-object_writes face ShortPowerLossTime value = any_number face ShortPowerLossTime (number_in 0 65535 value) (λ n. refl)
 object_writes face CommunicationsLossMessage value = any_mapped face (SetCode CommunicationsLossMessage) (octets_in 5 5 value) (λ x. tt)
-object_writes face TimeCommLoss value = any_number face TimeCommLoss (number_in 0 65535 value) (λ n. refl)
 object_writes face PowerLossMessage value = any_mapped face (SetCode PowerLossMessage) (octets_in 5 5 value) (λ x. tt)
 object_writes face EndDurationMessage value = any_mapped face (SetCode EndDurationMessage) (octets_in 5 5 value) (λ x. tt)
+-- made by tools/objects.py --code
+object_writes face scalars.ShortPowerLossTime value = any_number face scalars.ShortPowerLossTime (number_in 0 65535 value) (λ n. refl)
+object_writes face scalars.TimeCommLoss value = any_number face scalars.TimeCommLoss (number_in 0 65535 value) (λ n. refl)
+-- the end of what is made
 object_writes face _ value = tt
 
 cell_writes : (face : FaceModel) (column : Column) (id : RowId) (value : ObjectValue) → IfSome (cell_write column id value) (WriteFits face)

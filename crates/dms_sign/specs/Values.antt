@@ -7,6 +7,7 @@ use Rattle.dms_codes.specs.Memory.{permanent_memory, changeable_memory, volatile
 use Rattle.dms_codes.specs.Limits.{longest_text}
 use Rattle.dms_table.specs.Activation.{message_at, minutes_left}
 use Rattle.dms_mib.specs.declared.scalar.Scalar.{Scalar}
+use Rattle.dms_mib.specs.declared.scalar.Scalar.TheVariants as scalars
 use Rattle.dms_mib.specs.declared.scalar.Scalar.TheVariants.{SignHeightPixels, SignWidthPixels}
 use Rattle.dms_mib.specs.declared.scalar.Scalar.TheVariants.{DefaultBackgroundColor, DefaultForegroundColor}
 use Rattle.dms_mib.specs.declared.scalar.Scalar.TheVariants.{DefaultFlashOn, DefaultFlashOff, DefaultFont}
@@ -18,8 +19,8 @@ use Rattle.dms_mib.specs.declared.scalar.Scalar.TheVariants.{FreeVolatileMemory,
 use Rattle.dms_mib.specs.declared.scalar.Scalar.TheVariants.{ActivateMessage, MessageTimeRemaining}
 use Rattle.dms_mib.specs.declared.scalar.Scalar.TheVariants.{MsgTableSource, MsgRequesterId, MsgSourceMode}
 use Rattle.dms_mib.specs.declared.scalar.Scalar.TheVariants.{ShortPowerRecoveryMessage, LongPowerRecoveryMessage}
-use Rattle.dms_mib.specs.declared.scalar.Scalar.TheVariants.{ShortPowerLossTime, CommunicationsLossMessage}
-use Rattle.dms_mib.specs.declared.scalar.Scalar.TheVariants.{TimeCommLoss, PowerLossMessage, EndDurationMessage}
+use Rattle.dms_mib.specs.declared.scalar.Scalar.TheVariants.{CommunicationsLossMessage, PowerLossMessage}
+use Rattle.dms_mib.specs.declared.scalar.Scalar.TheVariants.{EndDurationMessage}
 use Rattle.dms_mib.specs.declared.scalar.Scalar.TheVariants.{ActivateMsgError, MultiSyntaxError}
 use Rattle.dms_mib.specs.declared.scalar.Scalar.TheVariants.{MultiSyntaxErrorPosition, ActivateErrorMsgCode}
 use Rattle.dms_mib.specs.declared.instance.Instance.{Instance}
@@ -65,11 +66,13 @@ scalar_value s MsgRequesterId = ip_address s.shown.address
 scalar_value s MsgSourceMode = number_value s.shown.mode
 scalar_value s ShortPowerRecoveryMessage = octet_string s.settings.fallbacks.short_power_recovery
 scalar_value s LongPowerRecoveryMessage = octet_string s.settings.fallbacks.long_power_recovery
-scalar_value s ShortPowerLossTime = number_value s.settings.short_power_loss_time
 scalar_value s CommunicationsLossMessage = octet_string s.settings.fallbacks.communications_loss
-scalar_value s TimeCommLoss = number_value s.settings.time_comm_loss
 scalar_value s PowerLossMessage = octet_string s.settings.fallbacks.power_loss
 scalar_value s EndDurationMessage = octet_string s.settings.fallbacks.end_duration
+-- made by tools/objects.py --code
+scalar_value s scalars.ShortPowerLossTime = number_value s.settings.short_power_loss_time
+scalar_value s scalars.TimeCommLoss = number_value s.settings.time_comm_loss
+-- the end of what is made
 scalar_value s ActivateMsgError = number_value s.reports.activate_error
 scalar_value s MultiSyntaxError = number_value s.reports.syntax_error
 scalar_value s MultiSyntaxErrorPosition = number_value s.reports.syntax_error_position

@@ -11,8 +11,7 @@
 //! power-loss CODE
 //! end-duration CODE
 //! communications-loss CODE
-//! short-power-loss-time SECONDS
-//! time-comm-loss MINUTES
+//! SETTING NUMBER                                                each setting that is a number, by its word
 //! silent SECONDS
 //! shown TEXT OWNER BEACON PIXEL PRIORITY
 //! shown-source CODE                                             five octets

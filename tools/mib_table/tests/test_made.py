@@ -12,8 +12,12 @@ from mib_table.settings import (
     NUMBER_DEFINITIONS,
     NUMBER_SETTINGS,
     RANGES,
+    RANGES_KEPT,
+    READ,
+    READ_DEFINITIONS,
     SETTINGS,
     TYPED,
+    WRITES_FIT,
 )
 from mib_table.slots import SLOTS, shared
 from mib_table.table import TABLE, BadTable, Object, read
@@ -72,6 +76,18 @@ def test_a_number_that_can_be_set_is_assigned_and_has_its_range(tmp_path: pathli
     assert "  trial_time = given (number_for scalars.TrialTime) writes s.trial_time;\n" in made[ASSIGNED_DEFINITIONS]
     assert "    is_of_two_octets(settings.trial_time);\n" in made[TYPED]
     assert "  pub trial_time : settings.trial_time ≤ 65535\n" in made[RANGES]
+
+
+def test_a_number_that_can_be_set_is_read_and_keeps_its_range(tmp_path: pathlib.Path) -> None:
+    row = TRIAL.replace("Trial", "TrialTime").replace("Range 3 9", "Range 0 65535")
+    objects = objects_of(tmp_path, (ROW, ROW + row), (PLACE, f"{PLACE} ∷ One TrialTime"))
+    made = {name: make(objects) for name, _, make in SETTINGS}
+    assert "Scalar::TrialTime => number_value(self.settings.trial_time)," in made[READ]
+    assert "scalar_value s scalars.TrialTime = number_value s.settings.trial_time\n" in made[READ_DEFINITIONS]
+    kept = "  trial_time = given_number scalars.TrialTime writes s.trial_time all is.trial_time;\n"
+    assert kept in made[RANGES_KEPT]
+    fits = "object_writes face scalars.TrialTime value = any_number face scalars.TrialTime (number_in 0 65535 value)"
+    assert fits in made[WRITES_FIT]
 
 
 def test_a_default_that_is_no_default_of_the_face_is_refused(tmp_path: pathlib.Path) -> None:

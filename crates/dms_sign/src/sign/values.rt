@@ -127,15 +127,17 @@ impl Sign {
             Scalar::MsgSourceMode => small_value(self.shown.mode),
             Scalar::ShortPowerRecoveryMessage => Value::Octets(&fallbacks.short_power_recovery),
             Scalar::LongPowerRecoveryMessage => Value::Octets(&fallbacks.long_power_recovery),
-            Scalar::ShortPowerLossTime => number_value(self.settings.short_power_loss_time),
             Scalar::CommunicationsLossMessage => Value::Octets(&fallbacks.communications_loss),
-            Scalar::TimeCommLoss => number_value(self.settings.time_comm_loss),
             Scalar::PowerLossMessage => Value::Octets(&fallbacks.power_loss),
             Scalar::EndDurationMessage => Value::Octets(&fallbacks.end_duration),
             Scalar::ActivateMsgError => small_value(reports.activate_error),
             Scalar::MultiSyntaxError => small_value(reports.syntax_error),
             Scalar::MultiSyntaxErrorPosition => number_value(reports.syntax_error_position),
             Scalar::ActivateErrorMsgCode => Value::Octets(&reports.failed_code),
+            // made by tools/objects.py --code
+            Scalar::ShortPowerLossTime => number_value(self.settings.short_power_loss_time),
+            Scalar::TimeCommLoss => number_value(self.settings.time_comm_loss),
+            // the end of what is made
         }
     }
 }
