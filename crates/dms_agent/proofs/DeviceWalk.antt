@@ -3,8 +3,9 @@ use Rattle.std.proofs.Common.{◌≡◌, ℕ, Bool, true, false, cond, List, [],
 use Rattle.std.specs.Prelude.{option_map}
 use Rattle.std.specs.List.{list_all}
 use Rattle.std.proofs.lemmas.Bool.{and_parts, both_ways, false_from_ne_true}
+use Rattle.dms_wire_ber.specs.NameOrder.{is_before}
 use Rattle.dms_wire.specs.Message.{ObjectValue, VarBind}
-use Rattle.dms_mib_replies.specs.Walk.{is_before, IsNext, Follows, IsWalk}
+use Rattle.dms_mib_replies.specs.Walk.{IsNext, Follows, IsWalk}
 use Rattle.dms_device.specs.Object.{DeviceObject}
 use Rattle.dms_device.specs.Objects.{has_name, comes_after, rises, device_value, device_after, binding_of}
 use Rattle.dms_device.proofs.Order.{same_name, names_itself, before_differs, none_of, all_after}

@@ -2,11 +2,13 @@
 use Rattle.std.proofs.Common.{◌≡◌, ℕ, true, false, List, Option, Some, None, refl, sym, ap, ◌∙◌, subst, inl, inr}
 use Rattle.std.specs.Prelude.{option_map, option_and_then, IsSome}
 use Rattle.std.proofs.lemmas.Bool.{both_ways}
+use Rattle.dms_wire_ber.proofs.NameOrderLaws.{before_trans, not_before_itself}
+use Rattle.dms_wire_ber.specs.NameOrder.{is_before}
 use Rattle.dms_wire.specs.Message.{ObjectValue}
 use Rattle.dms_mib.specs.declared.instance.Instance.{Instance}
 use Rattle.dms_mib.specs.declared.instance.Instance.TheVariants as kinds
 use Rattle.dms_mib.specs.Names.{name_of}
-use Rattle.dms_mib_replies.specs.Walk.{is_before, IsNext, Follows, IsWalk}
+use Rattle.dms_mib_replies.specs.Walk.{IsNext, Follows, IsWalk}
 use Rattle.dms_table.specs.Activation.{message_at}
 use Rattle.dms_mib_instances.specs.Objects.{instance_named, next_instance, comes_after, IsInstance, IsFirstAfter, FirstAfter}
 use Rattle.dms_mib_instances.proofs.InOrder.{next_is_first, named_back, named_is}
@@ -14,7 +16,6 @@ use Rattle.dms_mib_instances.proofs.WhichInstances.{cell_read}
 use Rattle.dms_sign_access.specs.Cells.{cell_value}
 use Rattle.dms_sign.specs.State.{SignState}
 use Rattle.dms_sign.specs.Values.{scalar_value, value_at, value_of, value_after, bound, binding_at}
-use Rattle.dms_device.proofs.Order.{before_trans, not_before_itself}
 
 -- ---- what an instance reads
 

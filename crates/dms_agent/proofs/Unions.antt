@@ -3,10 +3,10 @@ use Rattle.std.proofs.Common.{◌≡◌, ℕ, Bool, true, false, cond, List, Les
 use Rattle.std.specs.Ordering.{is_lt, ordering_reverse}
 use Rattle.std.proofs.lemmas.Bool.{both_ways}
 use Rattle.std.proofs.lemmas.Cmp.{nat_list_cmp_total, alike_right}
-use Rattle.dms_wire_ber.specs.NameOrder.{numbers_cmp}
+use Rattle.dms_wire_ber.proofs.NameOrderLaws.{before_trans}
+use Rattle.dms_wire_ber.specs.NameOrder.{numbers_cmp, is_before}
 use Rattle.dms_wire.specs.Message.{ObjectValue, VarBind}
-use Rattle.dms_mib_replies.specs.Walk.{is_before, IsNext, Follows, IsWalk}
-use Rattle.dms_device.proofs.Order.{before_trans}
+use Rattle.dms_mib_replies.specs.Walk.{IsNext, Follows, IsWalk}
 use Rattle.dms_agent.specs.Values.{or_else, earliest}
 
 -- ---- the order of three names

@@ -1,8 +1,8 @@
 -- What the names of an agent read: those of its sign, those of the sign's fonts where these can be read, and those that
 -- its device publishes (RFC 1157, 4.1.2 and 4.1.3).
 use Rattle.std.specs.Prelude.{ℕ, ◌==◌, Bool, true, if◌then◌else◌, List, length, Option, Some, None}
+use Rattle.dms_wire_ber.specs.NameOrder.{is_before}
 use Rattle.dms_wire.specs.Message.{ObjectValue, VarBind}
-use Rattle.dms_mib_replies.specs.Walk.{is_before}
 use Rattle.dms_sign.specs.Values.{value_of, value_after}
 use Rattle.dms_device.specs.Objects.{device_value, device_after}
 use Rattle.dms_device_fonts.specs.Fonts.{fonts_value, fonts_after}

@@ -5,6 +5,7 @@ use Rattle.std.specs.List.{list_all}
 use Rattle.std.specs.Cmp.Lexicographic.{pointwise}
 use Rattle.std.specs.Str.Lines.{lines}
 use Rattle.std.proofs.lemmas.Bool.{and_parts, cases_Bool}
+use Rattle.dms_wire_ber.specs.NameOrder.{is_before}
 use Rattle.dms_wire_ber.specs.NameText.{dotted}
 use Rattle.dms_wire_ber.specs.ObjectIdentifier.{IsNameInLimits}
 use Rattle.dms_wire.specs.Message.{ObjectValue, VarBind}
@@ -14,7 +15,7 @@ use Rattle.dms_text_values.specs.ValueText.{value_text}
 use Rattle.dms_sign_state.specs.StateText.{text_of_state}
 use Rattle.dms_device.specs.declared.access.ManagerAccess.{ManagerAccess}
 use Rattle.dms_device.specs.Object.{DeviceObject, admits}
-use Rattle.dms_device.specs.Objects.{is_before, has_name, comes_after, rises, binding_of}
+use Rattle.dms_device.specs.Objects.{has_name, comes_after, rises, binding_of}
 use Rattle.dms_device.specs.Setting.{set_to, set_by_binding}
 use Rattle.dms_device.proofs.Order.{names_itself, after_differs}
 use Rattle.dms_agent.specs.declared.agent.Agent.{Agent}

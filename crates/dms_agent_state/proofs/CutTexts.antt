@@ -26,7 +26,9 @@ use Rattle.dms_sign_state.specs.FieldsText.{number_line, part_line, octets_line,
 use Rattle.dms_sign_state.proofs.Forms.{IsFree}
 use Rattle.dms_sign_state.proofs.HexWords.{octets_free}
 use Rattle.dms_agent_state.specs.Parts.{ends_here, behind_end, sign_part}
-use Rattle.dms_agent_state.proofs.WordForms.{free_append, decimal_free, address_free}
+use Rattle.dms_text_exact.proofs.FrontLaws.{free_append}
+use Rattle.dms_text_exact.proofs.NumberLaws.{decimal_free}
+use Rattle.dms_text_exact.proofs.AddressLaws.{address_free}
 
 -- ---- lines
 

@@ -1,27 +1,6 @@
--- What is put into a buffer: a text into as many octets as it has, and an address.
-use Rattle.std.proofs.Common.{◌≡◌, ℕ, List, [], ◌∷◌, ◌++◌, codes, decimal, length, take, drop, get_or, refl, ap, ◌∙◌, append_assoc, append-nil, arith, inl, inr}
-use Rattle.std.proofs.lemmas.List.{take_at, drop_all}
-use Rattle.std.proofs.lemmas.Bool.{cases_lt}
-use Rattle.dms_text_filling.specs.Filling.{counted, laid, most_counted}
-use Rattle.dms_text_filling.proofs.Laid.{laid_whole}
+-- What is put into a buffer of an address.
+use Rattle.std.proofs.Common.{◌≡◌, ℕ, List, [], ◌∷◌, ◌++◌, codes, decimal, length, get_or, append_assoc, append-nil, arith}
 use Rattle.dms_wire_ber.specs.NameText.{dotted}
-
--- a count that did not stop
-not_stopped : (n : ℕ) → (counted n ≡ most_counted → ⊥) → counted n ≡ n
-not_stopped n less =
-    elim (cases_lt n most_counted) [
-      | inl below ↦ omega (arith, below)
-      | inr top ↦ absurd (less (omega (arith, top)))
-    ]
-
-pub whole_text : (text before after items : List ℕ) (size len : ℕ) → size ≡ counted (length text) → (size ≡ most_counted → ⊥) → after ≡ laid 0 text before
-    → length before ≡ size → len ≡ size → take len (after ++ drop (length after) items) ≡ text
-whole_text text before after items size len counts less put room same =
-    let exact : size ≡ length text = counts ∙ not_stopped (length text) (λ stopped. less (counts ∙ stopped)) in
-    let whole : after ≡ text =
-    put ∙ laid_whole text before (omega (arith, room, exact)) ∙ ap (λ xs. text ++ xs) (drop_all (length text) before (omega (arith, room, exact))) ∙ append-nil text in
-    ap (λ n. take n (after ++ drop (length after) items)) (same ∙ exact) ∙ ap (λ xs. take (length text) (xs ++ drop (length xs) items)) whole
-    ∙ take_at text (drop (length text) items) (length text) refl
 
 joined : (v w x y z : List ℕ) → v ++ w ++ x ++ y ++ z ≡ v ++ (w ++ (x ++ (y ++ (z ++ []))))
 joined v w x y z = simp (append_assoc, append-nil)

@@ -1,8 +1,7 @@
 -- What comes to objects leaves them such that they can be saved.
-use Rattle.std.proofs.Common.{◌≡◌, ℕ, ◌<◌, zero, suc, Bool, true, false, cond, List, [], ◌∷◌, map, filter, not, Option, Some, None, refl, sym, ap, subst, arith, inl, inr}
-use Rattle.std.specs.Int.Digits.{AllBelowBase}
+use Rattle.std.proofs.Common.{◌≡◌, ℕ, Bool, true, false, cond, List, [], ◌∷◌, map, filter, not, Option, Some, None, refl, sym, ap, subst, arith, inl, inr}
 use Rattle.std.proofs.lemmas.Bool.{cases_Bool}
-use Rattle.hex.specs.Hex.{IsBytes}
+use Rattle.dms_text_exact.proofs.DigitLaws.{bytes_below}
 use Rattle.dms_wire_ber.proofs.NameLimits.{name_within}
 use Rattle.dms_wire_ber.specs.NameReading.{numbers_of}
 use Rattle.dms_wire.specs.Message.{ObjectValue, VarBind, SnmpMessage, integer, octet_string, null, object_identifier, ip_address, counter, gauge, time_ticks, opaque}
@@ -72,14 +71,6 @@ first_told_kept (x ∷ xs) all =
     ]
 
 -- ---- values that are written
-
-bytes_more : (octet : ℕ) (octets : List ℕ) → octet < 256 → IsBytes octets → IsBytes (octet ∷ octets)
-bytes_more octet octets small all zero = small
-bytes_more octet octets small all (suc i) = all i
-
-bytes_below : (octets : List ℕ) → AllBelowBase 256 octets → IsBytes octets
-bytes_below [] below = λ i. omega arith
-bytes_below (octet ∷ octets) below = bytes_more octet octets below.0 (bytes_below octets below.1)
 
 -- a value that an access takes is a number or octets
 settable_by : (access : ManagerAccess) (value : ObjectValue) → admits access value ≡ true → IsValueInLimits value → IsSettable value

@@ -14,7 +14,8 @@ use Rattle.dms_device.specs.Objects.{binding_of}
 use Rattle.dms_agent_state.specs.AgentText.{value_line, kept_lines}
 use Rattle.dms_agent_state.specs.Alike.{CanAllBeSaved, kept_bindings}
 use Rattle.dms_agent_state.proofs.TakenOver.{is_kept}
-use Rattle.dms_agent_state.proofs.WordForms.{free_append, part_first, name_free}
+use Rattle.dms_text_exact.proofs.FrontLaws.{free_append, part_first}
+use Rattle.dms_agent_state.proofs.WordForms.{name_free}
 use Rattle.dms_agent_state.proofs.ValueLines.{Worded, words_in, line_grouped, words_free, worded_by}
 
 -- the line of a binding

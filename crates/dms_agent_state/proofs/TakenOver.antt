@@ -2,9 +2,10 @@
 use Rattle.std.proofs.Common.{◌≡◌, ℕ, Bool, true, false, cond, List, [], ◌∷◌, ◌++◌, map, filter, refl, sym, ap, ap₂, subst, ◌∙◌, inl, inr}
 use Rattle.std.specs.List.{list_all, list_any}
 use Rattle.std.proofs.lemmas.Bool.{and_parts, and_from, cases_Bool}
+use Rattle.dms_wire_ber.specs.NameOrder.{is_before}
 use Rattle.dms_wire.specs.Message.{VarBind}
 use Rattle.dms_device.specs.Object.{DeviceObject, admits}
-use Rattle.dms_device.specs.Objects.{is_before, has_name, comes_after, rises, binding_of}
+use Rattle.dms_device.specs.Objects.{has_name, comes_after, rises, binding_of}
 use Rattle.dms_device.specs.Setting.{set_to, set_by_binding, written}
 use Rattle.dms_device.proofs.Order.{names_itself, before_differs, after_differs, none_of}
 use Rattle.dms_device.proofs.Writes.{none_set}

@@ -22,7 +22,9 @@ use Rattle.dms_agent_state.specs.AgentText.{value_line, kept_lines}
 use Rattle.dms_agent_state.specs.ValueLines.{with_value, with_name, with_word, behind_set, set_of, in_line, put_before, sets_at}
 use Rattle.dms_agent_state.specs.Alike.{IsSettable, CanBeSaved, CanAllBeSaved, kept_bindings}
 use Rattle.dms_agent_state.proofs.LinesRead.{some_part}
-use Rattle.dms_agent_state.proofs.WordForms.{free_append, part_first, part_only, signed_free, spells_integer, spells_octets, name_free, spells_name}
+use Rattle.dms_text_exact.proofs.FrontLaws.{free_append, part_first, part_only}
+use Rattle.dms_text_exact.proofs.NumberLaws.{signed_free}
+use Rattle.dms_agent_state.proofs.WordForms.{spells_integer, spells_octets, name_free, spells_name}
 
 -- the words of a value, and that they stand in one line, without a carriage return
 pub record Worded (value : ObjectValue) : Type 0 where

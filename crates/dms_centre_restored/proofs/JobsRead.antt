@@ -28,7 +28,7 @@ use Rattle.dms_centre_text.specs.CommandLine.{SpellsPublication}
 use Rattle.dms_centre_text.specs.CommandReading.{publish_at, command_word, command_of}
 use Rattle.dms_centre_text.proofs.CommandLaws.{command_only}
 use Rattle.dms_centre_state.specs.CentreText.{number_line, publish_line, work_line}
-use Rattle.dms_centre_state.proofs.Words.{bytes_below}
+use Rattle.dms_text_exact.proofs.DigitLaws.{bytes_below}
 use Rattle.dms_text_exact.specs.ExactWords.{number_in}
 use Rattle.dms_text_exact.specs.Fronts.{behind}
 use Rattle.dms_text_exact.proofs.FrontLaws.{behind_only}

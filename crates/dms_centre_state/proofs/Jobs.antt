@@ -17,7 +17,8 @@ use Rattle.dms_centre_state.specs.CentreText.{number_line, publish_line, work_li
 use Rattle.dms_centre_state.specs.Reached.{IsJob, IsPhaseOf}
 use Rattle.dms_centre_state.proofs.Tells.{Tells, other_texts, after_tells, pair_tells, made_tells, number_tells}
 use Rattle.dms_centre_state.proofs.Groupings.{of_two, of_three, of_publication}
-use Rattle.dms_centre_state.proofs.Words.{field_tells, bytes_below, text_tells, code_tells, address_tells}
+use Rattle.dms_text_exact.proofs.DigitLaws.{bytes_below}
+use Rattle.dms_centre_state.proofs.Words.{field_tells, text_tells, code_tells, address_tells}
 
 -- ---- what is to be activated
 

@@ -1,6 +1,5 @@
 -- Words of a state's text that tell their values apart.
 use Rattle.std.proofs.Common.{◌≡◌, ℕ, ◌/◌, ◌%◌, ◌<◌, ◌^◌, List, [], ◌∷◌, ◌++◌, get_or, codes, decimal, refl, sym, ap, subst, ◌∙◌, arith}
-use Rattle.std.specs.Int.Digits.{AllBelowBase}
 use Rattle.hex.specs.Hex.{IsBytes, encode_lower}
 use Rattle.dms_wire_ber.specs.NameText.{dotted}
 use Rattle.dms_codes.specs.declared.codes.Order.{Order}
@@ -25,10 +24,6 @@ field_tells name =
     (after_tells name (after_tells (codes " ") (number_tells 10 (omega arith))))
 
 -- ---- octets
-
-pub bytes_below : (octets : List ℕ) → AllBelowBase 256 octets → IsBytes octets
-bytes_below [] below = λ i. omega arith
-bytes_below (octet ∷ octets) below = bytes_more octet octets below.0 (bytes_below octets below.1)
 
 not_none : (octet : ℕ) (octets : List ℕ) → IsBytes (octet ∷ octets) → codes "-" ≡ encode_lower (octet ∷ octets) → ⊥
 not_none octet octets all e = absurd (let none : IsFree 45 (codes "-") = subst (IsFree 45) (sym e) (hex_free 45 (octet ∷ octets) (omega arith) all) in cc)

@@ -9,9 +9,9 @@ use Rattle.std.proofs.lemmas.Bool.Decides.{nat_tests}
 use Rattle.std.proofs.lemmas.List.{take_more_same}
 use Rattle.std.proofs.lemmas.Nat.{and_block, and_le_r}
 use Rattle.std.proofs.lemmas.Nat.Bits.{bit_at_and, and_pow}
+use Rattle.dms_wire_ber.specs.NameOrder.{is_before}
 use Rattle.dms_wire_ber.specs.ObjectIdentifier.{IsName}
 use Rattle.dms_wire_ber.specs.NameReading.{numbers_of}
-use Rattle.dms_device.specs.Objects.{is_before}
 use Rattle.dms_device.specs.View.{number_of_octets, eight_octets}
 use Rattle.dms_device.proofs.FirstOctets.{above, below, octets_differ}
 

@@ -7,10 +7,9 @@ use Rattle.std.proofs.lemmas.Bool.Decides.{nat_tests}
 use Rattle.std.proofs.lemmas.Bool.{cases_lt}
 use Rattle.dms_wire_ber.specs.ObjectIdentifier.{IsName}
 use Rattle.dms_wire_ber.specs.NameReading.{part_after, goes_on, numbers_of, sub_identifiers_after}
-use Rattle.dms_wire_ber.specs.NameOrder.{numbers_cmp}
+use Rattle.dms_wire_ber.specs.NameOrder.{numbers_cmp, is_before}
 use Rattle.dms_wire_ber.proofs.Names.{name_only}
 use Rattle.dms_wire_ber.proofs.NameWalk.{same_order}
-use Rattle.dms_device.specs.Objects.{is_before}
 
 -- ---- a step over an octet
 

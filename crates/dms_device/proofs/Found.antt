@@ -5,9 +5,10 @@ use Rattle.std.proofs.lemmas.Bool.{and_parts, or_parts, both_ways, false_from_ne
 use Rattle.std.proofs.lemmas.List.Sums.{position_or_len_is, fails_before_first, passes_at_first}
 use Rattle.std.proofs.lemmas.List.Folds.{list_any_none}
 use Rattle.std.proofs.lemmas.List.{get_or_default}
+use Rattle.dms_wire_ber.specs.NameOrder.{is_before}
 use Rattle.dms_wire.specs.Message.{ObjectValue, VarBind}
 use Rattle.dms_device.specs.Object.{DeviceObject}
-use Rattle.dms_device.specs.Objects.{is_before, has_name, comes_after, rises, device_value, binding_of, device_after}
+use Rattle.dms_device.specs.Objects.{has_name, comes_after, rises, device_value, binding_of, device_after}
 use Rattle.dms_device.proofs.Order.{same_name, before_differs, after_differs, all_at, later_after}
 
 -- ---- halving

@@ -1,24 +1,12 @@
 -- The order of names, and lists of objects in which it rises.
-use Rattle.std.proofs.Common.{◌≡◌, ℕ, zero, suc, ◌<◌, ◌≤◌, Bool, true, false, Less, Ordering, List, [], ◌∷◌, get_or, length, refl, ap, subst, arith}
+use Rattle.std.proofs.Common.{◌≡◌, ℕ, zero, suc, ◌<◌, ◌≤◌, Bool, true, false, List, [], ◌∷◌, get_or, length, refl, ap, subst, arith}
 use Rattle.std.specs.Cmp.Lexicographic.{bytes_decides}
 use Rattle.std.specs.List.{list_all, list_any}
-use Rattle.std.specs.Ordering.{is_lt}
 use Rattle.std.proofs.lemmas.Bool.{and_parts, and_from, both_ways, false_from_ne_true}
-use Rattle.std.proofs.lemmas.Cmp.{nat_list_cmp_total, tied_itself}
-use Rattle.dms_wire_ber.specs.NameOrder.{numbers_cmp}
+use Rattle.dms_wire_ber.specs.NameOrder.{is_before}
+use Rattle.dms_wire_ber.proofs.NameOrderLaws.{before_trans, not_before_itself}
 use Rattle.dms_device.specs.Object.{DeviceObject}
-use Rattle.dms_device.specs.Objects.{is_before, has_name, comes_after, rises}
-
-less : (o : Ordering) → is_lt o ≡ true → o ≡ Less
-less o h = grind arith
-
-pub before_trans : (a b c : List ℕ) → is_before a b ≡ true → is_before b c ≡ true → is_before a c ≡ true
-before_trans a b c h g =
-    let total = nat_list_cmp_total in
-    ap is_lt (total.trans a b c (less (numbers_cmp a b) h) (less (numbers_cmp b c) g))
-
-pub not_before_itself : (a : List ℕ) → is_before a a ≡ false
-not_before_itself a = ap is_lt (tied_itself nat_list_cmp_total a)
+use Rattle.dms_device.specs.Objects.{has_name, comes_after, rises}
 
 pub same_name : (name : List ℕ) (o : DeviceObject) → has_name name o ≡ true → o.name ≡ name
 same_name name o h = (bytes_decides o.name name).0 h

@@ -5,14 +5,15 @@ use Rattle.std.proofs.lemmas.Bool.{and_parts, and_from, or_parts, both_ways, fal
 use Rattle.std.specs.Ordering.{is_lt, ordering_reverse}
 use Rattle.std.proofs.lemmas.Cmp.{nat_list_cmp_total}
 use Rattle.std.proofs.lemmas.Map.Lookups.{exact_bytes}
-use Rattle.dms_wire_ber.specs.NameOrder.{numbers_cmp}
+use Rattle.dms_wire_ber.proofs.NameOrderLaws.{before_trans, not_before_itself}
+use Rattle.dms_wire_ber.specs.NameOrder.{numbers_cmp, is_before}
 use Rattle.dms_wire.specs.Message.{VarBind}
 use Rattle.dms_device.specs.Object.{DeviceObject}
-use Rattle.dms_device.specs.Objects.{is_before, has_name, comes_after, rises}
+use Rattle.dms_device.specs.Objects.{has_name, comes_after, rises}
 use Rattle.dms_device.specs.Publishing.{published, withdrawn}
 use Rattle.dms_device.specs.Setting.{set_to, set_by_binding}
 use Rattle.dms_device.proofs.Found.{HasNameAt}
-use Rattle.dms_device.proofs.Order.{before_trans, not_before_itself, same_name, names_itself, before_differs, after_differs, all_at, none_of, all_after}
+use Rattle.dms_device.proofs.Order.{same_name, names_itself, before_differs, after_differs, all_at, none_of, all_after}
 
 -- ---- publishing
 

@@ -3,14 +3,9 @@
 use Rattle.std.specs.Prelude.{ℕ, Bool, true, ◌&&◌, List, [], ◌∷◌, nat_eq, Option, option_map}
 use Rattle.std.specs.List.{find, list_all}
 use Rattle.std.specs.Cmp.Lexicographic.{pointwise}
-use Rattle.std.specs.Ordering.{is_lt}
-use Rattle.dms_wire_ber.specs.NameOrder.{numbers_cmp}
+use Rattle.dms_wire_ber.specs.NameOrder.{is_before}
 use Rattle.dms_wire.specs.Message.{ObjectValue, VarBind}
 use Rattle.dms_device.specs.Object.{DeviceObject}
-
--- the first name comes before the second one
-abbrev pub is_before : List ℕ → List ℕ → Bool
-is_before first second = is_lt (numbers_cmp first second)
 
 abbrev pub has_name : List ℕ → DeviceObject → Bool
 has_name name object = pointwise nat_eq object.name name

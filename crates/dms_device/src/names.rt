@@ -3,9 +3,9 @@
 
 ghost use Rattle.std.specs.Prelude.{◌≡◌, ◌+◌, ◌≤◌, take, length, nat_eq, IfSome};
 ghost use Rattle.std.specs.Cmp.Lexicographic.{pointwise};
+ghost use Rattle.dms_wire_ber.specs.NameOrder.{is_before};
 ghost use Rattle.dms_wire_ber.specs.ObjectIdentifier.{IsName};
 ghost use Rattle.dms_wire_ber.specs.NameReading.{numbers_of};
-ghost use Rattle.dms_device.specs.Objects.{is_before};
 ghost use Rattle.dms_device.specs.View.{eight_octets};
 
 use crate::held::content_of;

@@ -2,7 +2,7 @@
 use Rattle.std.proofs.Common.{◌≡◌, ℕ, ◌<◌, true, false, Less, Equal, Greater, List, ◌∷◌, refl, sym}
 use Rattle.std.specs.Ordering.{nat_cmp}
 use Rattle.std.specs.Cmp.{nat_cmp_is}
-use Rattle.dms_mib_replies.specs.Walk.{is_before}
+use Rattle.dms_wire_ber.specs.NameOrder.{is_before}
 
 cmp_less : (x y : ℕ) → x < y → Less ≡ nat_cmp x y
 cmp_less x y h = nat_cmp_is x y Less h

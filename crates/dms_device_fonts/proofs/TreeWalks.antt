@@ -3,8 +3,9 @@ use Rattle.std.proofs.Common.{◌≡◌, ℕ, zero, suc, ◌+◌, ◌-◌, ◌<�
 use Rattle.std.specs.Prelude.{nat_le, nat_lt, option_map}
 use Rattle.std.proofs.lemmas.Bool.{cases_lt, both_ways}
 use Rattle.std.proofs.lemmas.Bool.Decides.{nat_tests}
+use Rattle.dms_wire_ber.specs.NameOrder.{is_before}
 use Rattle.dms_wire.specs.Message.{ObjectValue, VarBind}
-use Rattle.dms_mib_replies.specs.Walk.{is_before, IsNext, Follows, IsWalk}
+use Rattle.dms_mib_replies.specs.Walk.{IsNext, Follows, IsWalk}
 use Rattle.dms_device_fonts.specs.Tree.{Tree, Leaf, Span, tree_value, tree_first, tree_after, first_from, or_first, below}
 use Rattle.dms_device_fonts.proofs.Orders.{lower_first, higher_first, same_first}
 

@@ -1,7 +1,8 @@
 -- Texts that grow by one piece for each number, or for each thing of a list.
 use Rattle.std.proofs.Common.{◌≡◌, ℕ, zero, suc, ◌+◌, ◌<◌, List, [], ◌∷◌, ◌++◌, length, take, get_or, flat_map, sym, ap, ◌∙◌, arith}
 use Rattle.std.specs.List.{range_with_len, enumerate_from}
-use Rattle.std.proofs.lemmas.List.{flat_map_more, take_more, length-take-le}
+use Rattle.std.proofs.lemmas.List.{flat_map_more}
+use Rattle.dms_face.proofs.Lists.{numbered_more}
 
 -- ---- numbers
 
@@ -24,21 +25,6 @@ number_more text n old now next so_far more =
     more ∙ ap (λ xs. xs ++ text n) so_far ∙ flat_map_more text old (range_with_len 0 n) n ∙ ap (λ xs. old ++ flat_map text xs) (range_more n)
 
 -- ---- things, each with its number
-
-numbered_push : {A : Type 0} (first : ℕ) (xs : List A) (x : A) → enumerate_from first (xs ++ x ∷ []) ≡ enumerate_from first xs ++ (first + length xs, x) ∷ []
-numbered_push first [] x = let same : first ≡ first + 0 = omega arith in ap (λ n. (n, x) ∷ []) same
-numbered_push first (y ∷ xs) x =
-    let same : (first + 1) + length xs ≡ first + suc (length xs) = omega arith in
-    ap (λ rest. (first, y) ∷ rest) (numbered_push (first + 1) xs x ∙ ap (λ n. enumerate_from (first + 1) xs ++ (n, x) ∷ []) same)
-
-numbered_more : {A : Type 0} (xs : List A) (n : ℕ) (other : A) → n < length xs
-    → enumerate_from 1 (take n xs) ++ (n + 1, get_or xs n other) ∷ [] ≡ enumerate_from 1 (take (n + 1) xs)
-numbered_more xs n other less =
-    let size : length (take n xs) ≡ n = length-take-le n xs (omega (arith, less)) in
-    let number : n + 1 ≡ 1 + length (take n xs) = omega (arith, size) in
-    ap (λ k. enumerate_from 1 (take n xs) ++ (k, get_or xs n other) ∷ []) number
-    ∙ sym (numbered_push 1 (take n xs) (get_or xs n other))
-    ∙ ap (enumerate_from 1) (sym (take_more xs n other less))
 
 -- the text of one thing more
 pub thing_more : {A : Type 0} (text : ℕ × A → List ℕ) (xs : List A) (n : ℕ) (x : A) (old now next : List ℕ) → n < length xs → x ≡ get_or xs n x

@@ -5,7 +5,8 @@ use Rattle.std.specs.Int.Digits.{digits_of}
 use Rattle.std.proofs.lemmas.Int.Digits.{first_digits_of, digits_of_step}
 use Rattle.std.proofs.lemmas.Bool.{cases_lt}
 use Rattle.dms_wire_ber.specs.ObjectIdentifier.{sub_identifier_octets}
-use Rattle.dms_mib.proofs.SubIdentifiers.{one_octet, two_octets}
+use Rattle.dms_mib.proofs.SubIdentifiers.{one_octet}
+use Rattle.dms_wire_ber.proofs.SubIdentifiers.{two_octets}
 use Rattle.dms_mib_instances.specs.NameReading.{octets_below, row_number_of}
 
 -- the numbers begin with one of one octet, or with one of 128 or more

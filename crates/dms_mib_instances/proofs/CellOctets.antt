@@ -5,7 +5,8 @@ use Rattle.dms_mib.specs.declared.instance.Instance.TheVariants.{Cell}
 use Rattle.dms_mib.specs.Names.{column_number}
 use Rattle.dms_mib.specs.NameOctets.{IsNamed}
 use Rattle.dms_mib.proofs.NameLaws.{cell_named}
-use Rattle.dms_mib.proofs.SubIdentifiers.{one_octet, two_octets}
+use Rattle.dms_mib.proofs.SubIdentifiers.{one_octet}
+use Rattle.dms_wire_ber.proofs.SubIdentifiers.{two_octets}
 
 -- sixteen octets, where the number has one too
 pub short_named : (column : Column) (first memory number : ℕ) → first ≡ column_number column → memory < 128 → number < 128

@@ -1,6 +1,7 @@
 -- The cell that comes next in a column, and what comes after its last.
 use Rattle.std.proofs.Common.{◌≡◌, ◌⊎◌, inl, inr, ℕ, ◌+◌, ◌<◌, ◌≤◌, true, List, [], ◌∷◌, Some, None, sym, subst, ◌∙◌, arith}
 use Rattle.std.proofs.lemmas.Bool.Decides.{nat_tests}
+use Rattle.dms_wire_ber.specs.NameOrder.{is_before}
 use Rattle.dms_codes.specs.declared.row_id.RowId.{RowId}
 use Rattle.dms_mib.specs.declared.column.Column.{Column}
 use Rattle.dms_mib.specs.declared.instance.Instance.{Instance}
@@ -8,7 +9,7 @@ use Rattle.dms_mib.specs.declared.instance.Instance.TheVariants.{Scalar, Cell}
 use Rattle.dms_mib.specs.Names.{below_dms, column_number, name_of, cell_name}
 use Rattle.dms_table.specs.Rows.{TableModel}
 use Rattle.dms_mib_instances.specs.declared.counts.Counts.{Counts}
-use Rattle.dms_mib_instances.specs.Objects.{is_before, comes_after, next_instance, IsInstance}
+use Rattle.dms_mib_instances.specs.Objects.{comes_after, next_instance, IsInstance}
 use Rattle.dms_mib_instances.specs.Places.{HasCounts, AreOctets, row_place, IsRow, IsFirstRow}
 use Rattle.dms_mib_instances.specs.NameReading.{column_at, octets_below, row_number_of}
 use Rattle.dms_mib_instances.proofs.InOrder.{alike_is, smaller, larger}

@@ -2,6 +2,8 @@
 use Rattle.std.proofs.Common.{◌≡◌, ◌⊎◌, ◌==◌, ◌&&◌, ℕ, zero, suc, ◌+◌, ◌<◌, ◌≤◌, Bool, true, false, cond, List, [], ◌∷◌, ◌++◌, find, Option, Some, None, slice_get, refl, sym, ap, ◌∙◌, arith}
 use Rattle.std.proofs.lemmas.Bool.{both_ways}
 use Rattle.std.proofs.lemmas.Bool.Decides.{nat_tests}
+use Rattle.dms_wire_ber.proofs.NameOrderLaws.{before_trans, not_before_itself}
+use Rattle.dms_wire_ber.specs.NameOrder.{is_before}
 use Rattle.dms_codes.specs.declared.row_id.RowId.{RowId}
 use Rattle.dms_mib.specs.declared.column.Column.{Column}
 use Rattle.dms_mib.specs.declared.scalar.Scalar.{Scalar}
@@ -11,10 +13,10 @@ use Rattle.dms_mib.specs.declared.instance.Instance.TheVariants as kinds
 use Rattle.dms_mib.specs.Names.{below_dms, column_number, scalar_number, name_of}
 use Rattle.dms_table.specs.Rows.{TableModel}
 use Rattle.dms_mib_instances.specs.declared.counts.Counts.{Counts}
-use Rattle.dms_mib_instances.specs.Objects.{instances, is_before, comes_after, next_instance, IsInstance, IsFirstAfter, FirstAfter}
+use Rattle.dms_mib_instances.specs.Objects.{instances, comes_after, next_instance, IsInstance, IsFirstAfter, FirstAfter}
 use Rattle.dms_mib_instances.specs.Places.{HasCounts, IsRow}
 use Rattle.dms_mib_instances.specs.NameReading.{scalar_at}
-use Rattle.dms_mib_instances.proofs.InOrder.{smaller, larger, before_trans, not_before_itself, next_is_first}
+use Rattle.dms_mib_instances.proofs.InOrder.{smaller, larger, next_is_first}
 use Rattle.dms_mib_instances.proofs.Inverses.{scalar_back}
 use Rattle.dms_mib_instances.proofs.WhichInstances.{object_there, there_counted}
 

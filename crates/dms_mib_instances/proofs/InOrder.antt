@@ -1,14 +1,13 @@
 -- The instances of a sign stand in the strict order of their names; what the walk finds.
-use Rattle.std.proofs.Common.{◌≡◌, ◌⊎◌, inl, inr, ℕ, zero, suc, ◌+◌, ◌<◌, Bool, true, false, ◌&&◌, nat_eq, Less, Ordering, List, [], ◌∷◌, ◌++◌, map, flat_map, find, Option, Some, None, slice_get, refl, sym, ap, subst, ◌∙◌, arith}
+use Rattle.std.proofs.Common.{◌≡◌, ◌⊎◌, inl, inr, ℕ, zero, suc, ◌+◌, ◌<◌, Bool, true, false, ◌&&◌, nat_eq, List, [], ◌∷◌, ◌++◌, map, flat_map, find, Option, Some, None, slice_get, refl, sym, ap, subst, ◌∙◌, arith}
 use Rattle.std.specs.Cmp.Lexicographic.{pointwise, bytes_decides}
 use Rattle.std.specs.List.{range_with_len}
-use Rattle.std.specs.Ordering.{is_lt}
 use Rattle.std.proofs.lemmas.Bool.Decides.{nat_tests}
 use Rattle.std.proofs.lemmas.Bool.{and_parts, and_from, both_ways, cond-true, cond-false, false_from_ne_true}
 use Rattle.dms_wire_ber.proofs.Elements.{chosen}
-use Rattle.std.proofs.lemmas.Cmp.{nat_list_cmp_total, tied_itself}
 use Rattle.std.proofs.lemmas.Option.{same_Some}
-use Rattle.dms_wire_ber.specs.NameOrder.{numbers_cmp}
+use Rattle.dms_wire_ber.specs.NameOrder.{is_before}
+use Rattle.dms_wire_ber.proofs.NameOrderLaws.{before_trans, not_before_itself}
 use Rattle.dms_mib.specs.declared.column.Column.{Column}
 use Rattle.dms_codes.specs.declared.memory.Memory.{Memory}
 use Rattle.dms_codes.specs.declared.row_id.RowId.{RowId}
@@ -21,20 +20,9 @@ use Rattle.dms_table.specs.Rows.{TableModel}
 use Rattle.dms_mib.specs.declared.instance.Instance.{Instance}
 use Rattle.dms_mib.specs.declared.instance.Instance.TheVariants.{Cell}
 use Rattle.dms_mib.specs.Names.{name_of}
-use Rattle.dms_mib_instances.specs.Objects.{every_memory, count_in, rows_in, row_ids, cells, instances_of, instances, is_before, has_name, comes_after, instance_named, next_instance, IsInstance, FirstAfter}
+use Rattle.dms_mib_instances.specs.Objects.{every_memory, count_in, rows_in, row_ids, cells, instances_of, instances, has_name, comes_after, instance_named, next_instance, IsInstance, FirstAfter}
 
 -- ---- the order of names
-
-less : (o : Ordering) → is_lt o ≡ true → o ≡ Less
-less o h = grind arith
-
-pub before_trans : (a b c : List ℕ) → is_before a b ≡ true → is_before b c ≡ true → is_before a c ≡ true
-before_trans a b c h g =
-    let total = nat_list_cmp_total in
-    ap is_lt (total.trans a b c (less (numbers_cmp a b) h) (less (numbers_cmp b c) g))
-
-pub not_before_itself : (a : List ℕ) → is_before a a ≡ false
-not_before_itself a = ap is_lt (tied_itself nat_list_cmp_total a)
 
 before_differs : (a b : List ℕ) → is_before a b ≡ true → pointwise nat_eq a b ≡ false
 before_differs a b h =

@@ -1,9 +1,10 @@
 -- What comes next, by the octets of the numbers below dms.
 use Rattle.std.proofs.Common.{◌≡◌, inl, inr, ℕ, ◌+◌, ◌<◌, ◌≤◌, false, List, [], ◌∷◌, None, refl, sym, ap, ◌∙◌, arith}
+use Rattle.dms_wire_ber.specs.NameOrder.{is_before}
 use Rattle.dms_mib.specs.Names.{below_dms, column_number}
 use Rattle.dms_table.specs.Rows.{TableModel}
 use Rattle.dms_mib_instances.specs.declared.counts.Counts.{Counts}
-use Rattle.dms_mib_instances.specs.Objects.{is_before, next_instance}
+use Rattle.dms_mib_instances.specs.Objects.{next_instance}
 use Rattle.dms_mib_instances.specs.Places.{HasCounts}
 use Rattle.dms_mib_instances.specs.NameReading.{octets_below, column_at}
 use Rattle.dms_mib_instances.proofs.InOrder.{larger}

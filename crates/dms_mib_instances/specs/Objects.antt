@@ -3,8 +3,7 @@ use Rattle.std.specs.Prelude.{◌⊎◌, ◌≡◌, ℕ, Bool, true, false, List
 use Rattle.std.specs.Prelude.{map, length, nat_eq, Option, Some, None, slice_get}
 use Rattle.std.specs.List.{find, flat_map, range_with_len}
 use Rattle.std.specs.Cmp.Lexicographic.{pointwise}
-use Rattle.std.specs.Ordering.{is_lt}
-use Rattle.dms_wire_ber.specs.NameOrder.{numbers_cmp}
+use Rattle.dms_wire_ber.specs.NameOrder.{is_before}
 use Rattle.dms_mib.specs.declared.column.Column.{Column}
 use Rattle.dms_codes.specs.declared.row_id.RowId.{RowId}
 use Rattle.dms_mib.specs.declared.objects.Instances.{Instances}
@@ -58,10 +57,6 @@ unfoldable pub instances : TableModel → List Instance
 instances table = flat_map (instances_of table) every_object
 
 -- ---- the walk
-
--- the first name comes before the second one
-abbrev pub is_before : List ℕ → List ℕ → Bool
-is_before first second = is_lt (numbers_cmp first second)
 
 abbrev pub has_name : List ℕ → Instance → Bool
 has_name name i = pointwise nat_eq (name_of i) name

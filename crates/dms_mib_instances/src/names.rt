@@ -1,10 +1,11 @@
 //! What a name's octets say of its numbers.
 
 ghost use Rattle.std.specs.Prelude.{◌≡◌, ◌∷◌, [], ℕ, List, true};
+ghost use Rattle.dms_wire_ber.specs.NameOrder.{is_before};
 ghost use Rattle.dms_wire_ber.specs.ObjectIdentifier.{name_octets, under_dms};
 ghost use Rattle.dms_mib.specs.NameOctets.{IsNamed};
 ghost use Rattle.dms_mib.specs.Names.{below_dms};
-ghost use Rattle.dms_mib_instances.specs.Objects.{has_name, is_before};
+ghost use Rattle.dms_mib_instances.specs.Objects.{has_name};
 ghost use Rattle.dms_mib_instances.specs.NameReading.{octets_below};
 
 use dms_mib::Instance;

@@ -1,12 +1,7 @@
 -- A walk, by what names read and by what comes next (RFC 1157, 4.1.3).
 use Rattle.std.specs.Prelude.{◌≡◌, ℕ, Bool, true, List, Option, Some, None}
-use Rattle.std.specs.Ordering.{is_lt}
-use Rattle.dms_wire_ber.specs.NameOrder.{numbers_cmp}
+use Rattle.dms_wire_ber.specs.NameOrder.{is_before}
 use Rattle.dms_wire.specs.Message.{ObjectValue, VarBind}
-
--- the first name comes before the second one
-abbrev pub is_before : List ℕ → List ℕ → Bool
-is_before first second = is_lt (numbers_cmp first second)
 
 -- the binding reads its name's value and comes after a name, and of what is between them nothing is read
 pub record IsNext (reads : List ℕ → Option ObjectValue) (name : List ℕ) (b : VarBind) : Type 0 where

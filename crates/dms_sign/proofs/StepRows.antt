@@ -114,7 +114,7 @@ asked_keeps table new id ask e = asked_if (may_ask table ask) table new id ask e
 
 -- ---- writing
 
-field_status : (row : RowModel) (field : FieldModel) → (with_field row field).status ≡ row.status
+pub field_status : (row : RowModel) (field : FieldModel) → (with_field row field).status ≡ row.status
 field_status row (Text octets) = refl
 field_status row (Owner octets) = refl
 field_status row (Beacon on) = refl

@@ -53,7 +53,7 @@ displays_as face defaults table before id a b same p = grind arith
 
 -- ---- a decision, where it is known whether the code is of the current buffer or of a blank message
 
-abbrev put_up_if : Bool → Defaults → ShownModel → Activation → RowReading → ShownModel
+abbrev pub put_up_if : Bool → Defaults → ShownModel → Activation → RowReading → ShownModel
 put_up_if current defaults shown code message = record {
   text = message.row.text;
   owner = message.row.owner;

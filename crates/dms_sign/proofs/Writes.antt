@@ -23,6 +23,7 @@ use Rattle.dms_table.specs.Activation.{ShownModel, put_up_row, row_refusal, unle
 use Rattle.dms_sign_access.specs.Access.{Write, SetNumber, SetCode, SetField, AskRow, Activate, SetRemaining}
 use Rattle.dms_sign.specs.SetRequest.{with_write, with_writes}
 use Rattle.dms_sign.proofs.InRangeLists.{if_mapped}
+use Rattle.dms_sign.proofs.StepRows.{field_status}
 
 -- ---- rows
 
@@ -80,13 +81,6 @@ numbered_like old new number are = numbered_by (number == 0) (slice_get old (num
 
 is_modified : (status : Status) → is_modifying status ≡ true → status ≡ Modifying
 is_modified status e = grind arith
-
-field_status : (row : RowModel) (field : FieldModel) → (with_field row field).status ≡ row.status
-field_status row (Text octets) = refl
-field_status row (Owner octets) = refl
-field_status row (Beacon on) = refl
-field_status row (Pixel on) = refl
-field_status row (Priority priority) = refl
 
 row_by : (rows : List RowModel) (k : ℕ) (row : RowModel) (field : FieldModel) (b c : Bool) → slice_get rows k ≡ Some row → is_modifying row.status ≡ b
     → IfSome (option_map (slice_set rows k) (cond (b && c) (Some (with_field row field)) None)) (AreLike rows)

@@ -1,9 +1,8 @@
 -- The fields of a sign in range are fields that a text can say.
-use Rattle.std.proofs.Common.{◌≡◌, ℕ, zero, suc, ◌+◌, ◌≤◌, ◌<◌, Bool, true, false, cond, List, [], ◌∷◌, length, slice_index, Option, Some, None, refl, arith}
+use Rattle.std.proofs.Common.{◌≡◌, ℕ, ◌+◌, ◌≤◌, ◌<◌, Bool, true, false, cond, List, [], ◌∷◌, length, slice_index, Option, Some, None, refl, arith}
 use Rattle.std.specs.Prelude.{IfSome}
 use Rattle.std.specs.List.{AllByRecursion}
-use Rattle.std.specs.Int.Digits.{AllBelowBase}
-use Rattle.hex.specs.Hex.{IsBytes}
+use Rattle.dms_text_exact.proofs.DigitLaws.{bytes_below}
 use Rattle.dms_codes.specs.declared.codes.Order.{Order}
 use Rattle.dms_codes.specs.declared.codes.Order.TheVariants.{High, Swapped}
 use Rattle.dms_codes.specs.declared.codes.MessageId.{MessageId}
@@ -25,14 +24,6 @@ use Rattle.dms_sign_state.specs.Fields.{UsedRow, AreOctets, IsCode, IsMessage, I
 use Rattle.dms_sign_state.specs.StateText.{message_of, used_row, used_rows, put_fields, fields_of}
 
 -- ---- octets
-
-bytes_more : (octet : ℕ) (octets : List ℕ) → octet < 256 → IsBytes octets → IsBytes (octet ∷ octets)
-bytes_more octet octets small all zero = small
-bytes_more octet octets small all (suc i) = all i
-
-bytes_below : (octets : List ℕ) → AllBelowBase 256 octets → IsBytes octets
-bytes_below [] below = λ i. omega arith
-bytes_below (octet ∷ octets) below = bytes_more octet octets below.0 (bytes_below octets below.1)
 
 octets_are : (count : ℕ) (octets : List ℕ) → range.AreOctets count octets → IsCode count octets
 octets_are count octets are = (are.size, bytes_below octets are.below)

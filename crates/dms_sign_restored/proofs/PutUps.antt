@@ -30,6 +30,7 @@ use Rattle.dms_table.specs.SavedShown.{is_mode, is_blank_by_its_source, is_blank
 use Rattle.dms_table.specs.Validation.{verdict_without_fault, text_verdict, verdict_of, settling_row, verdict}
 use Rattle.dms_sign_access.specs.declared.reports.Reports.{Reports}
 use Rattle.dms_sign_access.specs.Reports.{no_error, text_reports, settled_reports, refused_reports, is_validation_error, is_activation_error, is_text_error, is_syntax_error, is_place_of}
+use Rattle.dms_sign.proofs.StepShown.{put_up_if}
 use Rattle.dms_sign.specs.State.{SignState, power_loss_mode}
 use Rattle.dms_sign.specs.OwnCodes.{own_activation, put_up_as_decided, staying, put_up_code}
 use Rattle.dms_sign.proofs.InRangeLists.{either, if_mapped}
@@ -39,20 +40,6 @@ use Rattle.dms_sign_restored.proofs.ToldFaults.{IsTold, fault_told}
 
 abbrev pub IsBlankBySource : ShownModel → Type 0
 IsBlankBySource shown = is_blank_by_its_source shown ≡ true
-
-abbrev put_up_if : Bool → Defaults → ShownModel → Activation → RowReading → ShownModel
-put_up_if current defaults shown code message = record {
-  text = message.row.text;
-  owner = message.row.owner;
-  beacon = message.row.beacon;
-  pixel = message.row.pixel;
-  priority = message.row.priority;
-  source = cond current shown.source code.id;
-  mode = mode_number Central;
-  address = code.address;
-  remaining = seconds_of code.minutes;
-  defaults = cond current shown.defaults defaults;
-}
 
 still_blank : (defaults : Defaults) (shown : ShownModel) (code : Activation) → IsBlankBySource shown → IsBlankBySource (put_up_if true defaults shown code (shown_reading shown))
 still_blank defaults shown code is = is

@@ -1,32 +1,18 @@
 -- The rows of a type of memory, one by one.
-use Rattle.std.proofs.Common.{◌≡◌, ℕ, suc, ◌+◌, ◌-◌, ◌<◌, ◌==◌, Bool, true, false, cond, List, [], ◌∷◌, ◌++◌, length, take, get_or, slice_get, flat_map, Some, None, option_map, refl, sym, ap, ◌∙◌, subst, arith}
+use Rattle.std.proofs.Common.{◌≡◌, ℕ, ◌+◌, ◌-◌, ◌<◌, ◌==◌, Bool, true, false, cond, List, [], ◌∷◌, ◌++◌, length, take, get_or, slice_get, flat_map, Some, None, option_map, refl, sym, ap, ◌∙◌, subst, arith}
 use Rattle.std.specs.List.{enumerate_from}
 use Rattle.std.proofs.lemmas.Bool.{eqb-true}
-use Rattle.std.proofs.lemmas.List.{flat_map_more, take_more, length-take-le}
+use Rattle.std.proofs.lemmas.List.{flat_map_more}
 use Rattle.std.proofs.lemmas.Option.{slice_get-get_or, same_Some}
 use Rattle.dms_text_filling.specs.Filling.{Puts}
 use Rattle.dms_text_filling.proofs.Parts.{two}
+use Rattle.dms_face.proofs.Lists.{numbered_more}
 use Rattle.dms_codes.specs.Memory.{blank_memory}
 use Rattle.dms_codes.specs.Status.{is_not_used}
 use Rattle.dms_sign_state.specs.Fields.{UsedRow}
 use Rattle.dms_sign_state.specs.FieldsText.{row_line, row_lines}
 use Rattle.dms_sign_state.specs.StateText.{used_row, used_rows, row_text, rows_text}
 use Rattle.dms_table.specs.Rows.{RowModel, TableModel, RowReading, rows_of, numbered, row_read, reading, blank_reading, blank_at}
-
-numbered_push : {A : Type 0} (first : ℕ) (xs : List A) (x : A) → enumerate_from first (xs ++ x ∷ []) ≡ enumerate_from first xs ++ (first + length xs, x) ∷ []
-numbered_push first [] x = let same : first ≡ first + 0 = omega arith in ap (λ n. (n, x) ∷ []) same
-numbered_push first (y ∷ xs) x =
-    let same : (first + 1) + length xs ≡ first + suc (length xs) = omega arith in
-    ap (λ rest. (first, y) ∷ rest) (numbered_push (first + 1) xs x ∙ ap (λ n. enumerate_from (first + 1) xs ++ (n, x) ∷ []) same)
-
-numbered_more : {A : Type 0} (xs : List A) (n : ℕ) (other : A) → n < length xs
-    → enumerate_from 1 (take n xs) ++ (n + 1, get_or xs n other) ∷ [] ≡ enumerate_from 1 (take (n + 1) xs)
-numbered_more xs n other less =
-    let size : length (take n xs) ≡ n = length-take-le n xs (omega (arith, less)) in
-    let number : n + 1 ≡ 1 + length (take n xs) = omega (arith, size) in
-    ap (λ k. enumerate_from 1 (take n xs) ++ (k, get_or xs n other) ∷ []) number
-    ∙ sym (numbered_push 1 (take n xs) (get_or xs n other))
-    ∙ ap (enumerate_from 1) (sym (take_more xs n other less))
 
 -- the text of one row more
 pub row_more : {A : Type 0} (text : ℕ × A → List ℕ) (xs : List A) (n : ℕ) (x : A) (from now next : ℕ) (before written last : List ℕ) → n < length xs

@@ -1,6 +1,7 @@
 -- Octets are read of their small digits, and of no others.
 use Rattle.std.proofs.Common.{◌≡◌, ℕ, zero, suc, ◌+◌, ◌-◌, ◌*◌, ◌/◌, ◌%◌, ◌<◌, ◌≤◌, ◌==◌, ◌||◌, ◌&&◌, Bool, true, false, cond, not, is_some, List, [], ◌∷◌, length, nat_le, nat_lt, slice_index, All, Some, None, Result, Ok, Err, codes, refl, sym, ap, ◌∙◌, arith, inl, inr}
 use Rattle.std.specs.List.{list_all}
+use Rattle.std.specs.Int.Digits.{AllBelowBase}
 use Rattle.std.proofs.lemmas.Bool.Decides.{nat_tests}
 use Rattle.std.proofs.lemmas.Bool.{and_parts, and_from, or_from, leb-true, le-leb, ltb-true, eqb-true, ne_eqb, cases_lt}
 use Rattle.std.proofs.lemmas.Option.{same_Some}
@@ -118,6 +119,10 @@ pub record IsHex (word : List ℕ) : Type 0 where
 pub bytes_more : (octet : ℕ) (octets : List ℕ) → octet < 256 → IsBytes octets → IsBytes (octet ∷ octets)
 bytes_more octet octets small all zero = small
 bytes_more octet octets small all (suc i) = all i
+
+pub bytes_below : (octets : List ℕ) → AllBelowBase 256 octets → IsBytes octets
+bytes_below [] below = λ i. omega arith
+bytes_below (octet ∷ octets) below = bytes_more octet octets below.0 (bytes_below octets below.1)
 
 pub all_bytes : (octets : List ℕ) → All (λ octet. octet < 256) octets → IsBytes octets
 all_bytes [] all = λ i. omega arith

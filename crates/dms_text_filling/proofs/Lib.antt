@@ -2,6 +2,10 @@
 pub mod Laid
 -- octets put into a buffer one after the other
 pub mod Parts
+-- texts of many things, one after the other
+pub mod Many
+-- a text into as many octets as it has
+pub mod Whole
 -- digits of octets, some after others
 pub mod Digits
 -- the table of the digits of octets

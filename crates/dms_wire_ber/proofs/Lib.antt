@@ -14,3 +14,5 @@ pub mod CanonicalNames
 pub mod CanonicalElements
 pub mod Shortest
 pub mod BelowDms
+pub mod NameOrderLaws
+pub mod SubIdentifiers

@@ -1,6 +1,7 @@
 use Rattle.std.proofs.Common.{arith}
 use Rattle.dms_agent_state.specs.AgentText.{kept_line}
-use Rattle.dms_agent_state.proofs.Listed.{one_more, first_left}
+use Rattle.dms_text_filling.proofs.Many.{one_more}
+use Rattle.dms_agent_state.proofs.Listed.{first_left}
 use Rattle.dms_agent_state.proofs.saving.put_lines.Goals as goal
 
 pub loop-rest-preserved : goal.loop-rest-preserved

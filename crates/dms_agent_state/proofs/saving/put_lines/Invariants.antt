@@ -1,6 +1,6 @@
 use Rattle.std.proofs.Common.{length}
 use Rattle.dms_agent_state.specs.AgentText.{kept_line}
-use Rattle.dms_agent_state.proofs.Listed.{Begun}
+use Rattle.dms_text_filling.proofs.Many.{Begun}
 use Rattle.dms_agent_state.proofs.saving.put_lines.Given as goal
 
 -- the lines of the objects before are put

@@ -1,6 +1,6 @@
 use Rattle.std.proofs.Common.{arith}
 use Rattle.dms_agent_state.specs.AgentText.{text_of_agent}
-use Rattle.dms_agent_state.proofs.Filled.{whole_text}
+use Rattle.dms_text_filling.proofs.Whole.{whole_text}
 use Rattle.dms_agent_state.proofs.saving.saved.Goals as goal
 
 pub returns : goal.returns

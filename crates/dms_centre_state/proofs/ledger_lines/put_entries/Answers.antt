@@ -3,7 +3,7 @@ use Rattle.std.specs.Map.Iter.{deref_pair}
 use Rattle.dms_centre.specs.CodeView.{entry_model}
 use Rattle.dms_centre.specs.declared.ledger.Entry.{Entry}
 use Rattle.dms_centre_state.specs.CentreText.{ledger_line}
-use Rattle.dms_centre_state.proofs.Lines.{none_put, one_more, all_put}
+use Rattle.dms_text_filling.proofs.Many.{none_put, one_more, all_put}
 use Rattle.dms_centre_state.proofs.ledger_lines.put_entries.Goals as goal
 
 pub loop-number-init : goal.loop-number-init

@@ -2,7 +2,7 @@ use Rattle.std.proofs.Common.{ℕ}
 use Rattle.dms_centre.specs.CodeView.{entry_model}
 use Rattle.dms_centre.specs.declared.ledger.Entry.{Entry}
 use Rattle.dms_centre_state.specs.CentreText.{ledger_line}
-use Rattle.dms_centre_state.proofs.Lines.{Begun}
+use Rattle.dms_text_filling.proofs.Many.{Begun}
 use Rattle.dms_centre_state.proofs.ledger_lines.put_entries.Given as goal
 
 -- the entries before are put

@@ -1,6 +1,6 @@
 use Rattle.std.proofs.Common.{arith}
 use Rattle.dms_centre_state.specs.CentreText.{text_of_state}
-use Rattle.dms_centre_state.proofs.Lines.{whole_text}
+use Rattle.dms_text_filling.proofs.Whole.{whole_text}
 use Rattle.dms_centre_state.proofs.saving.saved.Goals as goal
 
 pub returns : goal.returns

@@ -1,6 +1,6 @@
 use Rattle.std.proofs.Common.{ap, ◌∙◌, []}
+use Rattle.dms_wire_ber.specs.NameOrder.{is_before}
 use Rattle.dms_mib.specs.Names.{below_dms}
-use Rattle.dms_mib_instances.specs.Objects.{is_before}
 use Rattle.dms_mib_instances.proofs.SameOctets.{dms_named}
 use Rattle.dms_mib_instances.proofs.names.comes_before_dms.Goals as goal
 
