@@ -243,8 +243,8 @@ impl<'a> Totals<'a> {
             return text;
         }
         let place = self.side.place();
-        let size = self.characters.at(place).size;
-        let (rest, size) = run_after(self.font, limit, text, size);
+        let mut size = self.characters.at(place).size;
+        let rest = run_after(self.font, limit, text, &mut size);
         self.characters.set_size(place, size);
         rest
     }
@@ -471,26 +471,27 @@ fn begins_plainly(text: &[u8]) -> bool {
 }
 
 /// The octets after those that spell characters of the font by themselves, each behind the ones before it, as long as
-/// these take less room than the limit; and how much they take.
+/// these take less room than the limit; the size is how much they take.
 #[tactic(auto, using(crate::proofs::WidthRuns::steps), unfolding(crate::specs::Runs::run_after))]
 #[inline(never)]
-fn run_after<'t>(font: &Font, limit: u32, text: &'t [u8], size: u32) -> (&'t [u8], u32)
-    requires size { size ≤ 256 }
+fn run_after<'t>(font: &Font, limit: u32, text: &'t [u8], size: &mut u32) -> &'t [u8]
+    requires size { size.old ≤ 256 }
     requires limit { limit ≤ 257 }
-    ensures rest { result.0.now ≡ (run_after font.now limit text.now size).0 }
-    ensures size { result.1 ≡ (run_after font.now limit text.now size).1 }
-    ensures shorter { length result.0.now ≤ length text.now }
+    ensures rest { result.now ≡ (run_after font.now limit text.now size.old).0 }
+    ensures size { size.new ≡ (run_after font.now limit text.now size.old).1 }
+    ensures shorter { length result.now ≤ length text.now }
 {
     let spacing = u32::from(font.character_spacing());
     let mut rest = text;
-    let mut size = size;
+    let mut taken = *size;
     'octets: while let [octet, more @ ..] = rest {
-        let longer = size + spacing + u32::from(font.plain_width(*octet));
+        let longer = taken + spacing + u32::from(font.plain_width(*octet));
         if longer >= limit {
-            return (rest, size);
+            break;
         }
-        size = longer;
+        taken = longer;
         rest = more;
     }
-    (rest, size)
+    *size = taken;
+    rest
 }
