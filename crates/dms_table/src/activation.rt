@@ -10,6 +10,7 @@ ghost use Rattle.dms_face.specs.Layout.{under};
 ghost use Rattle.dms_table.specs.RowsView.{reading_of, IsShort};
 ghost use Rattle.dms_table.specs.Activation.{is_memory, named, activation_error, refusal, shown_by};
 ghost use Rattle.dms_table.specs.Activation.{unless_refused, decided};
+ghost use Rattle.dms_table.specs.declared.activation.Cause.TheVariants.{Syntax};
 
 use crate::row::RowView;
 use crate::shown::Shown;
@@ -188,9 +189,18 @@ fn judge_row(
     }
     match good_under {
         Some(known) if *known == *defaults => Ok(()),
-        _ => match check_with(face, defaults, row.text) {
-            Ok(_) => Ok(()),
-            Err(fault) => Err(Cause::Syntax(fault)),
-        },
+        _ => judge_text(face, defaults, row.text),
+    }
+}
+
+/// Refuses a text that does not fit.
+#[inline(never)]
+fn judge_text(face: &Face, defaults: &Defaults, text: &[u8]) -> Result<(), Cause>
+    requires { IsTrue (fit face.now.fonts defaults.now) }
+    ensures { result ≡ unless_refused tt (option_map Syntax (fault_of (under face.now defaults.now) text.now)) }
+{
+    match check_with(face, defaults, text) {
+        Ok(_) => Ok(()),
+        Err(fault) => Err(Cause::Syntax(fault)),
     }
 }

@@ -354,10 +354,16 @@ pub fn copy_of<const N: usize>(octets: &[u8]) -> ArrayVec<u8, N>
 }
 
 /// Puts these octets in the place of those that are kept.
+#[inline(never)]
 pub(crate) fn replace<const N: usize>(kept: &mut ArrayVec<u8, N>, octets: &[u8])
     requires { length octets.now ≤ N }
     ensures { kept.new.items ≡ octets.now }
 {
-    kept.clear();
-    let _ = kept.try_extend_from_slice(octets);
+    if octets.len() > kept.len() {
+        kept.clear();
+        let _ = kept.try_extend_from_slice(octets);
+    } else {
+        kept.truncate(octets.len());
+        kept.as_mut_slice().copy_from_slice(octets);
+    }
 }

@@ -2,8 +2,7 @@
 
 ghost use Rattle.std.specs.Prelude.{◌≡◌, IfNone};
 ghost use Rattle.dms_table.specs.SavedShown.{shown_saved, has_its_checksum, is_blank_of, is_blank_by_its_source};
-ghost use Rattle.dms_table.specs.SavedShown.{is_mode, is_time};
-ghost use Rattle.dms_table.specs.SavedShown.{message_fault, showing_fault, shown_fault};
+ghost use Rattle.dms_table.specs.SavedShown.{is_mode, is_time, message_fault, showing_fault, shown_fault};
 ghost use Rattle.dms_table.specs.TableView.{FitsShown};
 
 use crate::shown::Shown;

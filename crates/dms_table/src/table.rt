@@ -1,7 +1,7 @@
 //! The message table.
 
 ghost use Rattle.std.specs.Prelude.{◌≡◌, ◌⊎◌, ◌<◌, ◌+◌, IfNone, map, find, All, IsTrue, IfOk, IfErr, OnOk, OnErr};
-ghost use Rattle.std.specs.Prelude.{Some, None, IfSome, option_map, is_some, replicate};
+ghost use Rattle.std.specs.Prelude.{Some, None, IfSome, if◌then◌else◌, option_map, is_some, replicate};
 ghost use Rattle.std.specs.Option.{option_copied};
 ghost use Rattle.dms_table.specs.Rows.{unused, row_is_validating, rows_of, numbered, row_read, valid_count};
 ghost use Rattle.dms_table.specs.Rows.{unused_count, row_count, is_settling, may_ask, changed, changed_in, asked_row};
@@ -16,8 +16,8 @@ ghost use Rattle.dms_face.specs.Layout.{under};
 ghost use Rattle.dms_table.specs.Validation.{settled, verdict, ValidRowsAreGood};
 ghost use Rattle.dms_table.specs.SavedRows.{row_saved, put_over, place_fault, may_put, row_fault};
 ghost use Rattle.dms_table.specs.SavedRows.{AreEmptyWhereUnused};
-ghost use Rattle.dms_table.specs.TableView.{FitsARow, validating_with};
-ghost use Rattle.dms_table.specs.PlaceView.{IsOnly, IsPlaced, validating_after};
+ghost use Rattle.dms_table.specs.TableView.{FitsARow};
+ghost use Rattle.dms_table.specs.PlaceView.{IsOnly, IsPlaced};
 ghost use Rattle.dms_table.specs.ValidatorView.{settled_by, verdict_by, IsJudged};
 ghost use Rattle.dms_table.specs.Stock.{permanent_row, has_ranges, stock_fault, table_of, IsFirstFault};
 ghost use Rattle.dms_table.specs.Stock.{PermanentRowsAreGood, HasOctets};
@@ -212,7 +212,8 @@ impl Table {
             return Err(Refused);
         };
         let index = self.writable.of_mut(memory).ask(id.number, ask)?;
-        self.validating = validating_after(self.validating, ask, RowPlace { memory, index });
+        let place = RowPlace { memory, index };
+        note_validating(&mut self.validating, is_validate(ask), place);
         Ok(())
     }
 
@@ -252,7 +253,9 @@ impl Table {
             return Err(RowFault::Place);
         };
         let index = self.writable.of_mut(memory).put(id.number, row)?;
-        self.validating = validating_with(self.validating, row.status, RowPlace { memory, index });
+        let is_validating = row.status == Status::Validating;
+        let place = RowPlace { memory, index };
+        note_validating(&mut self.validating, is_validating, place);
         Ok(())
     }
 
@@ -270,9 +273,9 @@ impl Table {
             defaults,
         };
         let place = self.validating?;
+        self.validating = None;
         let rows = self.writable.of_mut(place.memory);
         let verdict = rows.settle(place.index, &validator);
-        self.validating = None;
         Some(verdict)
     }
 
@@ -292,29 +295,12 @@ fn is_validate(ask: Ask) -> bool
     ask == Ask::Validate
 }
 
-/// The row that is being validated once a row at a place has taken this.
-fn validating_after(validating: Option<RowPlace>, ask: Ask, place: RowPlace) -> Option<RowPlace>
-    ensures { result ≡ validating_after validating ask place }
+/// The row at a place may be the one that is being validated from now on.
+fn note_validating(validating: &mut Option<RowPlace>, is_validating: bool, place: RowPlace)
+    ensures { validating.new ≡ (if is_validating then Some place else validating.old) }
 {
-    if is_validate(ask) {
-        Some(place)
-    } else {
-        validating
-    }
-}
-
-/// The row that is being validated once a row of this status was put at a place.
-fn validating_with(
-    validating: Option<RowPlace>,
-    status: Status,
-    place: RowPlace,
-) -> Option<RowPlace>
-    ensures { result ≡ validating_with validating status place }
-{
-    if status == Status::Validating {
-        Some(place)
-    } else {
-        validating
+    if is_validating {
+        *validating = Some(place);
     }
 }
 

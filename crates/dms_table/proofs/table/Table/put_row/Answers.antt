@@ -1,5 +1,5 @@
-use Rattle.std.proofs.Common.{◌≡◌, true, length, sym, subst, ap, ◌∙◌, arith}
-use Rattle.std.specs.Prelude.{Option}
+use Rattle.std.proofs.Common.{◌≡◌, Bool, true, cond, length, Option, Some, sym, subst, ap, ◌∙◌, arith}
+use Rattle.dms_codes.specs.Status.{is_validating}
 use Rattle.dms_table.specs.declared.writable.RowPlace.{RowPlace}
 use Rattle.dms_table.specs.Rows.{TableModel}
 use Rattle.dms_table.specs.PlaceView.{of_type, IsPlaced}
@@ -20,12 +20,13 @@ invariant_of-self-2 c =
     let used = put_used c.self.inside.services put (sym c.fault.ensures.first ∙ c.in_default.is) in
     let empty = both_changed kind all.changeable all.volatile c.put.new.self c.args.id.number (put_over put) (put_empty put used)
     c.self.invariant.changeable_empty c.self.invariant.volatile_empty changed in
+    let validates : c.eq-is_validating.result ≡ is_validating put.status = grind arith in
     let may : may_put c.args.self.now put.status ≡ true = grind arith in
     let placed = put_place kind c.self.inside.validating put table c.put.new.self c.args.id.number c.in_ok-index.index c.self.invariant.placed
     (ap (λ (t : TableModel). may_put t put.status) c.self.view_is ∙ may) c.in_ok-index.ensures.index changed in
     rw (lent.changeable, lent.volatile) (record {
       placed = subst (λ (validating : Option RowPlace). IsPlaced validating (of_type kind c.put.new.self all.changeable) (of_type kind all.volatile c.put.new.self))
-          (sym c.validating_with-self-inside.ensures) placed;
+          (sym (c.note_validating.ensures ∙ ap (λ (is : Bool). cond is (Some (record { memory = kind; index = c.in_ok-index.index })) c.self.inside.validating) validates)) placed;
       changeable_empty = empty.changeable_empty;
       volatile_empty = empty.volatile_empty;
     })
