@@ -4,3 +4,4 @@ pub mod Lengths
 pub mod Requests
 pub mod Written
 pub mod ShortRequests
+pub mod ShortFields

@@ -113,7 +113,7 @@ ask_short : (ask : Ask) → ask_number ask < 128
 ask_short ask = grind arith
 
 -- the content octets of a cell's name
-cell_octets : (column : Column) (row : RowId) (number : ℕ) → number ≡ column_number column → (nat_lt row.memory 128 && nat_lt row.number 128) ≡ true
+pub cell_octets : (column : Column) (row : RowId) (number : ℕ) → number ≡ column_number column → (nat_lt row.memory 128 && nat_lt row.number 128) ≡ true
     → name_octets (cell_name column row) ≡ 43 ∷ 6 ∷ 1 ∷ 4 ∷ 1 ∷ 137 ∷ 54 ∷ 4 ∷ 2 ∷ 3 ∷ 5 ∷ 8 ∷ 1 ∷ number ∷ row.memory ∷ row.number ∷ []
 unfolding name_octets
 cell_octets column row number is short =

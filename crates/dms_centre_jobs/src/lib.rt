@@ -12,6 +12,7 @@
 #![tactic(auto)]
 
 mod command;
+mod fields;
 mod job;
 mod kept;
 mod publication;

@@ -15,6 +15,7 @@ ghost use Rattle.dms_centre_jobs.specs.Requests.{AreSettings, IsWork};
 ghost use Rattle.dms_centre_jobs.specs.CodeView.{IsPushed, asking};
 ghost use Rattle.dms_wire_ber.specs.Limits.{longest_datagram};
 
+use crate::fields::put_short_fields;
 use crate::job::Work;
 use crate::short::{is_short, put_activation, put_cause, put_short_get, put_short_set};
 use crate::step::Step;
@@ -104,7 +105,22 @@ fn ask_value<'a>(ask: Ask) -> Value<'a>
 }
 
 /// Writes the request that sets the fields of a row.
+#[inline]
 fn put_fields(community: &[u8], number: u32, work: &Work, out: &mut Out)
+    requires { length (canonical (asking community.now kinds.Set number (fields work.now))) ≤ longest_datagram }
+    ensures { out.new.items ≡ canonical (asking community.now kinds.Set number (fields work.now)) }
+{
+    let row = work.row();
+    if work.publishes && is_short(row) {
+        put_short_fields(community, number, row, &work.fields, out);
+    } else {
+        put_any_fields(community, number, work, out);
+    }
+}
+
+/// The same for a row of any numbers.
+#[inline(never)]
+fn put_any_fields(community: &[u8], number: u32, work: &Work, out: &mut Out)
     requires { length (canonical (asking community.now kinds.Set number (fields work.now))) ≤ longest_datagram }
     ensures { out.new.items ≡ canonical (asking community.now kinds.Set number (fields work.now)) }
 {

@@ -49,7 +49,7 @@ fn tag_of(kind: Kind) -> u8
 
 /// How many octets the request-id takes.
 #[inline(always)]
-fn size_of_number(number: u32) -> usize
+pub(crate) fn size_of_number(number: u32) -> usize
     ensures exact { result ≡ length (element 2 (integer_octets (pos number))) }
     ensures small { result ≤ 13 }
 {

@@ -1,4 +1,4 @@
-use Rattle.std.proofs.Common.{pos, refl, arith, length}
+use Rattle.std.proofs.Common.{pos, refl, arith}
 use Rattle.dms_wire.specs.declared.message.Header.{Header}
 use Rattle.dms_centre_jobs.proofs.ShortRequests.{short_request}
 use Rattle.dms_centre_jobs.proofs.short.put_short.Goals as goal
