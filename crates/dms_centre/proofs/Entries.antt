@@ -1,9 +1,8 @@
 -- The entries of the ledger, in the map of the code and in the list of the definitions.
-use Rattle.std.proofs.Common.{◌≡◌, ℕ, zero, suc, ◌+◌, ◌<◌, Bool, true, false, if◌then◌else◌, List, [], ◌∷◌, ◌++◌, map, length, get_or, slice_get, position, Option, None, Some, IfSome, Result, Ok, OnOk, All, refl, ap, sym, subst, ◌∙◌, arith, nat_eq}
+use Rattle.std.proofs.Common.{◌≡◌, ℕ, zero, suc, ◌+◌, ◌<◌, Bool, true, false, if◌then◌else◌, List, [], ◌∷◌, ◌++◌, map, length, get_or, slice_get, position, None, Some, Result, Ok, OnOk, All, refl, ap, sym, subst, ◌∙◌, arith, nat_eq}
 use Rattle.std.proofs.lemmas.Bool.Decides.{nat_tests}
 use Rattle.std.proofs.lemmas.List.Elements.{All-head, All-tail}
 use Rattle.std.proofs.lemmas.List.Quantifiers.{position-Some}
-use Rattle.std.proofs.lemmas.Option.{get_or_from_slice_get, slice_get-get_or, slice_get_within}
 use Rattle.std.specs.List.{AllByRecursion, IsDistinct}
 use Rattle.std.specs.Map.{keys_of, values_of}
 use Rattle.indexmap.specs.IndexMap.{insert_entry, set_value_at}
@@ -118,17 +117,8 @@ decided_at number outcome (e ∷ es) (suc i) d old distinct within is read =
 
 -- where it was found
 pub decided_found : (number : ℕ) (outcome : Outcome) (es : List (ℕ × Entry)) (i : ℕ) (old : Entry) → IsDistinct nat_eq (keys_of es)
-    → slice_get (keys_of es) i ≡ Some number → slice_get (values_of es) i ≡ Some old
+    → position (nat_eq number) (keys_of es) ≡ Some i → slice_get (values_of es) i ≡ Some old
     → ledger_model (set_value_at es i (record old { outcome = outcome })) ≡ map (with_outcome number outcome) (ledger_model es)
 decided_found number outcome es i old distinct found read =
-    let key = get_or_from_slice_get (keys_of es) i number 0 found in
-    decided_at number outcome es i 0 old distinct (slice_get_within (keys_of es) i number found) (grind (arith, nat_tests, key)) read
-
--- a number stands where it is found
-pub number_at : (number : ℕ) (keys : List ℕ) (found : Option ℕ) → found ≡ position (nat_eq number) keys
-    → IfSome found (λ i. slice_get keys i ≡ Some number)
-number_at number keys None is = tt
-number_at number keys (Some i) is =
-    let at = position-Some (nat_eq number) keys i 0 (sym is) in
-    let key : get_or keys i 0 ≡ number = grind (arith, nat_tests, at.1) in
-    slice_get-get_or keys i 0 at.0 ∙ ap Some key
+    let at = position-Some (nat_eq number) (keys_of es) i 0 found in
+    decided_at number outcome es i 0 old distinct at.0 at.1 read

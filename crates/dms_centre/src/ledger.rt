@@ -1,9 +1,6 @@
 //! The ledger: the codes that were sent, by the numbers of their requests.
 
-ghost use Rattle.std.specs.Prelude.{◌≡◌, ◌<◌, ◌++◌, ◌∷◌, [], map, nat_eq, position, slice_get, true, false};
-ghost use Rattle.std.specs.Prelude.{Some, None, IfSome, IfNone};
-ghost use Rattle.std.specs.List.{IsDistinct};
-ghost use Rattle.std.specs.Map.{keys_of};
+ghost use Rattle.std.specs.Prelude.{◌≡◌, ◌<◌, ◌++◌, ◌∷◌, [], map, true, false};
 ghost use Rattle.indexmap.specs.IndexMap.{spare};
 ghost use Rattle.dms_centre_jobs.specs.Steps.{is_activating};
 ghost use Rattle.dms_centre.specs.Sending.{entered};
@@ -103,21 +100,8 @@ pub(crate) fn decide(ledger: &mut IndexMap<u32, Entry>, number: u32, outcome: Ou
         ≡ map (with_outcome number outcome) (ledger_model ledger.old.entries) }
     ensures room { spare ledger.new ≡ spare ledger.old }
 {
-    if let Some(index) = place_of(ledger, number) {
+    if let Some(index) = ledger.get_index_of(&number) {
         ledger[index].outcome = outcome;
-    }
-}
-
-/// Where the entry of this number stands. The last, which alone can wait, is looked at first.
-fn place_of(ledger: &IndexMap<u32, Entry>, number: u32) -> Option<usize>
-    ensures found { IfSome result (λ index. slice_get (keys_of ledger.now.entries) index ≡ Some number) }
-    ensures none { IfNone result (position (nat_eq number) (keys_of ledger.now.entries) ≡ None) }
-    ensures unique { IsDistinct nat_eq (keys_of ledger.now.entries) }
-{
-    let entries = ledger.len();
-    match ledger.last() {
-        Some((last, _)) if *last == number => Some(entries - 1),
-        _ => ledger.get_index_of(&number),
     }
 }
 
