@@ -41,9 +41,8 @@ pub(crate) fn instance_number(asked: Instance, binds: Binds<'_>) -> Option<i64>
 fn number_read(asked: &Oid<'_>, binds: Binds<'_>) -> Option<i64>
     ensures { result ≡ number_read (record { name = asked.now; value = null } ∷ []) binds.entry }
 {
-    let mut binds = binds;
-    let bind = binds.next()?;
-    if binds.next().is_some() || bind.name != *asked {
+    let bind = binds.only()?;
+    if bind.name != *asked {
         return None;
     }
     match bind.value {
