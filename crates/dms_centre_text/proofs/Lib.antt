@@ -3,3 +3,4 @@ pub mod CommandCauses
 mod LedgerLines
 pub mod CodeDigits
 pub mod WantedWords
+pub mod PairLaws

@@ -9,9 +9,9 @@ ghost use Rattle.dms_centre.specs.declared.ledger.Entry.{Entry};
 ghost use Rattle.dms_centre_text.specs.LedgerLine.{ledger_line};
 ghost use Rattle.dms_text_forms.specs.LineText.{code_text};
 
+use crate::digit_pairs::pair;
 use dms_centre::{Centre, Entry, Outcome};
 use dms_codes::{Activation, Order};
-use dms_text_filling::{high_digit, low_digit};
 use indexmap::IndexMap;
 use itoa::Buffer;
 use std::alloc::AllocError;
@@ -41,31 +41,21 @@ fn code_digits(order: Order, code: &Activation) -> [u8; 24]
     ensures { result ≡ code_text order code.now }
 {
     let [a, b, c, d, e, f, g, h, i, j, k, l] = code.to_bytes(order);
+    let (a1, a2) = pair(a);
+    let (b1, b2) = pair(b);
+    let (c1, c2) = pair(c);
+    let (d1, d2) = pair(d);
+    let (e1, e2) = pair(e);
+    let (f1, f2) = pair(f);
+    let (g1, g2) = pair(g);
+    let (h1, h2) = pair(h);
+    let (i1, i2) = pair(i);
+    let (j1, j2) = pair(j);
+    let (k1, k2) = pair(k);
+    let (l1, l2) = pair(l);
     [
-        high_digit(a),
-        low_digit(a),
-        high_digit(b),
-        low_digit(b),
-        high_digit(c),
-        low_digit(c),
-        high_digit(d),
-        low_digit(d),
-        high_digit(e),
-        low_digit(e),
-        high_digit(f),
-        low_digit(f),
-        high_digit(g),
-        low_digit(g),
-        high_digit(h),
-        low_digit(h),
-        high_digit(i),
-        low_digit(i),
-        high_digit(j),
-        low_digit(j),
-        high_digit(k),
-        low_digit(k),
-        high_digit(l),
-        low_digit(l),
+        a1, a2, b1, b2, c1, c2, d1, d2, e1, e2, f1, f2, g1, g2, h1, h2, i1, i2, j1, j2, k1, k2, l1,
+        l2,
     ]
 }
 

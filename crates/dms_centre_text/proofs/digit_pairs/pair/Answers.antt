@@ -1,0 +1,9 @@
+use Rattle.std.proofs.Common.{arith}
+use Rattle.dms_centre_text.proofs.PairLaws.{first_at, second_at}
+use Rattle.dms_centre_text.proofs.digit_pairs.pair.Goals as goal
+
+pub returns-clause-first : goal.returns-clause-first
+returns-clause-first c = first_at c.args.octet c.from.result (omega arith) c.from.ensures
+
+pub returns-clause-second : goal.returns-clause-second
+returns-clause-second c = second_at c.args.octet c.from.result (omega arith) c.from.ensures
