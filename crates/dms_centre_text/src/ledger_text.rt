@@ -69,9 +69,61 @@ fn put_entry(
 {
     report.extend_from_slice(b"ledger ")?;
     report.extend_from_slice(Buffer::new().format(number).as_bytes())?;
-    report.push(b' ')?;
-    put_code(report, order, &entry.code)?;
-    put_outcome(report, entry.outcome)
+    put_judged(report, order, entry)
+}
+
+/// The code of an entry and what became of it, each after a space, and the line's end. Most were accepted: then all is
+/// put at once.
+#[inline(always)]
+fn put_judged(report: &mut Vec<u8>, order: Order, entry: &Entry) -> Result<(), AllocError>
+    ensures { OnOk result (report.new.items ≡ report.old.items ++ codes " " ++ code_text order entry.now.code
+        ++ codes " " ++ outcome_text entry.now.outcome ++ codes "\n") }
+{
+    match entry.outcome {
+        Outcome::Accepted => report.extend_from_slice(&accepted(code_digits(order, &entry.code))),
+        _ => {
+            report.push(b' ')?;
+            put_code(report, order, &entry.code)?;
+            put_outcome(report, entry.outcome)
+        }
+    }
+}
+
+/// The end of a line with the digits of a code that was accepted.
+#[inline(always)]
+fn accepted(digits: [u8; 24]) -> [u8; 35]
+    ensures { result ≡ codes " " ++ digits ++ codes " accepted\n" }
+{
+    let [
+        a1,
+        a2,
+        b1,
+        b2,
+        c1,
+        c2,
+        d1,
+        d2,
+        e1,
+        e2,
+        f1,
+        f2,
+        g1,
+        g2,
+        h1,
+        h2,
+        i1,
+        i2,
+        j1,
+        j2,
+        k1,
+        k2,
+        l1,
+        l2,
+    ] = digits;
+    [
+        b' ', a1, a2, b1, b2, c1, c2, d1, d2, e1, e2, f1, f2, g1, g2, h1, h2, i1, i2, j1, j2, k1,
+        k2, l1, l2, b' ', b'a', b'c', b'c', b'e', b'p', b't', b'e', b'd', b'\n',
+    ]
 }
 
 /// What became of an activation, after a space, and the line's end.
