@@ -8,9 +8,9 @@ ghost use Rattle.dms_wire.specs.Written.{octets_of_bindings};
 ghost use Rattle.dms_mib_replies.specs.Replies.{IsRead, get_reply, get_next_reply};
 ghost use Rattle.dms_mib_replies.specs.Replies.{has_no_value_by, with_value_by, is_last_by, next_after_by};
 
-use crate::objects::{Next, Objects};
-use crate::sending::{repeat, reply, reply_one};
-use dms_wire::{Bind, BindingOctets, Binds, ErrorStatus, Message, Out};
+use crate::objects::Objects;
+use crate::sending::{repeat, reply, reply_value};
+use dms_wire::{BindingOctets, Binds, ErrorStatus, Message, Out};
 
 /// Answers a Get. One binding needs no room for several, which is cleared where it is made.
 #[tactic(auto, unfolding(crate::specs::Replies::get_reply))]
@@ -21,8 +21,8 @@ pub fn answer_get<O: Objects>(objects: &O, message: &Message<'_>, out: &mut Out)
     let Some(name) = message.binds.only_name() else {
         return answer_get_of_several(objects, message, out);
     };
-    match objects.value(&name) {
-        Some(value) => reply_one(message, &Bind { name, value }, out),
+    match &objects.value(&name) {
+        Some(value) => reply_value(message, &name, value, out),
         None => repeat(message, ErrorStatus::NoSuchName, 1, out),
     }
 }
@@ -50,11 +50,10 @@ pub fn answer_next<O: Objects>(objects: &O, message: &Message<'_>, out: &mut Out
     let Some(name) = message.binds.only_name() else {
         return answer_next_of_several(objects, message, out);
     };
-    let Some(Next { name: next, value }) = objects.next(&name) else {
-        return repeat(message, ErrorStatus::NoSuchName, 1, out);
-    };
-    let name = next.oid();
-    reply_one(message, &Bind { name, value }, out)
+    match &objects.next(&name) {
+        Some(next) => reply_value(message, &next.name.oid(), &next.value, out),
+        None => repeat(message, ErrorStatus::NoSuchName, 1, out),
+    }
 }
 
 /// Answers a GetNext of any number of bindings.
@@ -90,10 +89,10 @@ fn values_of<O: Objects>(
     let mut rest = binds.again();
     while let Some(name) = rest.next_name() {
         index += 1;
-        let Some(value) = objects.value(&name) else {
-            return Err(index);
-        };
-        octets.push(&Bind { name, value });
+        match &objects.value(&name) {
+            Some(value) => octets.push_value(&name, value),
+            None => return Err(index),
+        }
     }
     Ok(())
 }
@@ -116,13 +115,10 @@ fn values_after<O: Objects>(
     let mut rest = binds.again();
     while let Some(name) = rest.next_name() {
         index += 1;
-        let Some(Next { name: next, value }) = objects.next(&name) else {
-            return Err(index);
-        };
-        octets.push(&Bind {
-            name: next.oid(),
-            value,
-        });
+        match &objects.next(&name) {
+            Some(next) => octets.push_value(&next.name.oid(), &next.value),
+            None => return Err(index),
+        }
     }
     Ok(())
 }

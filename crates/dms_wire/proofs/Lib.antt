@@ -11,6 +11,7 @@ pub mod MessageOfLaws
 pub mod Sizes
 pub mod Prefixes
 pub mod ShortPrefixes
+pub mod LongPrefixes
 pub mod Writes
 pub mod FewBindings
 pub mod Rows

@@ -1,6 +1,6 @@
 -- What stands before the bindings of a message where each length is one octet.
 use Rattle.std.proofs.Common.{◌≡◌, ℕ, ℤ, pos, ◌+◌, ◌/◌, ◌%◌, ◌^◌, ◌<◌, ◌≤◌, List, [], ◌∷◌, ◌++◌, length, refl, sym, ap, ◌∙◌, arith, append_assoc, length-append}
-use Rattle.dms_wire.specs.Message.{VarBind, SnmpMessage}
+use Rattle.dms_wire.specs.Message.{VarBind, SnmpMessage, integer}
 use Rattle.dms_wire.specs.Spelling.{tag_of}
 use Rattle.dms_wire_ber.specs.Length.{short_length}
 use Rattle.dms_wire_ber.specs.Element.{element}
@@ -78,6 +78,22 @@ short_binding b content e small =
     small_element 48 (element 6 name ++ value) (omega arith)
     ∙ ap (λ n. 48 ∷ n ∷ (element 6 name ++ value)) (sym e)
     ∙ ap (λ (octets : List ℕ). 48 ∷ content ∷ (octets ++ value)) (small_element 6 name (omega arith))
+
+-- and one of a number of one octet
+pub small_binding : (b : VarBind) (octet : ℕ) → b.value ≡ integer (pos octet) → octet < 128 → length (name_octets b.name) < 64
+    → binding_octets b ≡ 48 ∷ (length (name_octets b.name) + 5) ∷ 6 ∷ length (name_octets b.name) ∷ (name_octets b.name ++ 2 ∷ 1 ∷ octet ∷ [])
+small_binding b octet is small short =
+    let name = name_octets b.name in
+    let value : value_octets b.value ≡ 2 ∷ 1 ∷ octet ∷ [] = ap value_octets is ∙ octet_of octet small in
+    let parts = length-append (element 6 name) (value_octets b.value) in
+    let size : length name + 5 ≡ length (element 6 name ++ value_octets b.value) =
+    omega (arith, parts, element_length 6 name, length_one (length name) (omega arith), ap length value) in
+    short_binding b (length name + 5) size (omega arith) ∙ ap (λ (octets : List ℕ). 48 ∷ (length name + 5) ∷ 6 ∷ length name ∷ (name ++ octets)) value
+
+pub small_binding_size : (b : VarBind) (octet : ℕ) → b.value ≡ integer (pos octet) → octet < 128 → length (name_octets b.name) < 64
+    → length (binding_octets b) ≡ length (name_octets b.name) + 7
+small_binding_size b octet is small short =
+    omega (arith, ap length (small_binding b octet is small short), length-append (name_octets b.name) (2 ∷ 1 ∷ octet ∷ []))
 
 -- how many octets elements with lengths of one octet take
 pub ruleset short_sizes = (element_length, length_one, length-append)

@@ -1,5 +1,5 @@
 -- What the code's messages say.
-use Rattle.std.specs.Prelude.{List, map}
+use Rattle.std.specs.Prelude.{ℕ, List, map}
 use Rattle.dms_wire.specs.declared.value.Value.{Value}
 use Rattle.dms_wire.specs.declared.value.Value.TheVariants.{Integer, Octets, Null, Name, Address}
 use Rattle.dms_wire.specs.declared.value.Value.TheVariants.{Counter, Gauge, Ticks, Opaque}
@@ -20,6 +20,10 @@ object_value (Counter n) = counter n
 object_value (Gauge n) = gauge n
 object_value (Ticks n) = time_ticks n
 object_value (Opaque s) = opaque s.now
+
+-- the binding of a name and a value
+abbrev pub binding_of : List ℕ → Value → VarBind
+binding_of name value = record { name = name; value = object_value value }
 
 abbrev pub var_bind : Bind → VarBind
 var_bind b = record { name = b.name; value = object_value b.value }

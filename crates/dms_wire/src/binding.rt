@@ -4,11 +4,11 @@ ghost use Rattle.std.specs.Prelude.{◌≡◌, ◌≢◌, ◌↔◌, ℕ, ◌+�
 ghost use Rattle.std.specs.Prelude.{map, Ok, Err, IsOk, IfOk, IfErr, OnOk, OnErr, IsSome, IfSome, IfNone};
 ghost use Rattle.arrayvec.specs.ArrayVec.{array_vec_len};
 ghost use Rattle.std.specs.List.{flat_map};
-ghost use Rattle.dms_wire.specs.Message.{ObjectValue, VarBind};
+ghost use Rattle.dms_wire.specs.Message.{ObjectValue, VarBind, integer};
 ghost use Rattle.dms_wire_ber.specs.Reading.{Gives};
 ghost use Rattle.dms_wire.specs.Reading.{members_at, binding_at, bindings_at, list_at};
 ghost use Rattle.dms_wire.specs.Walk.{bindings_of, AreWhole, AreShortest};
-ghost use Rattle.dms_wire.specs.View.{object_value, var_bind};
+ghost use Rattle.dms_wire.specs.View.{object_value, var_bind, binding_of};
 ghost use Rattle.dms_wire_ber.specs.Element.{element};
 ghost use Rattle.dms_wire_ber.specs.ObjectIdentifier.{name_octets};
 ghost use Rattle.dms_wire.specs.Canonical.{value_octets, binding_octets};
@@ -16,7 +16,7 @@ ghost use Rattle.dms_wire.specs.Written.{octets_of_bindings};
 ghost use Rattle.dms_wire_ber.specs.Limits.{longest_datagram};
 
 use crate::fault::TooBig;
-use crate::value::{Value, put_value, read_value, size_of_value};
+use crate::value::{Value, put_value, read_value, size_of_value, small_integer};
 use dms_wire_ber::{
     MAX_DATAGRAM, Oid, Out, WireFault, ended, is_name, offset_of, put_content, put_head,
     put_octets, read_content, read_element, read_name, size_of_element, size_of_octets, tag,
@@ -43,7 +43,7 @@ pub struct Binds<'a> {
 
 impl<'a> Model for Binds<'a> {
     ghost use Rattle.std.specs.Prelude.{List};
-    ghost use Rattle.dms_wire.specs.Message.{ObjectValue, VarBind};
+    ghost use Rattle.dms_wire.specs.Message.{ObjectValue, VarBind, integer};
     ghost use Rattle.dms_wire.specs.Walk.{bindings_of, AreWhole};
 
     ghost Value = { List VarBind };
@@ -316,15 +316,15 @@ pub(crate) fn list(octets: &[u8], end: usize) -> Result<(Binds<'_>, &[u8]), Wire
 /// larger than a datagram.
 #[inline(always)]
 #[tactic(auto, using(crate::proofs::Sizes::sizes), unfolding(crate::specs::Canonical::binding_octets))]
-pub(crate) fn sizes_of_binding(binding: &Bind<'_>) -> Result<(usize, usize), TooBig>
-    ensures content { IfOk result (λ sizes. sizes.0 ≡ length (element 6 (name_octets binding.now.name)
-        ++ value_octets (object_value binding.now.value))) }
-    ensures whole { IfOk result (λ sizes. sizes.1 ≡ length (binding_octets (var_bind binding.now))) }
+pub(crate) fn sizes_of_binding(name: &Oid<'_>, value: &Value<'_>) -> Result<(usize, usize), TooBig>
+    ensures content { IfOk result (λ sizes. sizes.0 ≡ length (element 6 (name_octets name.now)
+        ++ value_octets (object_value value.now))) }
+    ensures whole { IfOk result (λ sizes. sizes.1 ≡ length (binding_octets (binding_of name.now value.now))) }
     ensures small { IfOk result (λ sizes. sizes.1 < 2 ^ 12) }
-    ensures too_big { OnErr result (longest_datagram < length (binding_octets (var_bind binding.now))) }
+    ensures too_big { OnErr result (longest_datagram < length (binding_octets (binding_of name.now value.now))) }
 {
-    let name = size_of_octets(binding.name.content());
-    let value = size_of_value(&binding.value);
+    let name = size_of_octets(name.content());
+    let value = size_of_value(value);
     if name > MAX_DATAGRAM || value > MAX_DATAGRAM {
         return Err(TooBig);
     }
@@ -390,44 +390,44 @@ fn shortest_octets(octets: &[u8]) -> Option<&[u8]>
 /// Writes the name and the value of a binding.
 #[inline(always)]
 #[tactic(auto, using(crate::proofs::Sizes::element_steps))]
-fn put_binding_content(out: &mut Out, binding: &Bind<'_>)
-    requires { array_vec_len out.old + length (element 6 (name_octets binding.now.name)
-        ++ value_octets (object_value binding.now.value)) ≤ longest_datagram }
-    ensures { out.new.items ≡ out.old.items ++ (element 6 (name_octets binding.now.name)
-        ++ value_octets (object_value binding.now.value)) }
+fn put_binding_content(out: &mut Out, name: &Oid<'_>, value: &Value<'_>)
+    requires { array_vec_len out.old + length (element 6 (name_octets name.now)
+        ++ value_octets (object_value value.now)) ≤ longest_datagram }
+    ensures { out.new.items ≡ out.old.items ++ (element 6 (name_octets name.now)
+        ++ value_octets (object_value value.now)) }
 {
-    put_octets(out, tag::OBJECT_IDENTIFIER, binding.name.content());
-    put_value(out, &binding.value);
+    put_octets(out, tag::OBJECT_IDENTIFIER, name.content());
+    put_value(out, value);
 }
 
 /// Writes a binding of which the name and the value take `content` octets.
 #[inline(always)]
 #[tactic(auto, using(crate::proofs::Sizes::nested_steps), unfolding(crate::specs::Canonical::binding_octets))]
-pub(crate) fn put_binding_of_size(out: &mut Out, binding: &Bind<'_>, content: usize)
-    requires content { content ≡ length (element 6 (name_octets binding.now.name)
-        ++ value_octets (object_value binding.now.value)) }
-    requires room { array_vec_len out.old + length (binding_octets (var_bind binding.now)) ≤ longest_datagram }
-    ensures { out.new.items ≡ out.old.items ++ binding_octets (var_bind binding.now) }
+pub(crate) fn put_binding_of_size(out: &mut Out, name: &Oid<'_>, value: &Value<'_>, content: usize)
+    requires content { content ≡ length (element 6 (name_octets name.now)
+        ++ value_octets (object_value value.now)) }
+    requires room { array_vec_len out.old + length (binding_octets (binding_of name.now value.now)) ≤ longest_datagram }
+    ensures { out.new.items ≡ out.old.items ++ binding_octets (binding_of name.now value.now) }
 {
     if content < 128 {
-        put_short_binding(out, binding, content);
+        put_short_binding(out, name, value, content);
     } else {
         put_head(out, tag::SEQUENCE, content);
-        put_binding_content(out, binding);
+        put_binding_content(out, name, value);
     }
 }
 
 /// The same where both lengths are one octet: they are written at once.
 #[inline(always)]
 #[tactic(auto, using(crate::proofs::ShortPrefixes::short_sizes))]
-fn put_short_binding(out: &mut Out, binding: &Bind<'_>, content: usize)
-    requires content { content ≡ length (element 6 (name_octets binding.now.name)
-        ++ value_octets (object_value binding.now.value)) }
+fn put_short_binding(out: &mut Out, name: &Oid<'_>, value: &Value<'_>, content: usize)
+    requires content { content ≡ length (element 6 (name_octets name.now)
+        ++ value_octets (object_value value.now)) }
     requires short { content < 128 }
     requires room { array_vec_len out.old + (2 + content) ≤ longest_datagram }
-    ensures { out.new.items ≡ out.old.items ++ binding_octets (var_bind binding.now) }
+    ensures { out.new.items ≡ out.old.items ++ binding_octets (binding_of name.now value.now) }
 {
-    let name = binding.name.content();
+    let name = name.content();
     let heads = [
         tag::SEQUENCE,
         content as u8,
@@ -436,7 +436,39 @@ fn put_short_binding(out: &mut Out, binding: &Bind<'_>, content: usize)
     ];
     put_content(out, &heads);
     put_content(out, name);
-    put_value(out, &binding.value);
+    put_value(out, value);
+}
+
+/// How many octets a binding takes where the value is an INTEGER of one octet and the name is short.
+#[inline(always)]
+#[tactic(auto, using(crate::proofs::ShortPrefixes::small_binding_size))]
+pub(crate) fn size_of_small(name: &Oid<'_>, _value: &Value<'_>, _octet: u8) -> usize
+    requires value { object_value _value.now ≡ integer (pos _octet) }
+    requires small { _octet < 128 }
+    requires short { length (name_octets name.now) < 64 }
+    ensures whole { result ≡ length (binding_octets (binding_of name.now _value.now)) }
+    ensures size { result ≡ length (name_octets name.now) + 7 }
+{
+    name.content().len() + 7
+}
+
+/// Writes such a binding.
+#[inline(always)]
+pub(crate) fn put_small_binding(out: &mut Out, name: &Oid<'_>, _value: &Value<'_>, octet: u8)
+    requires value { object_value _value.now ≡ integer (pos octet) }
+    requires small { octet < 128 }
+    requires short { length (name_octets name.now) < 64 }
+    requires room { array_vec_len out.old + (length (name_octets name.now) + 7) ≤ longest_datagram }
+    ensures { out.new.items ≡ out.old.items ++ binding_octets (binding_of name.now _value.now) }
+{
+    let name = name.content();
+    let size = name.len() as u8;
+    put_content(
+        out,
+        &[tag::SEQUENCE, size + 5, tag::OBJECT_IDENTIFIER, size],
+    );
+    put_content(out, name);
+    put_content(out, &[tag::INTEGER, 1, octet]);
 }
 
 /// Writes a binding.
@@ -447,7 +479,7 @@ fn put_binding(out: &mut Out, binding: &Bind<'_>)
     ensures { out.new.items ≡ out.old.items ++ binding_octets (var_bind binding.now) }
 {
     let size = size_of_octets(binding.name.content()) + size_of_value(&binding.value);
-    put_binding_of_size(out, binding, size);
+    put_binding_of_size(out, &binding.name, &binding.value, size);
 }
 
 /// How many octets bindings take, where that is no more than a datagram.
@@ -459,7 +491,7 @@ pub(crate) fn size_of_bindings(bindings: &[Bind<'_>]) -> Result<usize, TooBig>
 {
     let mut size = 0;
     for binding in bindings {
-        let (_, added) = sizes_of_binding(binding)?;
+        let (_, added) = sizes_of_binding(&binding.name, &binding.value)?;
         size += added;
         if size > MAX_DATAGRAM {
             return Err(TooBig);
@@ -515,12 +547,48 @@ impl BindingOctets {
         ensures { (bindings : List VarBind) → self.old ≡ octets_of_bindings bindings
             → self.new ≡ octets_of_bindings (bindings ++ var_bind binding.now ∷ []) }
     {
+        self.push_value(&binding.name, &binding.value);
+    }
+
+    /// Appends the binding of this name and this value, as `push` does: neither is moved.
+    pub fn push_value(&mut self, name: &Oid<'_>, value: &Value<'_>)
+        ensures { (bindings : List VarBind) → self.old ≡ octets_of_bindings bindings
+            → self.new ≡ octets_of_bindings (bindings ++ binding_of name.now value.now ∷ []) }
+    {
+        match small_integer(value) {
+            Some(octet) if name.content().len() < 64 => self.push_small(name, value, octet),
+            _ => self.push_any(name, value),
+        }
+    }
+
+    /// The same where the value is an INTEGER of one octet, as most are, and the name is short.
+    #[inline(always)]
+    fn push_small(&mut self, name: &Oid<'_>, value: &Value<'_>, octet: u8)
+        requires value { object_value value.now ≡ integer (pos octet) }
+        requires small { octet < 128 }
+        requires short { length (name_octets name.now) < 64 }
+        ensures { (bindings : List VarBind) → self.old ≡ octets_of_bindings bindings
+            → self.new ≡ octets_of_bindings (bindings ++ binding_of name.now value.now ∷ []) }
+    {
+        if !self.too_big && size_of_small(name, value, octet) <= self.octets.remaining_capacity() {
+            put_small_binding(&mut self.octets, name, value, octet);
+        } else {
+            self.too_big = true;
+        }
+    }
+
+    /// The same of any name and any value.
+    #[inline(never)]
+    fn push_any(&mut self, name: &Oid<'_>, value: &Value<'_>)
+        ensures { (bindings : List VarBind) → self.old ≡ octets_of_bindings bindings
+            → self.new ≡ octets_of_bindings (bindings ++ binding_of name.now value.now ∷ []) }
+    {
         if self.too_big {
             return;
         }
-        match sizes_of_binding(binding) {
+        match sizes_of_binding(name, value) {
             Ok((content, size)) if size <= self.octets.remaining_capacity() => {
-                put_binding_of_size(&mut self.octets, binding, content);
+                put_binding_of_size(&mut self.octets, name, value, content);
             }
             _ => self.too_big = true,
         }

@@ -30,6 +30,6 @@ pub use error_status::ErrorStatus;
 pub use fault::TooBig;
 pub use message::{
     Header, Kind, Message, MessageParts, heard, read, write, write_around, write_binding,
-    write_response,
+    write_response, write_value,
 };
 pub use value::Value;

@@ -3,13 +3,13 @@
 //! Each reader is given the octets that are left of an element and `end`, the element's end as an offset in the
 //! datagram: what it reads begins at `end - octets.len()`.
 
-ghost use Rattle.std.specs.Prelude.{◌≡◌, ◌↔◌, ℕ, ◌+◌, ◌^◌, ◌<◌, ◌≤◌, ◌++◌, List, [], ◌∷◌, pos};
+ghost use Rattle.std.specs.Prelude.{◌≡◌, ◌↔◌, ℕ, ◌+◌, ◌/◌, ◌%◌, ◌^◌, ◌<◌, ◌≤◌, ◌++◌, List, [], ◌∷◌, pos};
 ghost use Rattle.std.specs.Prelude.{length, map, IsOk, IfOk, OnOk, OnErr, IfSome, IfNone};
 ghost use Rattle.arrayvec.specs.ArrayVec.{array_vec_len};
 ghost use Rattle.std.specs.Option.{option_map};
 ghost use Rattle.std.specs.List.{flat_map};
 ghost use Rattle.dms_wire.specs.ErrorStatus.{error_status_number};
-ghost use Rattle.dms_wire.specs.Message.{VarBind, SnmpMessage};
+ghost use Rattle.dms_wire.specs.Message.{VarBind, SnmpMessage, integer};
 ghost use Rattle.dms_wire.specs.Spelling.{Spells, tag_of};
 ghost use Rattle.dms_wire.specs.MessageOf.{message_of};
 ghost use Rattle.dms_wire.specs.Canonical.{binding_octets, numbers_octets, canonical};
@@ -18,25 +18,29 @@ ghost use Rattle.dms_wire.specs.Written.{octets_of_bindings, IsWritten};
 ghost use Rattle.dms_wire_ber.specs.Reading.{Gives, fault};
 ghost use Rattle.dms_wire.specs.Reading.{version_at, pdu_at, tagged_pdu_at, kind_of, inside_at};
 ghost use Rattle.dms_wire.specs.Reading.{outer_content, outer_at, datagram_at, message_at};
-ghost use Rattle.dms_wire.specs.View.{var_bind, message_around, snmp_message, snmp_message_of_parts};
+ghost use Rattle.dms_wire.specs.View.{object_value, var_bind, binding_of};
+ghost use Rattle.dms_wire.specs.View.{message_around, snmp_message, snmp_message_of_parts};
 ghost use Rattle.dms_wire.specs.PduView.{numbered};
 ghost use Rattle.dms_wire.specs.Prefix.{pdu_size, content_size, message_size, pdu_prefix, message_prefix, prefix};
 ghost use Rattle.dms_wire_ber.specs.Element.{element};
+ghost use Rattle.dms_wire_ber.specs.ObjectIdentifier.{name_octets};
 ghost use Rattle.dms_wire_ber.specs.Integer.{integer_octets, positive_octets};
 ghost use Rattle.dms_wire_ber.specs.Limits.{longest_datagram};
 
 use crate::binding::{
     Bind, BindingOctets, Binds, bindings, list, put_binding_of_size, put_bindings,
-    size_of_bindings, sizes_of_binding,
+    put_small_binding, size_of_bindings, size_of_small, sizes_of_binding,
 };
 use crate::error_status::ErrorStatus;
 use crate::fault::TooBig;
 use crate::tag;
 use crate::usual::read_usual;
+use crate::value::{Value, small_integer};
+use dms_wire_ber::tag::{INTEGER, SEQUENCE};
 use dms_wire_ber::{
-    FaultKind, MAX_DATAGRAM, Out, WireFault, ended, fault_at, integer_of, offset_of, put_content,
-    put_head, put_integer, put_integers, put_octets, read_content, read_element, read_integer,
-    read_length, size_of_element, size_of_integer, size_of_octets, tag as universal,
+    FaultKind, MAX_DATAGRAM, Oid, Out, WireFault, ended, fault_at, integer_of, offset_of,
+    put_content, put_head, put_integer, put_integers, put_octets, read_content, read_element,
+    read_integer, read_length, size_of_element, size_of_integer, size_of_octets, tag as universal,
 };
 
 /// What a message asks or answers (RFC 1157, 4.1.2 to 4.1.5).
@@ -165,7 +169,7 @@ fn datagram(octets: &[u8]) -> Result<Message<'_>, WireFault>
 {
     match octets {
         [] => Err(fault_at(FaultKind::Truncated, 0)),
-        [universal::SEQUENCE, ..] => sequence(octets),
+        [SEQUENCE, ..] => sequence(octets),
         _ => Err(fault_at(FaultKind::BadTag, 0)),
     }
 }
@@ -210,7 +214,7 @@ fn outer(octets: &[u8]) -> Result<(&[u8], &[u8]), WireFault>
 {
     match octets {
         [] => Err(fault_at(FaultKind::Truncated, 0)),
-        [universal::SEQUENCE, rest @ ..] => outer_content(rest, octets.len()),
+        [SEQUENCE, rest @ ..] => outer_content(rest, octets.len()),
         _ => Err(fault_at(FaultKind::BadTag, 0)),
     }
 }
@@ -263,7 +267,7 @@ fn after_version(octets: &[u8], end: usize) -> Result<&[u8], WireFault>
     ensures rest { IfOk result (λ rest. length rest.now < length octets.now) }
 {
     match octets {
-        [universal::INTEGER, 1, 0, rest @ ..] => Ok(rest),
+        [INTEGER, 1, 0, rest @ ..] => Ok(rest),
         _ => after_any_version(octets, end),
     }
 }
@@ -276,7 +280,7 @@ fn after_any_version(octets: &[u8], end: usize) -> Result<&[u8], WireFault>
     ensures exact { Gives (λ rest. (tt, rest.now)) result (version_at end octets.now) }
     ensures rest { IfOk result (λ rest. length rest.now < length octets.now) }
 {
-    let (content, rest) = read_element(universal::INTEGER, octets, end)?;
+    let (content, rest) = read_element(INTEGER, octets, end)?;
     let place = offset_of(content, offset_of(rest, end));
     let version = integer_of(content).ok_or(fault_at(FaultKind::BadInteger, place))?;
     if version != 0 {
@@ -358,7 +362,7 @@ pub fn write(parts: &MessageParts<'_>, out: &mut Out) -> Result<(), TooBig>
         status: parts.status,
         index: parts.index,
     };
-    write_one(&header, binding, out)
+    write_one(&header, &binding.name, &binding.value, out)
 }
 
 /// Writes a message of any number of bindings, as `write` does: apart from those of one, of which most are.
@@ -384,21 +388,66 @@ fn write_many(parts: &MessageParts<'_>, out: &mut Out) -> Result<(), TooBig>
 pub fn write_binding(header: &Header<'_>, binding: &Bind<'_>, out: &mut Out) -> Result<(), TooBig>
     ensures { IsWritten result out.new.items (canonical (message_around header.now (var_bind binding.now ∷ []))) }
 {
-    write_one(header, binding, out)
+    write_one(header, &binding.name, &binding.value, out)
+}
+
+/// Writes, as `write_binding` does, the message with the binding of this name and this value: neither is moved.
+pub fn write_value(
+    header: &Header<'_>,
+    name: &Oid<'_>,
+    value: &Value<'_>,
+    out: &mut Out,
+) -> Result<(), TooBig>
+    ensures { IsWritten result out.new.items
+        (canonical (message_around header.now (binding_of name.now value.now ∷ []))) }
+{
+    write_one(header, name, value, out)
 }
 
 /// The same, for a call that has the header in registers.
 #[inline(always)]
-fn write_one(header: &Header<'_>, binding: &Bind<'_>, out: &mut Out) -> Result<(), TooBig>
-    ensures { IsWritten result out.new.items (canonical (message_around header.now (var_bind binding.now ∷ []))) }
+fn write_one(
+    header: &Header<'_>,
+    name: &Oid<'_>,
+    value: &Value<'_>,
+    out: &mut Out,
+) -> Result<(), TooBig>
+    ensures { IsWritten result out.new.items
+        (canonical (message_around header.now (binding_of name.now value.now ∷ []))) }
 {
+    if let Some(octet) = small_integer(value) {
+        if name.content().len() < 64 {
+            return write_small(header, name, value, octet, out);
+        }
+    }
     out.clear();
-    let (content, size) = sizes_of_binding(binding)?;
+    let (content, size) = sizes_of_binding(name, value)?;
     if size > MAX_DATAGRAM {
         return Err(TooBig);
     }
     begin(header, size, out)?;
-    put_binding_of_size(out, binding, content);
+    put_binding_of_size(out, name, value, content);
+    Ok(())
+}
+
+/// The same where the value is an INTEGER of one octet, as most are, and the name is short.
+#[inline(always)]
+fn write_small(
+    header: &Header<'_>,
+    name: &Oid<'_>,
+    value: &Value<'_>,
+    octet: u8,
+    out: &mut Out,
+) -> Result<(), TooBig>
+    requires value { object_value value.now ≡ integer (pos octet) }
+    requires small { octet < 128 }
+    requires short { length (name_octets name.now) < 64 }
+    ensures { IsWritten result out.new.items
+        (canonical (message_around header.now (binding_of name.now value.now ∷ []))) }
+{
+    let size = size_of_small(name, value, octet);
+    begin(header, size, out)?;
+    put_small_binding(out, name, value, octet);
     Ok(())
 }
 
@@ -471,13 +520,48 @@ fn begin(header: &Header<'_>, size: usize, out: &mut Out) -> Result<(), TooBig>
     ensures empty { OnErr result (out.new.items ≡ []) }
     ensures too_big { OnErr result (longest_datagram < message_size (message_around header.now []) size) }
 {
-    let pdu = size_of_numbers(header) + 2 + size;
+    let numbers = size_of_numbers(header);
+    let pdu = numbers + 2 + size;
     let content = 7 + header.community.len() + pdu;
     if content >= 128 {
-        return begin_any(header, size, out);
+        return begin_long(header, numbers, size, out);
     }
     out.clear();
     put_short_prefix(out, header, size, pdu, content);
+    Ok(())
+}
+
+/// The same where a length has two octets or more: most often each has three, and that of the community one.
+#[inline(always)]
+#[tactic(auto, using(crate::proofs::LongPrefixes::long_sizes))]
+fn begin_long(header: &Header<'_>, numbers: usize, size: usize, out: &mut Out) -> Result<(), TooBig>
+    requires size { size ≤ longest_datagram }
+    requires numbers { numbers ≡ length (numbers_octets (message_around header.now [])) }
+    requires few { numbers < 60 }
+    ensures ok { OnOk result (out.new.items ≡ prefix (message_around header.now []) size) }
+    ensures fits { OnOk result (message_size (message_around header.now []) size ≤ longest_datagram) }
+    ensures room { OnOk result (array_vec_len out.new + size ≤ longest_datagram) }
+    ensures empty { OnErr result (out.new.items ≡ []) }
+    ensures too_big { OnErr result (longest_datagram < message_size (message_around header.now []) size) }
+{
+    if size < 256 || header.community.len() >= 128 {
+        // A copy: else the header would be kept in memory for other messages too.
+        let copy = Header {
+            community: header.community,
+            kind: header.kind,
+            request: header.request,
+            status: header.status,
+            index: header.index,
+        };
+        return begin_any(&copy, size, out);
+    }
+    out.clear();
+    let pdu = numbers + 4 + size;
+    let content = 9 + header.community.len() + pdu;
+    if 4 + content > MAX_DATAGRAM {
+        return Err(TooBig);
+    }
+    put_long_prefix(out, header, size, pdu, content);
     Ok(())
 }
 
@@ -501,7 +585,7 @@ fn begin_any(header: &Header<'_>, size: usize, out: &mut Out) -> Result<(), TooB
     if size_of_element(content) > MAX_DATAGRAM {
         return Err(TooBig);
     }
-    put_head(out, universal::SEQUENCE, content);
+    put_head(out, SEQUENCE, content);
     put_message_prefix(out, header, pdu);
     put_pdu_prefix(out, header, size);
     Ok(())
@@ -518,18 +602,75 @@ fn put_short_prefix(out: &mut Out, header: &Header<'_>, size: usize, pdu: usize,
     ensures { out.new.items ≡ out.old.items ++ prefix (message_around header.now []) size }
 {
     let community = header.community.len() as u8;
-    let before = [
-        universal::SEQUENCE,
-        content as u8,
-        universal::INTEGER,
-        1,
-        0,
-        universal::OCTET_STRING,
-        community,
-    ];
-    put_content(out, &before);
+    let (size_of_content, text) = (content as u8, universal::OCTET_STRING);
+    put_content(
+        out,
+        &[SEQUENCE, size_of_content, INTEGER, 1, 0, text, community],
+    );
     put_content(out, header.community);
     put_short_pdu_prefix(out, header, size as u8, pdu as u8);
+}
+
+/// Writes what stands before bindings of `size` octets where the community's length is one octet and each other length
+/// three: what is known before and after the community at once.
+#[inline(always)]
+fn put_long_prefix(out: &mut Out, header: &Header<'_>, size: usize, pdu: usize, content: usize)
+    requires pdu { pdu ≡ pdu_size (message_around header.now []) size }
+    requires content { content ≡ content_size (message_around header.now []) pdu }
+    requires large { 256 ≤ size }
+    requires short { length header.now.community.now < 128 }
+    requires room { array_vec_len out.old + (4 + content) ≤ longest_datagram }
+    ensures { out.new.items ≡ out.old.items ++ prefix (message_around header.now []) size }
+{
+    let community = header.community.len() as u8;
+    let (high, low) = ((content / 256) as u8, (content % 256) as u8);
+    let text = universal::OCTET_STRING;
+    put_content(
+        out,
+        &[SEQUENCE, 130, high, low, INTEGER, 1, 0, text, community],
+    );
+    put_content(out, header.community);
+    put_long_pdu_prefix(out, header, size, pdu);
+}
+
+/// Writes the PDU's tag and what stands before the bindings in it, each length three octets.
+#[inline(always)]
+#[tactic(auto, using(crate::proofs::Sizes::element_steps))]
+fn put_long_pdu_prefix(out: &mut Out, header: &Header<'_>, size: usize, pdu: usize)
+    requires size { size ≤ longest_datagram }
+    requires pdu { pdu ≤ longest_datagram }
+    requires room { array_vec_len out.old + (length (numbers_octets (message_around header.now [])) + 8)
+        ≤ longest_datagram }
+    ensures { out.new.items ≡ out.old.items ++ (tag_of header.now.kind ∷ 130 ∷ (pdu / 256) ∷ (pdu % 256)
+        ∷ (numbers_octets (message_around header.now []) ++ 48 ∷ 130 ∷ (size / 256) ∷ (size % 256) ∷ [])) }
+{
+    let tag = tag_of_pdu(header.kind);
+    let (high, low) = ((pdu / 256) as u8, (pdu % 256) as u8);
+    let list = [SEQUENCE, 130, (size / 256) as u8, (size % 256) as u8];
+    let [a, b, c, d] = list;
+    if let Some((status, index)) = octets_of_status(header) {
+        put_long_request(out, tag, high, low, &header.request);
+        put_content(out, &[INTEGER, 1, status, INTEGER, 1, index, a, b, c, d]);
+    } else {
+        put_content(out, &[tag, 130, high, low]);
+        put_numbers(out, header);
+        put_content(out, &list);
+    }
+}
+
+/// Writes the PDU's tag and its length of three octets, and the request-id.
+#[inline(always)]
+#[tactic(auto, using(crate::proofs::ShortPrefixes::request_steps))]
+fn put_long_request(out: &mut Out, tag: u8, high: u8, low: u8, request: &i64)
+    requires { array_vec_len out.old + (4 + length (element 2 (integer_octets request.now))) ≤ longest_datagram }
+    ensures { out.new.items ≡ out.old.items ++ (tag ∷ 130 ∷ high ∷ low ∷ element 2 (integer_octets request.now)) }
+{
+    if let Some((first, second)) = octets_of(request) {
+        put_content(out, &[tag, 130, high, low, INTEGER, 2, first, second]);
+    } else {
+        put_content(out, &[tag, 130, high, low]);
+        put_integer(out, request);
+    }
 }
 
 /// Writes the PDU's tag and what stands before the bindings in it, each length one octet: what follows the request-id
@@ -544,21 +685,14 @@ fn put_short_pdu_prefix(out: &mut Out, header: &Header<'_>, size: u8, pdu: u8)
     let tag = tag_of_pdu(header.kind);
     if let Some((status, index)) = octets_of_status(header) {
         put_request(out, tag, pdu, &header.request);
-        let after = [
-            universal::INTEGER,
-            1,
-            status,
-            universal::INTEGER,
-            1,
-            index,
-            universal::SEQUENCE,
-            size,
-        ];
-        put_content(out, &after);
+        put_content(
+            out,
+            &[INTEGER, 1, status, INTEGER, 1, index, SEQUENCE, size],
+        );
     } else {
         put_content(out, &[tag, pdu]);
         put_numbers(out, header);
-        put_content(out, &[universal::SEQUENCE, size]);
+        put_content(out, &[SEQUENCE, size]);
     }
 }
 
@@ -570,9 +704,9 @@ fn put_request(out: &mut Out, tag: u8, pdu: u8, request: &i64)
     ensures { out.new.items ≡ out.old.items ++ (tag ∷ pdu ∷ element 2 (integer_octets request.now)) }
 {
     if let Some(octet) = octet_of(request) {
-        put_content(out, &[tag, pdu, universal::INTEGER, 1, octet]);
+        put_content(out, &[tag, pdu, INTEGER, 1, octet]);
     } else if let Some((high, low)) = octets_of(request) {
-        put_content(out, &[tag, pdu, universal::INTEGER, 2, high, low]);
+        put_content(out, &[tag, pdu, INTEGER, 2, high, low]);
     } else {
         put_content(out, &[tag, pdu]);
         put_integer(out, request);
@@ -633,7 +767,7 @@ fn put_message_prefix(out: &mut Out, header: &Header<'_>, pdu: usize)
     requires { array_vec_len out.old + content_size (message_around header.now []) pdu ≤ longest_datagram }
     ensures { out.new.items ≡ out.old.items ++ message_prefix (message_around header.now []) pdu }
 {
-    put_octets(out, universal::INTEGER, &[0]);
+    put_octets(out, INTEGER, &[0]);
     put_octets(out, universal::OCTET_STRING, header.community);
     put_head(out, tag_of_pdu(header.kind), pdu);
 }
@@ -646,7 +780,7 @@ fn put_pdu_prefix(out: &mut Out, header: &Header<'_>, size: usize)
     ensures { out.new.items ≡ out.old.items ++ pdu_prefix (message_around header.now []) size }
 {
     put_numbers(out, header);
-    put_head(out, universal::SEQUENCE, size);
+    put_head(out, SEQUENCE, size);
 }
 
 /// How many octets the content of the message takes, around a PDU of which the content takes `pdu` octets.

@@ -5,6 +5,7 @@ ghost use Rattle.std.specs.Prelude.{length, map, IsOk, IfOk, OnOk, OnErr, IfSome
 ghost use Rattle.arrayvec.specs.ArrayVec.{array_vec_len};
 ghost use Rattle.dms_wire_ber.specs.Reading.{Gives};
 ghost use Rattle.dms_wire.specs.Reading.{value_from, after_tag, is_value_tag, value_at};
+ghost use Rattle.dms_wire.specs.Message.{integer};
 ghost use Rattle.dms_wire.specs.View.{object_value};
 ghost use Rattle.dms_wire.specs.Canonical.{value_octets};
 ghost use Rattle.dms_wire_ber.specs.Limits.{longest_datagram};
@@ -112,6 +113,17 @@ pub(crate) fn read_value(octets: &[u8], end: usize) -> Result<(Value<'_>, &[u8])
         [universal::NULL, 0, rest @ ..] => Ok((Value::Null, rest)),
         [tag, rest @ ..] if is_value_tag(*tag) => tagged_value(*tag, rest, end),
         _ => Err(fault_at(FaultKind::BadTag, offset_of(octets, end))),
+    }
+}
+
+/// The content of a value that is an INTEGER of one octet, its first bit 0.
+#[inline(always)]
+pub(crate) fn small_integer(value: &Value<'_>) -> Option<u8>
+    ensures { IfSome result (λ octet. (object_value value.now ≡ integer (pos octet)) × (octet < 128)) }
+{
+    match value {
+        Value::Integer(number) if 0 <= *number && *number < 128 => Some(*number as u8),
+        _ => None,
     }
 }
 
