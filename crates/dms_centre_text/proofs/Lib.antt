@@ -3,4 +3,3 @@ pub mod CommandCauses
 mod LedgerLines
 pub mod CodeDigits
 pub mod WantedWords
-pub mod PairLaws

@@ -9,9 +9,9 @@ ghost use Rattle.dms_centre.specs.declared.ledger.Entry.{Entry};
 ghost use Rattle.dms_centre_text.specs.LedgerLine.{ledger_line};
 ghost use Rattle.dms_text_forms.specs.LineText.{code_text};
 
-use crate::digit_pairs::pair;
 use dms_centre::{Centre, Entry, Outcome};
 use dms_codes::{Activation, Order};
+use dms_text_filling::two_digits;
 use indexmap::IndexMap;
 use itoa::Buffer;
 use std::alloc::AllocError;
@@ -41,18 +41,18 @@ fn code_digits(order: Order, code: &Activation) -> [u8; 24]
     ensures { result ≡ code_text order code.now }
 {
     let [a, b, c, d, e, f, g, h, i, j, k, l] = code.to_bytes(order);
-    let (a1, a2) = pair(a);
-    let (b1, b2) = pair(b);
-    let (c1, c2) = pair(c);
-    let (d1, d2) = pair(d);
-    let (e1, e2) = pair(e);
-    let (f1, f2) = pair(f);
-    let (g1, g2) = pair(g);
-    let (h1, h2) = pair(h);
-    let (i1, i2) = pair(i);
-    let (j1, j2) = pair(j);
-    let (k1, k2) = pair(k);
-    let (l1, l2) = pair(l);
+    let (a1, a2) = two_digits(a);
+    let (b1, b2) = two_digits(b);
+    let (c1, c2) = two_digits(c);
+    let (d1, d2) = two_digits(d);
+    let (e1, e2) = two_digits(e);
+    let (f1, f2) = two_digits(f);
+    let (g1, g2) = two_digits(g);
+    let (h1, h2) = two_digits(h);
+    let (i1, i2) = two_digits(i);
+    let (j1, j2) = two_digits(j);
+    let (k1, k2) = two_digits(k);
+    let (l1, l2) = two_digits(l);
     [
         a1, a2, b1, b2, c1, c2, d1, d2, e1, e2, f1, f2, g1, g2, h1, h2, i1, i2, j1, j2, k1, k2, l1,
         l2,

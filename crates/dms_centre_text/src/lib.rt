@@ -15,7 +15,6 @@
 
 mod cause;
 mod command_word;
-mod digit_pairs;
 mod fields;
 pub mod laws;
 mod ledger_text;

@@ -1,5 +1,5 @@
 -- The table of the digits of octets.
-use Rattle.std.proofs.Common.{◌≡◌, ℕ, zero, suc, ◌+◌, ◌*◌, ◌-◌, ◌<◌, Bool, true, ◌&&◌, T, eqb, get_or, inl, inr, arith, eq-zero-or-pos, eqb→eq, List, [], ◌∷◌, refl, ap, ◌∙◌}
+use Rattle.std.proofs.Common.{◌≡◌, ℕ, zero, suc, ◌-◌, ◌<◌, Bool, true, ◌&&◌, T, eqb, get_or, inl, inr, arith, eq-zero-or-pos, eqb→eq, List, [], ◌∷◌, refl, ap, ◌∙◌}
 use Rattle.std.specs.Prelude.{slice_index, ◌/◌, ◌%◌}
 use lib.Ieee.Fits.{and_l, and_r}
 use Rattle.hex.specs.Hex.{encode_with, encode_lower, lower_digits}
@@ -8,10 +8,10 @@ use Rattle.dms_text_filling.specs.declared.digit_table.TheConstants.{PAIRS}
 -- the pairs of the octets below a number are theirs
 abbrev are_pairs : ℕ → Bool
 are_pairs zero = true
-are_pairs (suc n) = (eqb (get_or PAIRS (2 * n) 0) (slice_index lower_digits (n / 16)) && eqb (get_or PAIRS (2 * n + 1) 0) (slice_index lower_digits (n % 16))) && are_pairs n
+are_pairs (suc n) = (eqb (get_or PAIRS n 0 % 256) (slice_index lower_digits (n / 16)) && eqb (get_or PAIRS n 0 / 256) (slice_index lower_digits (n % 16))) && are_pairs n
 
 below : (n octet : ℕ) → T (are_pairs n) → octet < n
-    → (get_or PAIRS (2 * octet) 0 ≡ slice_index lower_digits (octet / 16)) × (get_or PAIRS (2 * octet + 1) 0 ≡ slice_index lower_digits (octet % 16))
+    → (get_or PAIRS octet 0 % 256 ≡ slice_index lower_digits (octet / 16)) × (get_or PAIRS octet 0 / 256 ≡ slice_index lower_digits (octet % 16))
 below zero octet t h = absurd (omega arith)
 below (suc n) octet t h =
     elim (eq-zero-or-pos (n - octet)) [
@@ -19,15 +19,11 @@ below (suc n) octet t h =
       | inr g ↦ below n octet (and_r _ (are_pairs n) t) (omega arith)
     ]
 
-pub pair_at : (octet : ℕ) → octet < 256
-    → (get_or PAIRS (2 * octet) 0 ≡ slice_index lower_digits (octet / 16)) × (get_or PAIRS (2 * octet + 1) 0 ≡ slice_index lower_digits (octet % 16))
-pair_at octet h = below 256 octet tt h
+pub first_at : (octet from : ℕ) → octet < 256 → from ≡ octet → get_or PAIRS from 0 % 256 ≡ slice_index lower_digits (octet / 16)
+first_at octet from h is = ap (λ n. get_or PAIRS n 0 % 256) is ∙ (below 256 octet tt h).0
 
-pub high_at : (octet from : ℕ) → octet < 256 → from ≡ octet → get_or PAIRS (2 * from) 0 ≡ slice_index lower_digits (octet / 16)
-high_at octet from h is = ap (λ n. get_or PAIRS (2 * n) 0) is ∙ (pair_at octet h).0
-
-pub low_at : (octet from : ℕ) → octet < 256 → from ≡ octet → get_or PAIRS (2 * from + 1) 0 ≡ slice_index lower_digits (octet % 16)
-low_at octet from h is = ap (λ n. get_or PAIRS (2 * n + 1) 0) is ∙ (pair_at octet h).1
+pub second_at : (octet from : ℕ) → octet < 256 → from ≡ octet → get_or PAIRS from 0 / 256 ≡ slice_index lower_digits (octet % 16)
+second_at octet from h is = ap (λ n. get_or PAIRS n 0 / 256) is ∙ (below 256 octet tt h).1
 
 -- one octet more has two digits more
 pub digits_of_one_more : (octet high low : ℕ) (octets digits : List ℕ) → high ≡ slice_index lower_digits (octet / 16)

@@ -4,7 +4,7 @@ ghost use Rattle.std.specs.Prelude.{◌≡◌, ◌≤◌, ◌+◌, ◌*◌, ◌+
 ghost use Rattle.hex.specs.Hex.{encode_lower};
 ghost use Rattle.dms_text_filling.specs.Filling.{Puts, laid};
 
-use crate::digit_table::{eight_digits, high_digit, low_digit};
+use crate::digit_table::{eight_digits, two_digits};
 use itoa::{Buffer, Integer};
 
 /// Puts octets into a buffer from a place on, as far as it reaches: the place after them, which stops at the greatest
@@ -85,7 +85,8 @@ fn put_pairs(buffer: &mut [u8], place: usize, octets: &[u8]) -> usize
         rest = more;
     }
     'last: while let [octet, more @ ..] = rest {
-        end = put(buffer, end, &[high_digit(*octet), low_digit(*octet)]);
+        let (high, low) = two_digits(*octet);
+        end = put(buffer, end, &[high, low]);
         rest = more;
     }
     end

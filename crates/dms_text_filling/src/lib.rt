@@ -11,5 +11,5 @@
 mod digit_table;
 mod filling;
 
-pub use digit_table::{eight_digits, high_digit, low_digit};
+pub use digit_table::{eight_digits, two_digits};
 pub use filling::{put, put_decimal, put_digits, put_number, put_text, put_texts};

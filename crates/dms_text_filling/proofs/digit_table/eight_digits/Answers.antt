@@ -9,12 +9,12 @@ returns c =
     let at = λ (n : ℕ). get_or c.args.octets n 0 in
     let octets : List ℕ = at 0 ∷ at 1 ∷ at 2 ∷ at 3 ∷ at 4 ∷ at 5 ∷ at 6 ∷ at 7 ∷ [] in
     let is : c.args.octets ≡ octets = text_from_reads c.args.octets octets (omega arith) (search rules) in
-    digits_of_one_more (at 0) _ _ _ _ c.high_digit.ensures c.low_digit.ensures
-    (digits_of_one_more (at 1) _ _ _ _ c.high_digit-2.ensures c.low_digit-2.ensures
-    (digits_of_one_more (at 2) _ _ _ _ c.high_digit-3.ensures c.low_digit-3.ensures
-    (digits_of_one_more (at 3) _ _ _ _ c.high_digit-4.ensures c.low_digit-4.ensures
-    (digits_of_one_more (at 4) _ _ _ _ c.high_digit-5.ensures c.low_digit-5.ensures
-    (digits_of_one_more (at 5) _ _ _ _ c.high_digit-6.ensures c.low_digit-6.ensures
-    (digits_of_one_more (at 6) _ _ _ _ c.high_digit-7.ensures c.low_digit-7.ensures
-    (digits_of_one_more (at 7) _ _ _ _ c.high_digit-8.ensures c.low_digit-8.ensures no_digits_of_none)))))))
+    digits_of_one_more (at 0) _ _ _ _ c.two_digits-a1.ensures.first c.two_digits-a1.ensures.second
+    (digits_of_one_more (at 1) _ _ _ _ c.two_digits-b1.ensures.first c.two_digits-b1.ensures.second
+    (digits_of_one_more (at 2) _ _ _ _ c.two_digits-c1.ensures.first c.two_digits-c1.ensures.second
+    (digits_of_one_more (at 3) _ _ _ _ c.two_digits-d1.ensures.first c.two_digits-d1.ensures.second
+    (digits_of_one_more (at 4) _ _ _ _ c.two_digits-e1.ensures.first c.two_digits-e1.ensures.second
+    (digits_of_one_more (at 5) _ _ _ _ c.two_digits-f1.ensures.first c.two_digits-f1.ensures.second
+    (digits_of_one_more (at 6) _ _ _ _ c.two_digits-g1.ensures.first c.two_digits-g1.ensures.second
+    (digits_of_one_more (at 7) _ _ _ _ c.two_digits-h1.ensures.first c.two_digits-h1.ensures.second no_digits_of_none)))))))
     ∙ ap encode_lower (sym is)

@@ -25,8 +25,8 @@ last-preserved c =
     let put = c.put-end.ensures in
     let rest = c.last.rest.now in record {
       begun =
-          one_more c.args.octets.now rest _ c.high_digit.result c.low_digit.result c.args.place c.last.end c.put-end.result c.args.buffer.now c.last.buffer c.put-end.new.buffer
-          c.in-len1-up.len_at_least kept.begun c.high_digit.ensures c.low_digit.ensures refl put.octets;
+          one_more c.args.octets.now rest _ c.two_digits-high.result.0 c.two_digits-high.result.1 c.args.place c.last.end c.put-end.result c.args.buffer.now c.last.buffer c.put-end.new.buffer
+          c.in-len1-up.len_at_least kept.begun c.two_digits-high.ensures.first c.two_digits-high.ensures.second refl put.octets;
       short = omega (arith, kept.short, put.short, c.in-len1-up.len_at_least, length-take (length rest - 1) (drop 1 rest), length-drop 1 rest);
     }
 

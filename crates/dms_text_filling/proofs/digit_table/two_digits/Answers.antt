@@ -1,6 +1,6 @@
 use Rattle.std.proofs.Common.{arith}
-use Rattle.dms_centre_text.proofs.PairLaws.{first_at, second_at}
-use Rattle.dms_centre_text.proofs.digit_pairs.pair.Goals as goal
+use Rattle.dms_text_filling.proofs.Pairs.{first_at, second_at}
+use Rattle.dms_text_filling.proofs.digit_table.two_digits.Goals as goal
 
 pub returns-clause-first : goal.returns-clause-first
 returns-clause-first c = first_at c.args.octet c.from.result (omega arith) c.from.ensures
