@@ -67,7 +67,7 @@ fn size_of_pdu(community: &[u8], number: u32, size: usize) -> usize
     ensures exact { result ≡ pdu_size (asking community.now kinds.Set number []) size }
     ensures small { result < 2 ^ 11 }
 {
-    let _ = community;
+    let _ = community; // named by the clauses alone
     size_of_number(number) + size_of_integer(&0) + size_of_integer(&0) + size_of_element(size)
 }
 
@@ -80,7 +80,7 @@ fn size_of_message(community: &[u8], number: u32, pdu: usize) -> usize
     ensures exact { result ≡ content_size (asking community.now kinds.Set number []) pdu }
     ensures small { result < 2 ^ 12 }
 {
-    let _ = number;
+    let _ = number; // named by the clauses alone
     3 + size_of_octets(community) + size_of_element(pdu)
 }
 
@@ -91,7 +91,7 @@ fn put_message_prefix(out: &mut Out, community: &[u8], number: u32, pdu: usize)
     requires { array_vec_len out.old + content_size (asking community.now kinds.Set number []) pdu ≤ longest_datagram }
     ensures { out.new.items ≡ out.old.items ++ message_prefix (asking community.now kinds.Set number []) pdu }
 {
-    let _ = number;
+    let _ = number; // named by the clauses alone
     put_octets(out, tag::INTEGER, &[0]);
     put_octets(out, tag::OCTET_STRING, community);
     put_head(out, SET, pdu);
@@ -104,7 +104,7 @@ fn put_pdu_prefix(out: &mut Out, community: &[u8], number: u32, size: usize)
     requires { array_vec_len out.old + pdu_size (asking community.now kinds.Set number []) size ≤ longest_datagram }
     ensures { out.new.items ≡ out.old.items ++ pdu_prefix (asking community.now kinds.Set number []) size }
 {
-    let _ = community;
+    let _ = community; // named by the clauses alone
     put_unsigned(out, tag::INTEGER, number);
     put_integers(out, &0, &0);
     put_head(out, tag::SEQUENCE, size);
@@ -163,7 +163,8 @@ fn put_fields(out: &mut Out, row: RowId, fields: &WrittenRowFields)
     put_number_field(out, row, Column::RunTimePriority, attributes.run_priority);
 }
 
-/// Writes the binding of a field that is a text.
+/// Writes the binding of a field that is a text. Its name is 1.3.6.1.4.1.1206.4.2.3.5.8.1, which is dmsMessageEntry,
+/// the column, and the two numbers of the row.
 #[inline(always)]
 fn put_octets_field(out: &mut Out, row: RowId, column: Column, octets: &[u8])
     requires short { has_short_name row ≡ true }
@@ -197,7 +198,8 @@ fn put_octets_field(out: &mut Out, row: RowId, column: Column, octets: &[u8])
     put_octets(out, tag::OCTET_STRING, octets);
 }
 
-/// Writes the binding of a field that is a number: below 128 it has one octet, else two.
+/// Writes the binding of a field that is a number: its sequence, its name, and an INTEGER, which has one octet where
+/// the number is below 128, else two.
 #[inline(always)]
 fn put_number_field(out: &mut Out, row: RowId, column: Column, number: u8)
     requires short { has_short_name row ≡ true }
