@@ -151,7 +151,7 @@ mod objects {
 mod centre {
     use super::codes::*;
     use super::objects::{self, Name};
-    use crate::peer::{Bind, Binds, Kind, MessageParts, Oid, Out, Value, read, write};
+    use crate::peer::{Bind, Binds, Kind, MAX_DATAGRAM, MessageParts, Oid, Out, Value, read, write};
 
     const LAST_NUMBER: u32 = 2_147_483_647;
     const MOST_SENDS: u8 = 3;
@@ -598,7 +598,31 @@ mod centre {
             assert!(out.finish(&self.community, tag, i64::from(self.next), 0, 0));
         }
 
+        /// Sets the fields of the row, in the same way: its three numbers are bindings at hand, and its names too.
         fn put_fields(&self, out: &mut Out) {
+            match self.job.code {
+                Activation { memory: memory @ ..128, number: number @ ..128, .. } => self.put_short_fields(memory, number as u8, out),
+                _ => self.put_any_fields(out),
+            }
+        }
+
+        fn put_short_fields(&self, memory: u8, number: u8, out: &mut Out) {
+            let job = &self.job;
+            let name = |column: u8| [43, 6, 1, 4, 1, 137, 54, 4, 2, 3, 5, 8, 1, column, memory, number];
+            out.clear();
+            assert!(out.push(&name(objects::TEXT), &Value::Octets(job.text.as_slice()), MAX_DATAGRAM));
+            assert!(out.push(&name(objects::OWNER), &Value::Octets(job.owner.as_slice()), MAX_DATAGRAM));
+            for (column, value) in [(objects::BEACON, job.beacon), (objects::PIXEL, job.pixel), (objects::PRIORITY, job.run_priority)] {
+                if value < 128 {
+                    out.extend(&[48, 21, 6, 16, 43, 6, 1, 4, 1, 137, 54, 4, 2, 3, 5, 8, 1, column, memory, number, 2, 1, value]);
+                } else {
+                    out.extend(&[48, 22, 6, 16, 43, 6, 1, 4, 1, 137, 54, 4, 2, 3, 5, 8, 1, column, memory, number, 2, 2, 0, value]);
+                }
+            }
+            assert!(out.finish(&self.community, 163, i64::from(self.next), 0, 0));
+        }
+
+        fn put_any_fields(&self, out: &mut Out) {
             let job = &self.job;
             let number = |number: u8| Value::Integer(i64::from(number));
             let columns = [objects::TEXT, objects::OWNER, objects::BEACON, objects::PIXEL, objects::PRIORITY];
