@@ -11,6 +11,7 @@ from wisangub.output import LOG
 from wisangub.refusal import Refusal, reason
 from wisangub.snmp.datagrams import fields_of
 from wisangub.snmp.mib import Mib
+from wisangub.standing import look_at_reader
 
 from .files import MODE
 from .sockets import Address, named
@@ -49,14 +50,6 @@ def _look_at_disk(file: int) -> None:
         raise OSError(errno.ENOSPC, f"its disk has less than {LEAST_LEFT // 1_000_000} MB left")
 
 
-def _look_at_reader(file: int) -> None:
-    """Raises OSError where a write would wait for a reader that stands still, as of a pipe."""
-    waited = select.poll()
-    waited.register(file, select.POLLOUT)
-    if not waited.poll(0):
-        raise OSError(errno.EAGAIN, "nobody takes its lines")
-
-
 class Log:
     """Where events are told, as text or as JSON. A log that cannot be written, whose reader takes nothing, or whose
     disk is nearly full, leaves events out, and says so once."""
@@ -88,7 +81,7 @@ class Log:
                 _look_at_disk(self.file)
                 written = os.write(self.file, octets)
             while not self.is_on_disk and written < len(octets):
-                _look_at_reader(self.file)
+                look_at_reader(self.file)
                 written += os.write(self.file, octets[written : written + select.PIPE_BUF])
         except OSError as fault:
             self.is_torn |= written > 0
