@@ -11,23 +11,25 @@
 #include <time.h>
 #include <unistd.h>
 
+#include "say.h"
+
 enum { OURS = O_APPEND | O_CLOEXEC | O_NOCTTY };
 
 _Noreturn void refuse(const char *path, const char *why)
 {
-    fprintf(stderr, "%s%s\n", path, why);
+    say_last("%s%s\n", path, why);
     exit(2);
 }
 
 static _Noreturn void refuse_error(const char *path)
 {
-    fprintf(stderr, "%s: %s\n", path, strerror(errno));
+    say_last("%s: %s\n", path, strerror(errno));
     exit(2);
 }
 
 _Noreturn void lose(const char *path, const char *why)
 {
-    fprintf(stderr, "%s: %s: what is on the disk is not known\n", path, why);
+    say_last("%s: %s: what is on the disk is not known\n", path, why);
     exit(1);
 }
 
@@ -258,6 +260,6 @@ int put_aside(const struct place *place, const char *word, const char *octets, s
         (void)unlink(name);
         return error;
     }
-    fprintf(stderr, "%s: %zu octets are cut away, and kept as %s\n", place->path, size, name);
+    say("%s: %zu octets are cut away, and kept as %s\n", place->path, size, name);
     return 0;
 }

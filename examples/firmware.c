@@ -7,12 +7,13 @@
 #include <time.h>
 
 #include "names.h"
+#include "say.h"
 
 static char why[OBJECTS_WHY];
 
 static _Noreturn void refuse_file(void)
 {
-    fprintf(stderr, "%s\n", why);
+    say("%s\n", why);
     exit(2);
 }
 
@@ -75,7 +76,7 @@ static size_t publish_all(struct firmware *firmware, const struct objects *objec
         lacks += !publish(firmware, one, up);
     }
     if (lacks > 0) {
-        fprintf(stderr, "%s: no memory for %zu objects, which are not published\n", firmware->path, lacks);
+        say("%s: no memory for %zu objects, which are not published\n", firmware->path, lacks);
     }
     return count;
 }
@@ -144,11 +145,11 @@ void firmware_again(struct firmware *firmware, double up)
     struct objects now, before = firmware->objects;
     size_t gone = 0;
     if (!objects_read(firmware->path, &now, why)) {
-        fprintf(stderr, "%s: the objects stay as they were\n", why);
+        say("%s: the objects stay as they were\n", why);
         return;
     }
     if (!are_settled(firmware, &now) || !is_beside(firmware, &now, &before)) {
-        fprintf(stderr, "%s: the objects stay as they were\n", why);
+        say("%s: the objects stay as they were\n", why);
         objects_free(&now);
         return;
     }
@@ -161,7 +162,7 @@ void firmware_again(struct firmware *firmware, double up)
     size_t count = publish_all(firmware, &now, &before, up);
     firmware->objects = now;
     objects_free(&before);
-    fprintf(stderr, "%s: %zu objects are published, %zu are withdrawn\n", firmware->path, count, gone);
+    say("%s: %zu objects are published, %zu are withdrawn\n", firmware->path, count, gone);
 }
 
 /* ---- between datagrams */

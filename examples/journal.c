@@ -12,6 +12,7 @@
 #include "files.h"
 #include "mending.h"
 #include "records.h"
+#include "say.h"
 
 enum { RECORDS_MOST = 1 << 18, MINUTE = 60, LINES_MOST = 1 << 14 };
 
@@ -22,13 +23,13 @@ static void tell(struct journal *journal, int refused)
 {
     const char *path = journal->asked.path;
     if (refused != 0 && refused != journal->refused) {
-        fprintf(stderr, "%s: %s: what is not recorded is not answered\n", path, strerror(refused));
+        say("%s: %s: what is not recorded is not answered\n", path, strerror(refused));
     } else if (refused == 0 && journal->refused != 0) {
-        fprintf(stderr, "%s: it is written again\n", path);
+        say("%s: it is written again\n", path);
     }
     journal->refused = refused;
     if (refused != 0 && journal->asked.is_needed && !journal->is_started) {
-        fprintf(stderr, "%s: it is needed\n", path);
+        say_last("%s: it is needed\n", path);
         exit(1);
     }
 }
@@ -36,7 +37,7 @@ static void tell(struct journal *journal, int refused)
 /* Says what is not recorded while the disk refuses. */
 static void tell_seconds(const struct journal *journal)
 {
-    fprintf(stderr, "%s: %s: %" PRIu64 " seconds are not recorded, and will be lost at the next start\n",
+    say("%s: %s: %" PRIu64 " seconds are not recorded, and will be lost at the next start\n",
             journal->asked.path, strerror(journal->refused), waits_seconds(&journal->waits));
 }
 

@@ -3,6 +3,7 @@
  * that refuse, and lines that no sign knows; each life is a process of its own. It prints `ok`, or what does not hold.
  */
 #define _GNU_SOURCE
+#include <fcntl.h>
 #include <stdint.h>
 #include <stdio.h>
 #include <stdlib.h>
@@ -11,6 +12,7 @@
 #include <unistd.h>
 
 #include "lives.h"
+#include "say.h"
 
 /* What is recorded is handed over by the next life, in its order. */
 static void whole(void)
@@ -249,6 +251,31 @@ static void downs(void)
           begun != NULL && (wall - 1795543676 < 0 ? since == UINT32_MAX : llabs(wall - 1795543676 - since) < 60));
 }
 
+/* Standard error that nobody reads: what is said is left out, counted, and told of once there is room. */
+static void unread(void)
+{
+    static char filling[4096], found[1 << 18];
+    int ends[2], own = dup(STDERR_FILENO);
+    if (pipe2(ends, O_NONBLOCK) != 0 || dup2(ends[1], STDERR_FILENO) < 0) {
+        check("a pipe", 0);
+        return;
+    }
+    while (write(ends[1], filling, sizeof filling) > 0) {
+    }
+    fcntl(ends[1], F_SETFL, 0);
+    say("one\n");
+    say("%s %d\n", "two", 2);
+    while (read(ends[0], found, sizeof found) == (ssize_t)sizeof found) {
+    }
+    say("three\n");
+    say("four\n");
+    ssize_t size = read(ends[0], found, sizeof found - 1);
+    dup2(own, STDERR_FILENO);
+    found[size > 0 ? size : 0] = '\0';
+    static const char wanted[] = "2 lines were left out here: nobody took what was said\nthree\nfour\n";
+    check("what nobody read", strcmp(found, wanted) == 0);
+}
+
 int main(int count, char **words)
 {
     if (count != 2) {
@@ -267,6 +294,7 @@ int main(int count, char **words)
     full_and_torn();
     boots();
     downs();
+    unread();
     if (!failed) {
         puts("ok");
     }

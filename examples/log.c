@@ -14,6 +14,7 @@
 #include <unistd.h>
 
 #include "files.h"
+#include "say.h"
 #include "sockets.h"
 
 enum { MODE = 0600, LINE = 2 * (DATAGRAM_MOST + 1) + NI_MAXHOST + 128 };
@@ -101,7 +102,7 @@ static int is_taken(const struct log *log)
 static void leave_out(struct log *log, const char *why)
 {
     if (log->left_out++ == 0) {
-        fprintf(stderr, "the log %s is not written: %s\n", log->path, why);
+        say("the log %s is not written: %s\n", log->path, why);
     }
 }
 
@@ -125,7 +126,7 @@ static void put(struct log *log, const char *line, size_t size)
     }
     log->is_torn = (size_t)written < (log->is_torn ? size : size - 1);
     if (log->left_out > 0 && !log->is_torn) {
-        fprintf(stderr, "the log %s is written again, without %" PRIu64 " events\n", log->path, log->left_out);
+        say("the log %s is written again, without %" PRIu64 " events\n", log->path, log->left_out);
         log->left_out = 0;
     }
 }

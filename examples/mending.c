@@ -13,6 +13,7 @@
 #include "anew.h"
 #include "files.h"
 #include "records.h"
+#include "say.h"
 
 enum { NAMES_MOST = 10000, MUCH = 1 << 20, MINUTE = 60 };
 
@@ -119,7 +120,7 @@ static int rewritten(struct journal *journal, const char *text)
         anew_drop(&anew);
         return error;
     }
-    fprintf(stderr, "%s: it was of form 1 and is written anew; the old one is kept as %s\n", journal->asked.path, name);
+    say("%s: it was of form 1 and is written anew; the old one is kept as %s\n", journal->asked.path, name);
     close(journal->file);
     journal->file = anew.file;
     journal->mending = (struct mending){.found = anew.size, .kept = (size_t)anew.size};

@@ -7,6 +7,7 @@
 #include <string.h>
 
 #include "exchange.h"
+#include "say.h"
 
 enum { AGAIN = 60, DIGITS = 12, THOUSAND = 1000, MILLION = 1000000 };
 
@@ -87,11 +88,11 @@ static int is_done(const struct shortening *shortening, struct journal *journal,
 
 /* ---- what is said */
 
-static void say(struct log *log, const struct journal *journal, off_t before)
+static void say_shortened(struct log *log, const struct journal *journal, off_t before)
 {
     char event[64];
     snprintf(event, sizeof event, "shortened from %jd to %jd", (intmax_t)before, (intmax_t)journal->size);
-    fprintf(stderr, "%s: %s octets\n", journal->asked.path, event);
+    say("%s: %s octets\n", journal->asked.path, event);
     log_event(log, NULL, event, NULL, 0);
 }
 
@@ -99,7 +100,7 @@ static void say_refused(struct log *log, const struct journal *journal, const ch
 {
     char event[64];
     snprintf(event, sizeof event, "not shortened: %.48s", why);
-    fprintf(stderr, "%s is not shortened: %s\n", journal->asked.path, why);
+    say("%s is not shortened: %s\n", journal->asked.path, why);
     log_event(log, NULL, event, NULL, 0);
 }
 
@@ -116,7 +117,7 @@ void shortening_turn(struct shortening *shortening, struct journal *journal, con
     if (is_done(shortening, journal, sign, power, why)) {
         shortening->again = 0;
         shortening->refused[0] = '\0';
-        say(log, journal, before);
+        say_shortened(log, journal, before);
         return;
     }
     shortening->again = running() + AGAIN;

@@ -26,6 +26,7 @@
 #include "firmware.h"
 #include "journal.h"
 #include "log.h"
+#include "say.h"
 #include "shortening.h"
 #include "sign_lines.h"
 #include "silences.h"
@@ -275,7 +276,7 @@ static void switch_power(struct front_end *front_end, int is_lost)
         snprintf(line, sizeof line, "power-back %u\n", (unsigned)seconds);
     }
     if (front_end->journal != NULL && !journal_keep(front_end->journal, line, strlen(line))) {
-        fputs("the power stays as it is, since its change cannot be recorded\n", stderr);
+        say("the power stays as it is, since its change cannot be recorded\n");
         return;
     }
     front_end->power = (struct power){is_lost, now};
@@ -367,7 +368,7 @@ static void open_journal(struct front_end *front_end, struct journal *journal, s
     static const struct state none = {.text = NULL};
     front_end->sets = &journal->sets;
     if (asked.path == NULL) {
-        fputs("nothing is kept: no --journal\n", stderr);
+        say("nothing is kept: no --journal\n");
         begin(front_end, &none);
         return;
     }

@@ -10,6 +10,7 @@
 #include "lines.h"
 #include "readings.h"
 #include "records.h"
+#include "say.h"
 
 enum { SHOWN = 60, STATE_MOST = 1 << 20 }; /* octets in which a state ends: it has 110,000 at most */
 
@@ -69,7 +70,7 @@ static void next(struct at *at)
 
 static _Noreturn void lack_memory(const char *path)
 {
-    fprintf(stderr, "%s: out of memory\n", path);
+    say_last("%s: out of memory\n", path);
     exit(1);
 }
 

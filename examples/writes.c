@@ -4,6 +4,8 @@
 #include <stdio.h>
 #include <stdlib.h>
 
+#include "say.h"
+
 enum { MINUTE = 60 };
 
 void writes_begin(struct writes *writes, size_t most)
@@ -13,7 +15,7 @@ void writes_begin(struct writes *writes, size_t most)
                               .waiting = calloc(WAIT_MOST, sizeof *writes->waiting),
                               .told = -MINUTE};
     if (writes->times == NULL || writes->waiting == NULL) {
-        fputs("out of memory\n", stderr);
+        say_last("out of memory\n");
         exit(1);
     }
     for (size_t at = 0; at < most; at++) {
@@ -61,7 +63,7 @@ int writes_pause(const struct writes *writes, double now)
 void writes_tell(struct writes *writes, double now, int is_end)
 {
     if (writes->dropped > 0 && (is_end || now - writes->told >= MINUTE)) {
-        fprintf(stderr, "%" PRIu64 " datagrams that set something were dropped: at most %zu a second are recorded\n",
+        say("%" PRIu64 " datagrams that set something were dropped: at most %zu a second are recorded\n",
                 writes->dropped, writes->most);
         writes->dropped = 0;
         writes->told = now;
