@@ -4,6 +4,8 @@ import sys
 
 from wisangub import commands
 
+from .trouble import status_of
+
 PARTS = {
     "centre": "wisangub.tester.centre.program",
     "describe": "wisangub.tester.describe.program",
@@ -15,7 +17,7 @@ PARTS = {
 
 def run() -> int:
     """The exit status of wisangub-conform, or of the subcommand that its first word names."""
-    return commands.run("wisangub.tester.cli", PARTS)
+    return commands.run("wisangub.tester.cli", PARTS, status_of)
 
 
 if __name__ == "__main__":

@@ -21,12 +21,13 @@ from wisangub.process.places import add_version, called, environment
 from wisangub.refusal import Refusal, reason
 from wisangub.tester.findings.results import Verdict
 from wisangub.tester.options import count
+from wisangub.tester.trouble import STATUS, unforeseen
 from wisangub.whole import WholeFile
 
 from .listed import ALL, FILES, REPORTS, Listed, checked, read
 
 _WRONG = "not tested"  # what a command that is wrong comes to
-_WORDS = {verdict.status: verdict.value for verdict in Verdict} | {2: _WRONG}
+_WORDS = {verdict.status: verdict.value for verdict in Verdict} | {STATUS: _WRONG}
 _ORDER = (1, 3, 2)  # the status of all is the first of these that a sign has, and else 0
 
 
@@ -68,7 +69,9 @@ class Several:
             try:
                 self._test(held)
             except OSError as fault:  # of its reports: the others are tested all the same
-                self._tell(held, 2, reason(fault))
+                self._tell(held, STATUS, reason(fault))
+            except Exception as fault:
+                self._tell(held, STATUS, unforeseen(fault))
 
     def _test(self, held: Listed) -> None:
         """A sign's test, and its line."""
