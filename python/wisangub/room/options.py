@@ -12,6 +12,7 @@ from .store import database
 from .store.database import Database, Failed
 
 _WHERE = "a file of SQLite, or postgresql://USER@HOST/NAME"
+GIVE_UP = 600.0  # seconds
 _CREATE = "make the database, where there is none: without it another name is no new database"
 
 
@@ -32,7 +33,7 @@ def add_database(parser: argparse.ArgumentParser, default: str | None = None, ma
 
 
 def add_fleet(parser: argparse.ArgumentParser) -> None:
-    """--fleet, --signtool and --alarms."""
+    """--fleet, --signtool, and of a worker --alarms and --give-up."""
     parser.add_argument("--fleet", required=True, metavar="FILE", help="the signs, as in signs/fleet.toml")
     parser.add_argument(
         "--signtool",
@@ -41,6 +42,13 @@ def add_fleet(parser: argparse.ArgumentParser) -> None:
         help="the program that the centres are and that draws pictures",
     )
     parser.add_argument("--alarms", metavar="FILE", help="who is told of alarms, by mail and webhooks")
+    parser.add_argument(
+        "--give-up",
+        type=seconds,
+        default=GIVE_UP,
+        metavar="SECONDS",
+        help=f"after which a command is given up whose turn does not come, as its sign stands still; else {GIVE_UP:g}",
+    )
 
 
 def need(program: str, where: str, *modules: str) -> None:

@@ -2,7 +2,7 @@
 
     [--database room.sqlite | postgresql://USER@HOST/NAME] [--create] [--listen 127.0.0.1:8080] [--behind-tls]
     [--plain-http] [--idle MINUTES] [--zone NAME] [--access-log FILE]
-    [--archives FOLDER] [--no-worker]
+    [--archives FOLDER] [--alarms FILE] [--give-up SECONDS] [--no-worker]
 
 It ends at an interrupt or a SIGTERM. The first user is made by `wisangub-control users --database .. --create add NAME
 administrator`, and the database with it. Further workers may stand beside it: wisangub-control worker. To look at it
@@ -23,7 +23,7 @@ from .addresses import is_this_machine
 from .fleet import Sign
 from .store import database
 from .waits import waited
-from .worker.program import work
+from .worker.program import Pace, work
 
 LISTEN = "127.0.0.1:8080"
 
@@ -116,7 +116,7 @@ def _both(asked: argparse.Namespace, signs: list[Sign], waiting: Waiting) -> int
     """A worker in this process, and the pages in one of their own: nothing that they do holds the worker."""
     with beside.begun("wisangub.room.serve", [*sys.argv[1:], "--no-worker"]) as pages:
         if pages.is_standing(waiting):
-            work(asked.database, asked.signtool, signs, waiting, asked.alarms)
+            work(asked.database, asked.signtool, signs, waiting, asked.alarms, Pace(give_up=asked.give_up))
         return pages.status(waiting)
 
 

@@ -11,6 +11,8 @@ from .connection import Database, Taken
 from .shown_by import text_of
 from .values import CLOCK, places, text_or_none, texts, whole
 
+GIVEN_UP = "given up"  # the first words on a command that waited for too long
+
 
 @dataclass(frozen=True)
 class Command:
@@ -132,6 +134,21 @@ class Commands:
         if rows:
             note(self.database, who, f"{self._name_of(whole(rows[0][0]))}: command {command} is withdrawn")
         return bool(rows)
+
+    def give_up(self, seconds: float) -> None:
+        """Ends commands that have waited for their turn for so long, of whichever sign, with a line of the audit each:
+        what nobody could carry out is not put on a road hours later. What is under way is its centre's to end."""
+        late = "outcome IS NULL AND line_number IS NULL AND asked_at + ? < {clock}"
+        if not self._run(f"SELECT 1 FROM commands WHERE {late} LIMIT 1", seconds):
+            return
+        with self.database.transaction(is_alone=True):
+            rows = self._run(
+                f"UPDATE commands SET outcome = ?, ended = {CLOCK} WHERE {late} RETURNING id, sign, who",
+                f"{GIVEN_UP}: its turn did not come within {seconds:g} seconds",
+                seconds,
+            )
+            for command, sign, who in sorted(rows):
+                note(self.database, str(who), f"{self._name_of(whole(sign))}: command {command} is given up")
 
     def how(self, command: int) -> str | None:
         """How a command ended; None where it has not."""

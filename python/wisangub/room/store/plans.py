@@ -15,13 +15,14 @@ from wisangub.room.times import DAYS, Span, Times
 
 from . import rights, rules
 from .audit import note
-from .commands import Commands
+from .commands import GIVEN_UP, Commands
 from .connection import Database, Row
 from .shown_by import text_of
 from .values import text_or_none, texts, time_of, time_or_none, whole, whole_or_none
 
 EVERY = 5.0  # seconds from one look for what is due to the next, of all workers together
 _ACTIVATION = 7  # the step that may have put a text on a sign, whatever came of it
+_NOT_SENT = ("withdrawn", GIVEN_UP, "refused", "bad")  # how a command ends of which no sign heard
 _SCHEDULES = "SELECT id, code, plan, author, first_day, last_day, days, begins, ends, zone FROM schedules"
 # of each plan the run that stands, or else the newest
 _LAST = (
@@ -347,7 +348,7 @@ def _is_to_take_off(database: Database, command: int, sign: int, who: str) -> bo
         return False
     outcome = text_or_none(database.run("SELECT outcome FROM commands WHERE id = ?", command)[0][0])
     step = failed(outcome or "")
-    if outcome is not None and (outcome.startswith(("withdrawn", "refused", "bad")) or step and step[0] < _ACTIVATION):
+    if outcome is not None and (outcome.startswith(_NOT_SENT) or step and step[0] < _ACTIVATION):
         return False
     return not database.run(
         "SELECT 1 FROM commands WHERE sign = ? AND id > ? AND (outcome IS NULL OR outcome = 'accepted') LIMIT 1",

@@ -80,7 +80,8 @@ def main() -> int:
     options.need("wisangub.room.worker.program", asked.database)
     signs, waiting = fleet.read(asked.fleet), Waiting()
     fleet.tell_open(signs)
-    pace, words = Pace(asked.tick, asked.lease, lines=asked.centre_lines), f"a worker of {len(signs)} signs"
+    pace = Pace(asked.tick, asked.lease, lines=asked.centre_lines, give_up=asked.give_up)
+    words = f"a worker of {len(signs)} signs"
     _work(asked.database, asked.create, asked.signtool, signs, waiting, asked.alarms, pace, words)
     return 0
 

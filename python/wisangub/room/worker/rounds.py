@@ -13,6 +13,7 @@ from wisangub.process.leaving import Leaving
 from wisangub.refusal import Refusal
 from wisangub.room.addresses import AGAIN
 from wisangub.room.fleet import Sign
+from wisangub.room.options import GIVE_UP
 from wisangub.room.output import LOG
 from wisangub.room.store.database import Failed, Taken
 from wisangub.room.store.lines import News
@@ -26,13 +27,14 @@ from .session import MOST_LINES, Left, Lost, Session
 from .where import Where
 
 _BEGUN_AT_ONCE = 32  # sessions that are begun in one round, so that those that stand are not kept waiting
+_ENDS = 2.0  # seconds from one look for commands that waited for too long to the next
 
 
 @dataclass(frozen=True)
 class Pace:
     """Seconds from tick to tick, of a lease, from one look for work to the next; signs driven at once, since each waits
     for two ticks or more, and Gets; seconds from one lookup of a name to the next; lines of a centre after which an
-    idle sign gets a new one."""
+    idle sign gets a new one; seconds after which a command that waits for its turn is given up."""
 
     tick: float = 1.0
     lease: float = 10.0
@@ -41,6 +43,7 @@ class Pace:
     gets: int = 200
     again: float = AGAIN
     lines: int = MOST_LINES
+    give_up: float = GIVE_UP
 
 
 class Worker:
@@ -70,7 +73,7 @@ class Worker:
         self.to_release: set[int] = set()
         self.leaving = Leaving()
         self.fault = ""  # what the database said last, which is said once
-        self.next_look = self.next_renewal = 0.0
+        self.next_look = self.next_renewal = self.next_end = 0.0
         store.readings.anew(list(self.signs))
 
     def run(self) -> None:
@@ -118,8 +121,12 @@ class Worker:
         self.carry()
 
     def look(self) -> None:
-        """Signs that are elsewhere, and those that have work."""
+        """Signs that are elsewhere, commands that waited for too long, and signs that have work."""
         self._move()
+        now = time.monotonic()
+        if now >= self.next_end:
+            self.next_end = now + _ENDS
+            self.store.commands.give_up(self.pace.give_up)
         self.lease()
 
     # ---- lines
