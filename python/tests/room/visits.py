@@ -122,7 +122,8 @@ class Bench:
 
     def __init__(self, folder: pathlib.Path, where: str, is_behind_tls: bool = False, **settings: Any) -> None:
         database.opened(where).close()
-        self.settings = Settings(where, PROGRAM, is_behind_tls, zone_of("Europe/Berlin"), look=0.05, **settings)
+        held: dict[str, Any] = {"zone": zone_of("Europe/Berlin"), "look": 0.05, **settings}
+        self.settings = Settings(where, PROGRAM, is_behind_tls, **held)
         self.service = Service(self.settings, fleet.read(entered(folder)))
         self.store = Store(database.opened(where))
         for role in Role:

@@ -48,7 +48,11 @@ def arguments() -> argparse.ArgumentParser:
         metavar="MINUTES",
         help="after which a log-in ends by which nothing is asked for; else 30",
     )
-    parser.add_argument("--zone", metavar="NAME", help="the zone that times are shown in; else the machine's")
+    parser.add_argument(
+        "--zone",
+        metavar="NAME",
+        help="the zone that times are shown in, and that schedules are made in; else the machine's",
+    )
     parser.add_argument("--access-log", metavar="FILE", help="a line of JSON for each request is appended to it")
     parser.add_argument("--archives", metavar="FOLDER", help="of archives that administrators see on pages")
     parser.add_argument("--no-worker", action="store_true", help="pages alone; workers are other processes")
@@ -102,6 +106,8 @@ def _pages(asked: argparse.Namespace, signs: list[Sign], waiting: Waiting) -> in
     if not has_users:
         print_line(f"there is no user yet: {called('wisangub-control users')} --database .. add NAME administrator")
     print_line(f"the control room of {len(signs)} signs is at {pages.address}")
+    if asked.zone is None:
+        print_line(f"times are those of {settings.zone}, this machine's zone: --zone names another")
     if worker is not None:
         worker.stands()
     try:

@@ -1,6 +1,9 @@
 """When something is on: from a day until a day, on days of the week, from and until times of a zone."""
 
+import contextlib
 import datetime
+import os
+import pathlib
 import re
 import zoneinfo
 from dataclasses import dataclass
@@ -13,6 +16,8 @@ _LOOKED = 400  # days that are looked at for the next time: a day of the week of
 _WORDS = "a schedule has two days and two times, such as 2026-11-30 and 06:00"
 _MINUTES = re.compile(r"[0-9]{2}:[0-9]{2}(?::00)?")
 _LAST_YEAR = 9990  # from which on so many days more may be in no calendar
+MACHINE = pathlib.Path("/etc")  # where a machine says its zone
+_ZONES = "/zoneinfo/"  # in the name of a zone's file
 DAYS = ("Mon", "Tue", "Wed", "Thu", "Fri", "Sat", "Sun")
 Span = tuple[float, float]  # seconds since 1970: from, and until
 
@@ -21,7 +26,7 @@ Span = tuple[float, float]  # seconds since 1970: from, and until
 class Times:
     """`days` are those of the week, 0 is Monday, each with its own beginning and end, which is on the next day where it
     is not after the beginning; without days it is on from the first day's beginning to the last day's end. `zone` is a
-    name such as Europe/Berlin, or empty for that of the machine."""
+    name such as Europe/Berlin, or empty, as schedules of before had it, for that of the machine."""
 
     first_day: datetime.date
     last_day: datetime.date
@@ -104,9 +109,23 @@ class Times:
         return next((begins for begins, _ in self.spans(self.day_of(now)) if begins > now), None)
 
 
-def _zone(name: str) -> datetime.tzinfo | None:
-    """The zone of a name; none for the machine's."""
+def machine_zone() -> str:
+    """The name of this machine's zone, by TZ, by the link /etc/localtime or by /etc/timezone; UTC where it has none."""
+    words = [os.environ["TZ"].removeprefix(":")] if os.environ.get("TZ") else []
+    if not words:
+        with contextlib.suppress(OSError):
+            words.append(os.readlink(MACHINE / "localtime"))
+        with contextlib.suppress(OSError, UnicodeDecodeError):
+            words.append((MACHINE / "timezone").read_text(encoding="utf-8").strip())
+    for name in filter(None, (word.rpartition(_ZONES)[2] for word in words)):
+        with contextlib.suppress(Refusal):
+            return str(_zone(name))
+    return "UTC"
+
+
+def _zone(name: str) -> zoneinfo.ZoneInfo:
+    """The zone of a name; of none that of the machine."""
     try:
-        return zoneinfo.ZoneInfo(name) if name else None
+        return zoneinfo.ZoneInfo(name or machine_zone())
     except (zoneinfo.ZoneInfoNotFoundError, ValueError, OSError):
         raise Refusal(f"{name!r} is no time zone of this machine") from None

@@ -11,7 +11,7 @@ from dataclasses import dataclass
 from wisangub.endpoint.endings import failed
 from wisangub.refusal import Refusal
 from wisangub.room.output import LOG
-from wisangub.room.times import DAYS, Span, Times
+from wisangub.room.times import DAYS, Span, Times, machine_zone
 
 from . import rights, rules
 from .audit import note
@@ -204,7 +204,7 @@ def remove_schedule(database: Database, number: int, schedule: int, who: str) ->
 
 def told(times: Times) -> str:
     """Times in words."""
-    zone = f" {times.zone}" if times.zone else ""
+    zone = f" {times.zone}" if times.zone else " by the zone of the worker's machine"
     begins, ends = times.begins.isoformat("minutes"), times.ends.isoformat("minutes")
     if not times.days:
         return f"from {times.first_day} {begins} until {times.last_day} {ends}{zone}, without a break"
@@ -261,15 +261,22 @@ class Plans:
             run = _run(row)
             _end(self.database, plans[run.plan].name, run, run.who)
         for schedule in [one for plan in plans.values() for one in plan.schedules]:
+            plan = plans[schedule.plan]
+            if not schedule.times.zone:
+                self._say(plan, f"a schedule names no zone, and goes by that of this machine: {machine_zone()}")
             try:
                 span = schedule.times.on(now)
             except Refusal as refused:  # a zone that this machine has not
-                if str(refused) not in self._said:
-                    LOG.warning(f"plan {plans[schedule.plan].name}: {refused}")
-                self._said.add(str(refused))
+                self._say(plan, str(refused))
                 continue
             if span is not None:
-                self._begin_once(plans[schedule.plan], schedule, span)
+                self._begin_once(plan, schedule, span)
+
+    def _say(self, plan: Plan, words: str) -> None:
+        """Says a fault of schedules, once."""
+        if words not in self._said:
+            LOG.warning(f"plan {plan.name}: {words}")
+        self._said.add(words)
 
     def _begin_once(self, plan: Plan, schedule: Schedule, span: Span) -> None:
         """Begins a plan for a time of a schedule, once; one that is on goes on, as long as the longer of both."""

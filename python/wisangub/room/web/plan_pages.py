@@ -106,7 +106,7 @@ async def _page(request: web.Request, said: str = "", status: int = 200) -> web.
         told=plans.told,
         days=list(enumerate(DAYS)),
         today=service.clock.moment(now).date().isoformat(),
-        zone=service.zone_name or "the machine's zone",
+        zone=service.zone_name,
         now=now,
         said=said,
     )

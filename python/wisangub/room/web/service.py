@@ -25,7 +25,7 @@ from .limits import Limits
 from .pictures import Pictures
 from .progress import because, states
 from .security import Seal
-from .settings import Settings
+from .settings import Settings, zone_of
 
 HERE = pathlib.Path(__file__).resolve().parent
 _MOST_CARDS = 8192  # that are kept as HTML, of 800 octets each
@@ -48,8 +48,8 @@ class Service:
         self.pictures = Pictures(settings.program)
         self.limits = Limits(settings.patience, settings.is_behind_tls)
         self.mib = Mib.read()
-        self.clock = words.Clock(settings.zone)
-        self.zone_name = str(settings.zone or "")  # none for the machine's
+        zone = settings.zone or zone_of(None)
+        self.clock, self.zone_name = words.Clock(zone), str(zone)
         self.templates = self.environment()
         self.card = functools.lru_cache(_MOST_CARDS)(self._made_card)
 
