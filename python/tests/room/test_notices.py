@@ -340,6 +340,7 @@ def test_the_file_of_who_is_told(tmp_path: pathlib.Path) -> None:
         ("[[webhook]]\nurl = 'https://a:b/'", "Port could not be cast"),
         ("[quiet]\nfrom = '22:00Z'\nuntil = '06:00'", "without a zone"),
         ("[quiet]\nfrom = '22:00'\nuntil = '06:00+01:00'", "without a zone"),
+        ("[quiet]\nfrom = '22:00'\nuntil = '22:00:00'", "until another one"),
         ("[quiet]\nfrom = '22:00'\nuntil = '06:00'\nkinds = ['x']", "no kind 'x'"),
         ("[quiet", "at end of document"),
     ):

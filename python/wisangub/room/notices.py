@@ -230,6 +230,8 @@ def _quiet(held: dict[str, Any]) -> Quiet:
     begin, end = (datetime.time.fromisoformat(str(held[word])) for word in ("from", "until"))
     if begin.tzinfo is not None or end.tzinfo is not None:
         raise ValueError("quiet times are by the clock of the machine, without a zone")
+    if begin == end:
+        raise ValueError("quiet times are from a time of the day until another one")
     return Quiet(begin, end, kinds)
 
 
