@@ -1,8 +1,10 @@
 """Pages of archives: what was in the database once, for administrators."""
 
 import gzip
+import html
 import os
 import pathlib
+import re
 
 from . import needs
 
@@ -82,6 +84,28 @@ def test_one_file_that_is_none_hides_no_other(tmp_path: pathlib.Path) -> None:
         assert status == 200 and 'href="/archives/old.gz"' in text and "\\udcff.gz" in text
         for name in ("deep", "great", "endless", "late", "nowhere"):
             assert f'<th scope="row">{name}.gz</th>' in text and (await one.get(f"/archives/{name}.gz"))[0] == 422, name
+
+    run(tmp_path, str(tmp_path / "database"), act, archives=str(folder))
+
+
+def test_each_archive_that_is_listed_has_a_page(tmp_path: pathlib.Path) -> None:
+    """Whatever it is called: with blanks, in another script, hidden, long, as a way elsewhere, or no UTF-8."""
+    folder = tmp_path / "archives"
+    names = ["until November 2026.gz", "b\u00fcro.gz", ".hidden.gz", 200 * "a" + ".gz"]
+    names += ["..%2Fold.gz", "a?b#c&d;.gz", "~\\.gz"]
+
+    async def act(bench: Bench, visitor: Visitors) -> None:
+        archived(bench, folder)
+        for name in (*names, os.fsdecode(b"\xff.gz")):
+            (folder / name).write_bytes((folder / "old.gz").read_bytes())
+        one = await bench.logged_in(visitor, "administrator")
+        ways = re.findall('href="(/archives/[^"]+)"', (await one.get("/archives"))[1])
+        assert len(ways) == len(names) + 2
+        for way in ways:
+            status, text = await one.get(html.unescape(way))
+            assert status == 200 and "&lt;script&gt;" in text, way
+        for wrong in ("..%2Farchives%2Fold.gz", "until"):
+            assert (await one.get(f"/archives/{wrong}"))[0] == 404, wrong
 
     run(tmp_path, str(tmp_path / "database"), act, archives=str(folder))
 

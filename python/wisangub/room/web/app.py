@@ -112,7 +112,7 @@ ROUTES = (
     Route("GET", "/history.csv", exports.history_csv),
     Route("GET", "/audit.csv", exports.audit_csv, _ADMINISTRATOR),
     Route("GET", "/archives", archive_pages.listed, _ADMINISTRATOR),
-    Route("GET", r"/archives/{name:[A-Za-z0-9][A-Za-z0-9._-]{0,99}}", archive_pages.archive, _ADMINISTRATOR),
+    Route("GET", "/archives/{name}", archive_pages.archive, _ADMINISTRATOR),
     Route("GET", "/health", health.health, None),
     Route("GET", "/metrics", health.metrics_page, None),
 )

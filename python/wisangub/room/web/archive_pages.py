@@ -39,8 +39,26 @@ class Page:
     next: int | None
 
 
+def _called(path: pathlib.Path) -> str:
+    """A file's name on pages: it may be no UTF-8."""
+    return path.name.encode("utf-8", "backslashreplace").decode()
+
+
+def _paths(folder: str) -> list[pathlib.Path]:
+    """What may be archives of the folder. Raises OSError where that cannot be read."""
+    return [path for path in pathlib.Path(folder).iterdir() if path.is_file() and path.suffix == ".gz"]
+
+
+def _path(folder: str | None, name: str) -> pathlib.Path | None:
+    """The file of the folder that its list has under a name, whatever stands in that."""
+    try:
+        return next((path for path in _paths(folder) if _called(path) == name), None) if folder else None
+    except OSError:
+        return None
+
+
 def _file(path: pathlib.Path) -> File:
-    name = path.name.encode("utf-8", "backslashreplace").decode()  # it may be no UTF-8
+    name = _called(path)
     try:
         return File(name, path.stat().st_size, archives.head_of(path))
     except (Refusal, OSError) as fault:
@@ -52,7 +70,7 @@ def _files(folder: str | None) -> list[File]:
     if folder is None:
         return []
     try:
-        paths = [path for path in pathlib.Path(folder).iterdir() if path.is_file() and path.suffix == ".gz"]
+        paths = _paths(folder)
     except OSError as fault:
         return [File(folder, 0, None, fault.strerror or "")]
     return sorted(map(_file, paths), key=lambda one: one.head.made if one.head else 0.0, reverse=True)
@@ -87,9 +105,10 @@ async def archive(request: web.Request) -> web.Response:
     service, name = service_of(request), request.match_info["name"]
     kind, find = request.query.get("kind", COMMAND), request.query.get("find", "").strip()[:100]
     sign, after = number_of(request, "sign"), number_of(request, "after") or 0
-    folder = service.settings.archives
-    if folder is None or kind not in KINDS or not (path := pathlib.Path(folder) / name).is_file():
+    held = await service.connections.work(lambda: _path(service.settings.archives, name))
+    if held is None or kind not in KINDS:
         raise web.HTTPNotFound(text="There is no such archive.")
+    path = held
     try:
         found = await service.connections.work(lambda: _found(path, kind, sign, find, after))
     except Refusal as refused:
