@@ -293,6 +293,21 @@ def test_what_is_cut_off_is_kept_under_the_date_and_a_number(path: str, has_link
     assert {(folder / name).stat().st_mode & 0o777 for name in names} == {0o600}
 
 
+def test_other_files_of_an_archive_count_for_none(tmp_path: pathlib.Path) -> None:
+    """Of a journal whose name has blanks; signd takes the same for its own."""
+    path, folder = tmp_path / "my  journal", tmp_path / "kept here"
+    folder.mkdir()
+    path.write_text("a journal")
+    others = ("-7 ", "- 7", "-7.new", " -7", "-", f"-{10**18}")
+    for end in others:
+        (folder / f"{path.name}.2026-11-30T120000{end}").write_text("another file")
+    (folder / f"my.{path.name}.2026-11-30T120000-9").write_text("another file")
+    (folder / f"{path.name}.2026-11-30T120000-{10**17}").write_text("an older one")
+    name = Archive(str(folder)).keep(str(path))
+    assert name.startswith(f"{folder}/my  journal.20") and name.endswith(f"-{10**17 + 1}")
+    assert Archive(str(folder)).keep(str(path)) == name
+
+
 @pytest.mark.parametrize("name, at", [("open", 2), ("write", 1), ("fsync", 1), ("rename", 0)])
 def test_where_a_copy_is_refused_no_part_of_one_is_left(path: str, name: str, at: int) -> None:
     folder, journal = pathlib.Path(path).parent / "kept", Journal.opened(path, HEAD)

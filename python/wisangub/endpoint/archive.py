@@ -37,7 +37,7 @@ class Archive:
 
     def found(self, path: str) -> tuple[str | None, int]:
         """The name that this file has in the folder already, and the greatest number of one that came before it."""
-        shape = re.compile(re.escape(os.path.basename(path)) + r"\.[0-9T-]+-([0-9]+)")
+        shape = re.compile(re.escape(os.path.basename(path)) + r"\.[0-9T-]+-([0-9]{1,18})")
         file, known, greatest = os.stat(path), None, 0
         with os.scandir(self.folder) as entries:
             for entry in entries:
