@@ -100,6 +100,7 @@ static void unknown(void)
     static const char *const wrong[] = {
         "hello world",  "ticks 12x",   "ticks 4294967296", "ticks ",         "power-back -1", "power-back 99999999999",
         "datagram 300", "datagram 3g", "start x 1",        "journal 2 sign", "tick 1",        "heard ",
+        "clock 1000000000000000000 1", "clock 1 -1000000000000000000", "start b 1000000000000000000 1",
         "clock 1",      "clock -1 1",  "state 1 sign",     "powered 1",      "end",           "set 1.3.6.1.5 INTEGER 7",
     };
     for (size_t at = 0; at < sizeof wrong / sizeof *wrong; at++) {
@@ -112,8 +113,20 @@ static void unknown(void)
     }
     clear();
     make(with(head, "ticks 4294967295\ntick\ndatagram -\ndatagram 30AF\nheard\npower-lost\npower-back 0\n"
-                    "clock 1795543677 -5\n"));
+                    "clock 999999999999999999 -999999999999999999\nclock 1795543677 -5\n"));
     check("known lines", lives("k") == 0 && is_in("t4294967295 t1 d d h l b0 ", handed));
+    clear();
+    make(with(head, "start \x7f 1 1\n"));
+    check("a boot that nobody can read", lives("k") == 2 && is_in("no sign knows its line: start ? 1 1", said));
+    for (int more = 0; more < 2; more++) {
+        char line[3000] = "datagram ";
+        memset(line + 9, '3', (size_t)(2 * (1472 + more)));
+        strcat(line, "\n");
+        clear();
+        make(with(head, line));
+        check("the longest datagram", lives("k") == (more ? 2 : 0));
+        check("is read or told", more ? is_in("no sign knows", said) : is_in("d ", handed));
+    }
 }
 
 /* A journal of form 1 is written anew, and kept under another name. */

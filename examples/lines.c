@@ -64,6 +64,11 @@ static int takes_boot(struct rest *rest, struct line *line)
     if (size == 0 || size >= sizeof line->moment.boot) {
         return 0;
     }
+    for (const char *at = rest->at; at < space; at++) {
+        if (*at < '!' || *at > '~') {
+            return 0;
+        }
+    }
     memcpy(line->moment.boot, rest->at, size);
     line->moment.boot[size] = '\0';
     rest->at = space + 1;

@@ -97,10 +97,12 @@ def test_no_record_that_is_handed_over_is_shorter() -> None:
 
 
 def test_lines_that_no_end_knows() -> None:
-    of_both = [b"tick", b"datagram -", b"datagram 30ffAB"]
+    of_both = [b"tick", b"datagram -", b"datagram 30ffAB", b"datagram " + b"30" * 1472]
     of_sign = [b"ticks 0", b"ticks 4294967295", b"ticks 0000000007", b"heard", b"power-lost", b"power-back 0"]
     of_sign += [b"power-back 4294967295", b"start - 0 5", b"start 174002b2-8f8c 1795543676 1242", b"clock 1795543676 5"]
+    of_sign += [b"clock 999999999999999999 -999999999999999999", b"start " + b"b" * 63 + b" 0 1"]
     of_centre = [b"publish 3 1 41 - 0 0 9 65535 255 127.0.0.1", b"blank x", b"activate", b"restart"]
+    of_centre += [b"datagram " + b"30" * 1473]
     of_none = [
         b"hello world",
         b"ticks 12x",
@@ -131,6 +133,8 @@ def test_lines_that_no_end_knows() -> None:
         b"ticks -1",
     ]
     of_none += [b"state 1 sign", b"start 1 2", b"start a b c", b"clock 1", b"clock 1 2 3", b"clock x 2", b"publishx"]
+    of_none += [b"clock 1000000000000000000 1", b"clock 1 -1000000000000000000", b"start b 1000000000000000000 1"]
+    of_none += [b"start b 1 0000000000000000001", b"start " + b"b" * 64 + b" 0 1", b"start \x7f 0 1", b"start \xe4 0 1"]
     of_none += [b"journal 2 sign rules 1 description bench", b"datagram " + b"30" * 32_764]
     for line in of_both:
         assert known.of_sign(line) and known.of_centre(line), line
