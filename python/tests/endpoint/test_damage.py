@@ -218,3 +218,17 @@ def test_of_form_1_whatever_looks_like_a_record_is_one() -> None:
     last = len(text) - len(text) % SECTOR
     other = text[:last] + bytes(len(text) - last)
     assert end_of_older(other, older.whole(other)) is End.TORN
+
+
+def test_of_form_1_a_newline_that_is_lost_is_no_torn_end() -> None:
+    """Wherever it stood, also before what was not written to its end; a zero is one of a sector of zeros."""
+    lines = [b"journal 1 sign rules 1 description bench", b"ticks 4", b"datagram 3001", b"ticks 5"]
+    text = written_older(lines)
+    ends = [at for at, octet in enumerate(text) if octet == 10]
+    for end in ends[1:]:
+        for octet in (0, 8, 11, 32, 35, 48, 255):
+            for more in (b"", b"t", b"ticks 6 #0123456"):
+                other = text[:end] + bytes([octet]) + more
+                assert end_of_older(other, older.whole(other)) is End.DAMAGED, (end, octet, more)
+    holed = text[: ends[-1]] + bytes(512 - ends[-1] + 512)
+    assert end_of_older(holed, older.whole(holed)) is End.TORN

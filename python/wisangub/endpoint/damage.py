@@ -123,10 +123,11 @@ def end_of(text: Octets, whole: Extent) -> End:
 
 
 def end_of_older(text: Octets, size: int) -> End:
-    """The same of form 1, where nothing tells behind a hole what is whole: what has the shape of a record counts."""
+    """The same of form 1, where nothing tells behind a hole what is whole: what has the shape of a record counts,
+    whatever octet its newline became; a zero of a hole is none."""
     if size == len(text):
         return End.NONE
-    is_zero = text[len(text) - 1 :] == b"\0" and _has_hole(text, size)
-    if older.has_shape(text, size) or older.is_whole_with_newline(text, size) and not is_zero:
+    is_holed = _has_hole(text, size)
+    if any(octet != b"\0" or not is_holed for octet in older.newlines(text, size)):
         return End.DAMAGED
     return End.TORN if _is_torn(text, size) else End.DAMAGED

@@ -8,7 +8,7 @@ from .records import CHUNK, OWN, Octets
 
 _TAIL = 9  # the eight digits of a sum and the newline
 SUMMED = 10  # a space, a number sign and the eight digits
-_SHAPE = re.compile(rb" #[0-9a-f]{8}\n")
+_SHAPE = re.compile(rb" #[0-9a-f]{8}.", re.DOTALL)
 
 
 def is_older(text: Octets) -> bool:
@@ -55,20 +55,13 @@ def whole(text: Octets) -> int:
     return at
 
 
-def has_shape(text: Octets, at: int) -> bool:
-    """Whether something behind an octet has the shape of a record: nobody can tell whether it was one."""
-    while (mark := text.find(b" #", at)) != -1:
-        if _SHAPE.match(text[mark : mark + SUMMED + 1]):
-            return True
-        at = mark + 1
-    return False
-
-
-def is_whole_with_newline(text: Octets, at: int) -> bool:
-    """Whether what stands from there to the end of the file would be a record with a newline in place of its last
-    octet."""
-    octets = text[at : len(text) - 1] + b"\n"
-    return _sum_at(octets, len(octets)) == zlib.crc32(octets[:-_TAIL], _checksum_at(text, at))
+def newlines(text: Octets, at: int) -> Iterator[bytes]:
+    """Behind an octet, of all that has the shape of a record the octet that stands in the place of its newline: nobody
+    can tell whether it was one."""
+    while (mark := text.find(b" #", at + 1)) != -1:
+        if _SHAPE.fullmatch(found := text[mark : mark + SUMMED + 1]):
+            yield found[-1:]
+        at = mark
 
 
 def every_line(text: Octets, size: int) -> Iterator[list[bytes]]:
