@@ -79,6 +79,9 @@ static struct reading whole(const struct journal_asked *asked, const char *text,
     if (found.kept == 0 && tail == TAIL_DAMAGED && !is_journal(text, size)) {
         refuse(asked->path, " is no journal");
     }
+    if (found.kept == 0 && tail == TAIL_DAMAGED && state_stood(text, size)) {
+        refuse(asked->path, ": the record 1, at octet 0, is damaged, and behind it stands a state");
+    }
     if (tail == TAIL_DAMAGED) {
         accept(asked, &found);
     }

@@ -85,6 +85,12 @@ static int had_one(const struct at *at)
            || memmem(from, most, behind_last, strlen(behind_last)) != NULL;
 }
 
+int state_stood(const char *text, size_t size)
+{
+    struct at at = {.text = text, .size = size, .begin = line_end(text, size, 0)};
+    return had_one(&at);
+}
+
 /* Whether a state of this form begins there. */
 static int is_begun(struct at *at)
 {

@@ -22,6 +22,9 @@ struct state {
  */
 struct state state_read(const char *path, const char *text, size_t size);
 
+/* Whether a state stands behind a first record that is not whole, or stood there. */
+int state_stood(const char *text, size_t size);
+
 /* Whether the sign of this state is without power. */
 int state_is_dark(const struct state *state);
 

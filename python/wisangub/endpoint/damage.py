@@ -69,6 +69,11 @@ def _standing(text: Octets, at: int) -> Iterator[int]:
         at = end + 1
 
 
+def has_record(text: Octets) -> bool:
+    """Whether a whole record stands anywhere, or something in the shape of one of form 1."""
+    return next(_standing(text, 0), None) is not None or next(older.newlines(text, 0), None) is not None
+
+
 def _line_end(text: Octets, at: int) -> int:
     """Where the newline of the line stands that begins there, or the file ends."""
     end = text.find(b"\n", at)

@@ -12,6 +12,7 @@ from .states import Begun, NotWhole, OtherState
 
 _ANEW = "--fresh begins anew"
 _ACCEPT = "--accept-damage goes on once from there, and puts the rest aside"
+_ACCEPT_ALL = "--accept-damage begins anew, and puts all of it aside"
 _ABOVE = "--fresh begins above all numbers that it may have used"
 _ELSEWHERE = "move it away, and begin with a --first above all numbers that were used"
 _SHORT = 1 << 22  # octets of a file whose lines are kept as it is read, so that they are not looked for again
@@ -47,9 +48,10 @@ def read(path: str, text: Octets, wanted: Head, accepts: bool) -> Found | None:
     """What the file of this journal has; None where that is nothing yet. Refuses what is another's, and damage that is
     not accepted."""
     first = first_of(text)
-    if first is None and _is_begun(text, wanted):
+    is_lost = first is None and _is_lost(text, wanted.end)
+    if first is None and (_is_begun(text, wanted) or is_lost and accepts):
         return None
-    head = _compared(path, first, wanted)
+    head = _compared(path, first, wanted, is_lost)
     begun = _begun(path, text, head)
     lines = list[bytes]()
     extent = _extent_of(path, text, head, begun, lines if len(text) <= _SHORT else None)
@@ -87,11 +89,19 @@ def _is_begun(text: Octets, wanted: Head) -> bool:
     return len(text) < SECTOR and b"\n" not in octets and len(octets) < len(begun[0]) and is_like
 
 
-def _compared(path: str, first: bytes | None, wanted: Head) -> Head:
+def _is_lost(text: Octets, end: str) -> bool:
+    """Whether a sign's journal lacks its first record alone: damage that can be accepted, for a new one. With a state
+    behind it that cannot be."""
+    was_one = text[:8] == b"journal " or damage.has_record(text)
+    return end == "sign" and was_one and not states.had_one(text, text.find(b"\n") + 1)
+
+
+def _compared(path: str, first: bytes | None, wanted: Head, is_lost: bool) -> Head:
     """What the journal is of; a journal of something else is refused by what differs."""
     found = Head.of(first) if first is not None else None
     if found is None:
-        raise Refusal(f"{path} is no journal: its first record is not whole")
+        how = f", so it is damaged at octet 0 ({_ACCEPT_ALL})" if is_lost else ""
+        raise Refusal(f"{path} is no journal: its first record is not whole{how}")
     if found.end != wanted.end:
         raise Refusal(f"{path}: its end is {found.end}, and this front end's {wanted.end}")
     for name, has, asked in (

@@ -94,7 +94,7 @@ def read(text: Octets, end: str) -> Begun | None:
     """What stands behind the first record of a whole journal of an end; None where that is no state."""
     records = _Records(text, text.find(b"\n") + 1)
     line = records.next()
-    if line is None and _had_one(text, records.at):
+    if line is None and had_one(text, records.at):
         raise NotWhole(records.at)
     if line is None or not line.startswith(_STATE):
         return None
@@ -121,7 +121,7 @@ def _take_moment(records: _Records) -> None:
         records.take()
 
 
-def _had_one(text: Octets, at: int) -> bool:
+def had_one(text: Octets, at: int) -> bool:
     """Whether a state stood there, whose first record is not whole: it begins so still, or has its last line."""
     return text[at : at + len(_STATE)] == _STATE or text.find(b"\n%b #" % _LAST, at, at + _MOST) != -1
 
