@@ -20,7 +20,7 @@ from wisangub.snmp import wire
 
 from .bench import PROGRAM, Bench, bench
 
-HIDDEN = re.compile(r'<input type="hidden" name="(confirmation|kind|sign|number)" value="([^"]*)">')
+HIDDEN = re.compile(r'<input type="hidden" name="(confirmation|newest|kind|sign|number)" value="([^"]*)">')
 PATIENCE = 60.0
 
 

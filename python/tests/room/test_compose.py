@@ -291,3 +291,45 @@ def test_no_name_is_looked_up_for_a_command(tmp_path: pathlib.Path, monkeypatch:
     service.close()
     assert looked == {"127.0.0.1"}, "who blanks many signs waits for no server of names"
     assert [line.split(" ")[-1] for _, line in lines] == ["127.0.0.1", "0.0.0.0"]
+
+
+async def _form(one: Visitor, page: str) -> list[tuple[str, str]]:
+    """The hidden fields of a confirmation, but for the form's token."""
+    held = re.findall(r'<input type="hidden" name="(\w+)" value="([^"]*)">', page[page.index('action="/send"') :])
+    return [field for field in held if field[0] != "token"]
+
+
+def test_what_another_one_asked_for_meanwhile_is_not_taken_away_unseen(tmp_path: pathlib.Path, where: str) -> None:
+    """Two operators at one sign: who presses second has not seen what the first one shows there."""
+
+    async def act(bench: Bench, visitor: Visitors) -> None:
+        bench.read(bench.one)
+        one, other = [await bench.logged_in(visitor, name) for name in ("operator", "administrator")]
+        path = f"/blank?sign={bench.one}&sign={bench.gantry}"
+        blank = [*await _form(one, (await one.get(path))[1]), ("priority", "255"), ("lasts", "forever")]
+        text = await confirmation(other, [("sign", str(bench.one)), *GOOD.items()])
+        assert (await other.post("/send", text))[2] == "/batches/1"
+        assert (await other.post("/send", text))[2] == "/batches/1", "what is one's own is asked for once"
+
+        status, page, _ = await one.post("/send", blank)
+        assert status == 409 and "administrator has asked for something else of one meanwhile" in page
+        assert "administrator asked for “publish in changeable 2” “FOG” before" in page, "it waits"
+        assert len(queries.commands(bench.store.database, queries.Wanted())) == 1, "nothing was done, on no sign"
+        again = [*await _form(one, page), ("priority", "255"), ("lasts", "forever")]
+        assert (await one.post("/send", again))[2].startswith("/batches/"), "who has seen it may"
+
+    run(tmp_path, where, act)
+
+
+def test_what_was_withdrawn_meanwhile_keeps_nobody_waiting(tmp_path: pathlib.Path, where: str) -> None:
+    async def act(bench: Bench, visitor: Visitors) -> None:
+        one = await bench.logged_in(visitor, "operator")
+        text = await confirmation(one, [("sign", str(bench.one)), *GOOD.items()])
+        of_another = bench.store.commands.ask(bench.two, "administrator", "blank 1 65535 255 192.0.2.1")
+        command = bench.store.commands.ask(bench.one, "administrator", "blank 1 65535 255 192.0.2.1")
+        assert bench.store.commands.withdraw(command, "administrator") and of_another
+        changed = [(key, str(command) if key == "newest" else value) for key, value in text]
+        assert (await one.post("/send", changed))[0] == 400, "what it saw is sealed"
+        assert (await one.post("/send", text))[2] == "/batches/1"
+
+    run(tmp_path, where, act)

@@ -16,7 +16,7 @@ from wisangub.refusal import Refusal
 from wisangub.room.__main__ import PARTS
 from wisangub.room.fleet import Sign
 from wisangub.room.store import database
-from wisangub.room.store.commands import Command
+from wisangub.room.store.commands import Command, Meanwhile
 from wisangub.room.store.connection import Row
 from wisangub.room.store.database import Database, Failed, Taken
 from wisangub.room.store.lines import Line, News
@@ -343,3 +343,33 @@ def test_a_command_and_its_audit_are_one(where: str) -> None:
     assert first.commands.how(commands[0]) == "withdrawn by you" and first.commands.how(commands[1]) is None
     noted = [("me", f"one: {BLANK}")] * 2 + [("you", f"one: command {commands[0]} is withdrawn")]
     assert first.database.run("SELECT who, what FROM audit ORDER BY id") == noted
+
+
+def test_of_two_that_ask_at_the_same_time_one_is_told(where: str) -> None:
+    """Each has seen that nothing was asked for yet: who comes second has not seen what the first one asks for."""
+    first, second, sign = two_stores(where)
+    both, said = threading.Barrier(2), list[object]()
+    for name in ("me", "you"):
+        person(first.database, name)
+
+    def ask(store: Store, who: str, word: str, newest: int) -> None:
+        both.wait()
+        try:
+            said.append(store.commands.ask_all([(sign, BLANK)], who, "nothing", word, newest=newest))
+        except Meanwhile as refused:
+            said.append(str(refused))
+
+    for turn in range(8):
+        said.clear()
+        newest = first.commands.newest([sign])
+        threads = [
+            threading.Thread(target=ask, args=(store, who, f"{turn} {who}", newest))
+            for store, who in ((first, "me"), (second, "you"))
+        ]
+        for thread in threads:
+            thread.start()
+        for thread in threads:
+            thread.join()
+        (words,) = [one for one in said if isinstance(one, str)]
+        assert words.endswith("has asked for something else of one meanwhile") and len(said) == 2
+        assert first.database.run("SELECT count(*) FROM commands") == [(turn + 1,)]

@@ -3,13 +3,18 @@
 from dataclasses import dataclass
 from typing import Sequence
 
+from wisangub.refusal import Refusal
 from wisangub.room.plain import counted
 
 from . import rights, rules
 from .audit import note
 from .connection import Database, Taken
 from .shown_by import text_of
-from .values import CLOCK, places, text_or_none, texts, whole
+from .values import CLOCK, places, text_or_none, texts, whole, whole_or_none
+
+
+class Meanwhile(Refusal):
+    """Something else was asked of a sign since somebody saw it."""
 
 GIVEN_UP = "given up"  # the first words on a command that waited for too long
 
@@ -35,15 +40,25 @@ class Commands:
             return self._put(sign, who, line, rules.words(self.database))
 
     def ask_all(
-        self, lines: Sequence[tuple[int, str]], who: str, what: str, confirmation: str, through: str = ""
+        self,
+        lines: Sequence[tuple[int, str]],
+        who: str,
+        what: str,
+        confirmation: str,
+        through: str = "",
+        newest: int | None = None,
     ) -> int:
         """A command for each of these signs, or for none: the number of what was asked, which `what` says in words. A
         confirmation counts once: where it is there already, what was asked with it then. `through` is what another
-        system asked through, for the audit. Refused as in `ask`, and where the user may not give one of them."""
+        system asked through, for the audit. Refused as in `ask`, and where the user may not give one of them; and
+        where something was asked of one of the signs since the command `newest`, which somebody saw as the last one,
+        where that is said. Of those that ask so one is under way at a time."""
         try:
-            with self.database.transaction():
+            with self.database.transaction(is_alone=True):
                 rights.check(self.database, who, lines)
                 batch = self.put_all(lines, who, what, confirmation)
+                if newest is not None:
+                    self._check_none_since([sign for sign, _ in lines], newest, batch)
                 if through:
                     note(self.database, who, f"{what} on {counted(len(lines), 'sign')} was asked for through {through}")
                 return batch
@@ -52,6 +67,29 @@ class Commands:
             if not rows:
                 raise
             return whole(rows[0][0])
+
+    def newest(self, signs: Sequence[int]) -> int:
+        """The number of the newest command of these signs; 0 where there is none."""
+        if not signs:
+            return 0
+        rows = self._run(f"SELECT max(id) FROM commands WHERE sign IN ({places(signs)})", *signs)
+        return whole_or_none(rows[0][0]) or 0
+
+    def _check_none_since(self, signs: Sequence[int], newest: int, batch: int) -> None:
+        """Refuses what somebody asks for who does not know what else was: all commands since but for his own, and
+        those that were withdrawn."""
+        rows = self._run(
+            "SELECT commands.who, signs.name FROM commands JOIN signs ON signs.id = commands.sign"
+            f" WHERE commands.sign IN ({places(signs)}) AND commands.id > ?"
+            " AND COALESCE(commands.outcome, '') NOT LIKE 'withdrawn by %'"
+            " AND commands.id NOT IN (SELECT command FROM batch_commands WHERE batch = ?)"
+            " ORDER BY commands.id DESC LIMIT 1",
+            *signs,
+            newest,
+            batch,
+        )
+        for who, name in rows:
+            raise Meanwhile(f"{who} has asked for something else of {name} meanwhile")
 
     def put_all(self, lines: Sequence[tuple[int, str]], who: str, what: str, confirmation: str) -> int:
         """What was asked together, within a transaction of who has found that it may be asked for: its number."""

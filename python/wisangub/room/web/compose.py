@@ -10,10 +10,11 @@ from aiohttp import web
 
 from wisangub.room.plain import forbidden_in, plain_of
 from wisangub.room.store import groups, library, plans, queries, rules
+from wisangub.room.store.commands import Commands
 from wisangub.room.store.database import Database
 from wisangub.room.store.library import Text
 from wisangub.room.store.plans import Plan
-from wisangub.room.store.queries import SignView
+from wisangub.room.store.queries import CommandView, SignView
 from wisangub.room.store.rules import Purpose
 from wisangub.snmp.names import Memory, RowStatus
 
@@ -187,12 +188,14 @@ async def _of_purpose(service: Service, draft: Draft, number: int) -> Draft:
 
 @dataclass(frozen=True)
 class Line:
-    """A sign of a confirmation: what it is to show, what it showed last, and why it may refuse."""
+    """A sign of a confirmation: what it is to show, what it showed last, why it may refuse, and what of others has not
+    ended there."""
 
     sign: SignView
     picture: str | None
     before: str | None
     warning: str
+    pending: str
 
 
 def warning(sign: SignView, draft: Draft, now: float) -> str:
@@ -207,7 +210,17 @@ def warning(sign: SignView, draft: Draft, now: float) -> str:
     return ""
 
 
+def _pending(command: CommandView | None) -> str:
+    """What this comes after."""
+    if command is None:
+        return ""
+    line = asked(command.line)
+    text = f" “{plain_of(line.text)}”" if line.kind == "publish" else ""
+    return f"{command.who} asked for “{line.what}”{text} before, which has not ended: this comes after it."
+
+
 def lines(service: Service, database: Database, draft: Draft, text: bytes) -> tuple[list[Line], float]:
+    under_way = {command.sign: command for command in queries.under_way(database)}
     found = [queries.sign(database, sign_id) for sign_id in draft.signs]
     now = queries.now(database)
     return [
@@ -216,35 +229,41 @@ def lines(service: Service, database: Database, draft: Draft, text: bytes) -> tu
             service.picture(sign.id, text),
             service.picture(sign.id, sign.shown.text) if sign.shown else None,
             warning(sign, draft, now),
+            _pending(under_way.get(sign.id)),
         )
         for sign in found
         if sign is not None
     ], now
 
 
-async def confirmation(request: web.Request, draft: Draft, text: bytes) -> web.Response:
-    """The last page before it is asked for."""
+async def confirmation(request: web.Request, draft: Draft, text: bytes, said: str = "") -> web.Response:
+    """The last page before it is asked for; `said` is why it was not done as it was shown before."""
     service = service_of(request)
 
-    def held(database: Database) -> tuple[list[Line], float, set[str], list[Plan]]:
-        return *lines(service, database, draft, text), library.kinds_of(database, text), plans.listed(database)
+    def held(database: Database) -> tuple[int, list[Line], float, set[str], list[Plan]]:
+        newest = Commands(database).newest(draft.signs)  # before what is shown
+        made, now = lines(service, database, draft, text)
+        return newest, made, now, library.kinds_of(database, text), plans.listed(database)
 
-    found, now, kinds, known = await service.connections.run(held)
+    newest, found, now, kinds, known = await service.connections.run(held)
     may = rights_of(request).may_command
     return service.page(
         request,
         "confirm.html",
+        status=409 if said else 200,
+        said=said,
+        newest=newest,
         draft=draft,
         lines=found,
         now=now,
         unapproved=[one.sign.name for one in found if service.faces[one.sign.id].key not in kinds],
         plans=[plan.name for plan in known if all(map(may, plan.signs))],
         shown_text=text_of(text),
-        confirmation=service.seal.confirmation(visitor_of(request).login, draft.confirmed),
+        confirmation=service.seal.confirmation(visitor_of(request).login, draft.confirmed_at(newest)),
     )
 
 
-def _row_in(fields: Any, key: str) -> int | None:
+def row_in(fields: Any, key: str) -> int | None:
     """The number of a row that a form names."""
     word = str(fields.get(key, ""))
     return int(word) if word.isascii() and word.isdecimal() and len(word) < 10 else None
@@ -255,7 +274,7 @@ async def confirm(request: web.Request) -> web.Response:
     service = service_of(request)
     fields = await request.post()
     draft = drafts.read(fields, commanded(request))
-    purpose = _row_in(fields, "purpose")
+    purpose = row_in(fields, "purpose")
     if purpose is not None:
         draft = await _of_purpose(service, draft, purpose)
     if draft.faults or fields.get("do") == "back":

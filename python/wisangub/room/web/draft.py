@@ -69,6 +69,10 @@ class Draft:
             return repr((self.kind, self.signs, self.memory, self.number, self.checksum))
         return repr(dataclasses.astuple(dataclasses.replace(self, faults={})))
 
+    def confirmed_at(self, newest: int) -> str:
+        """The same, beside the newest command of its signs that the page knew of."""
+        return f"{self.confirmed} after {newest}"
+
     def line(self, owner: str, address: str) -> str:
         """The line of a centre."""
         if self.kind == "blank":

@@ -10,9 +10,10 @@ from wisangub.endpoint.sockets import connected
 from wisangub.refusal import Refusal
 from wisangub.room.fleet import Sign
 from wisangub.room.store import history, queries
-from wisangub.room.store.commands import Commands
+from wisangub.room.store.commands import Commands, Meanwhile
 from wisangub.room.store.database import Database
 from wisangub.room.store.history import Batch
+from wisangub.room.store.shown_by import text_of
 
 from . import compose
 from . import draft as drafts
@@ -50,6 +51,7 @@ class Confirmed:
 
     draft: Draft
     word: str
+    newest: int  # the newest command of the signs that the page knew of
 
 
 async def confirmed(request: web.Request) -> Confirmed | web.Response:
@@ -64,12 +66,12 @@ async def confirmed(request: web.Request) -> Confirmed | web.Response:
         raise web.HTTPUnprocessableEntity(text=" ".join(draft.faults.values()))
     if not await _is_drawn(service, draft):
         return await compose.answer(request, draft, 422)
-    if not service.seal.is_confirmation(confirmation, visitor.login, draft.confirmed):
+    newest = compose.row_in(fields, "newest")
+    if newest is None or not service.seal.is_confirmation(confirmation, visitor.login, draft.confirmed_at(newest)):
         raise web.HTTPBadRequest(
             text="This is not what was confirmed here, so nothing was done. Please look at it again."
         )
-
-    return Confirmed(draft, confirmation)
+    return Confirmed(draft, confirmation, newest)
 
 
 def lines_of(service: Service, draft: Draft, owner: str) -> list[tuple[int, str]]:
@@ -82,14 +84,22 @@ async def send(request: web.Request) -> web.StreamResponse:
     service, visitor, found = service_of(request), visitor_of(request), await confirmed(request)
     if isinstance(found, web.Response):
         return found
-    draft, confirmation = found.draft, found.word
+    draft = found.draft
 
     def done(database: Database) -> int:
         lines = lines_of(service, draft, visitor.name)
-        return Commands(database).ask_all(lines, visitor.name, asked(lines[0][1]).what, confirmation)
+        what = asked(lines[0][1]).what
+        return Commands(database).ask_all(lines, visitor.name, what, found.word, newest=found.newest)
+
+    def text(database: Database) -> bytes:
+        sign, line = lines_of(service, draft, visitor.name)[0]
+        return text_of(database, sign, line)
 
     try:
         number = await service.connections.run(done)
+    except Meanwhile as refused:
+        shown = await service.connections.run(text)
+        return await compose.confirmation(request, draft, shown, f"Nothing was done: {refused}. Look at it again.")
     except Refusal as refused:
         raise web.HTTPUnprocessableEntity(text=f"Nothing was done: {refused}.") from None
     raise web.HTTPSeeOther(f"/batches/{number}")
