@@ -333,3 +333,24 @@ def test_what_was_withdrawn_meanwhile_keeps_nobody_waiting(tmp_path: pathlib.Pat
         assert (await one.post("/send", text))[2] == "/batches/1"
 
     run(tmp_path, where, act)
+
+
+@pytest.mark.parametrize("path", ("/blank?sign={}", "/show?sign={}&memory=3&number=1"))
+def test_minutes_that_were_written_are_not_left_out(tmp_path: pathlib.Path, path: str) -> None:
+    """Who has no script, or is in a hurry, writes them and presses the button, and nothing shows them again."""
+
+    async def act(bench: Bench, visitor: Visitors) -> None:
+        bench.table(bench.one)
+        bench.read(bench.one)
+        one = await bench.logged_in(visitor, "operator")
+        page = (await one.get(path.format(bench.one)))[1]
+        assert '<input name="minutes" type="number" min="1" max="65534" value=""' in page
+        held = [*await _form(one, page), ("priority", "255")]
+        status, page, _ = await one.post("/send", [*held, ("lasts", "forever"), ("minutes", "30")])
+        assert status == 422 and "Minutes are given, and not chosen" in page
+        assert not queries.commands(bench.store.database, queries.Wanted())
+        assert (await one.post("/send", [*held, ("lasts", "minutes"), ("minutes", "")]))[0] == 422
+        assert (await one.post("/send", [*held, ("lasts", "minutes"), ("minutes", "30")]))[0] == 303
+        assert asked(queries.commands(bench.store.database, queries.Wanted())[0].line).minutes == 30
+
+    run(tmp_path, str(tmp_path / "database"), act)

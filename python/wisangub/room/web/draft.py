@@ -123,8 +123,11 @@ class Form:
             self.faults["sign"] = "Choose at least one sign."
         return tuple(found)
 
-    def minutes(self) -> int:
+    def minutes(self, is_last: bool) -> int:
+        """How long. Where no other page shows it again, minutes that were written and not chosen are not left out."""
         if self.word("lasts", "forever") != "minutes":
+            if is_last and self.word("minutes").strip():
+                self.faults["minutes"] = "Minutes are given, and not chosen: choose them, or leave them out."
             return NO_END
         return self.number("minutes", 1, NO_END - 1, NO_END, "A duration in minutes")
 
@@ -160,7 +163,7 @@ def read(fields: Any, faces: Mapping[int, Face], kind: str = "publish") -> Draft
         int(form.word("pixel") == "1"),
         form.number("run", 1, 255, 100, "A priority"),
         form.number("priority", 0, 255, 100 if kind == "publish" else 255, "An activation priority"),
-        form.minutes(),
+        form.minutes(is_last=kind != "publish"),
         form.number("checksum", 0, 65535, 0, "A checksum"),
     )
     if kind == "publish":

@@ -192,3 +192,9 @@ label(document);
 tellAges();
 setInterval(tellAges, 1000);
 if (body.dataset.view) listen(body.dataset.view);
+// minutes that are written are meant, and none are left where they are not
+for (const minutes of document.querySelectorAll(".asked-still input[name=minutes]")) {
+  const [forever, ends] = minutes.form.querySelectorAll("input[name=lasts]");
+  minutes.addEventListener("input", () => { ends.checked = true; });
+  forever.addEventListener("change", () => { minutes.value = ""; });
+}
