@@ -3,7 +3,9 @@
 import asyncio
 import csv
 import io
+import json
 import pathlib
+import re
 
 from . import needs
 
@@ -15,9 +17,10 @@ from wisangub.room.store import groups, history, search
 from wisangub.room.store.audit import note
 from wisangub.room.store.connection import Away, Database
 from wisangub.room.store.lines import Line, News
+from wisangub.room.store.readings import Said
 from wisangub.room.store.rights import Level
 
-from .visits import Bench, Visitor, Visitors, run
+from .visits import SHOWN, Bench, Visitor, Visitors, run
 
 DAY = 86_400.0
 BERLIN = 1_795_557_870.0  # 24 November 2026, 23:04:30 there, 22:04:30 UTC
@@ -277,3 +280,57 @@ def test_csv_that_breaks_off_seems_not_to_be_whole(
 
     monkeypatch.setattr(exports, "SLICE", 2)
     run(tmp_path, str(tmp_path / "database"), act)
+
+
+def showed(bench: Bench, count: int) -> None:
+    """A sign showed so many texts, each once, and was silent then."""
+    texts_of = [json.dumps({**SHOWN, "text": f"TEXT {at}".encode().hex()}) for at in range(1, count + 1)]
+    said = [Said(bench.one, -at, 65535, words) for at, words in enumerate(texts_of, 1)]
+    bench.store.readings.keep([*said, Said(bench.one, -count - 1, fault="no reply")])
+
+
+async def paged(one: Visitor, path: str, pattern: str) -> list[str]:
+    """What stands on a page and on all that it leads to."""
+    found: list[str] = []
+    while path:
+        status, text = await one.get(path)
+        assert status == 200, path
+        found += re.findall(pattern, text)
+        (path,) = re.findall(r'href="([^"]*[?]before=[0-9]+)"', text) or [""]
+    return found
+
+
+def test_all_that_a_sign_showed_is_there(tmp_path: pathlib.Path, monkeypatch: pytest.MonkeyPatch, where: str) -> None:
+    """However much it is: what a page leaves out it leads to, and a file has all of it."""
+    from wisangub.room.web import exports
+
+    monkeypatch.setattr(exports, "SLICE", 100)
+
+    async def act(bench: Bench, visitor: Visitors) -> None:
+        showed(bench, 250)
+        one = await bench.logged_in(visitor, "reader")
+        every = [f"TEXT {at}" for at in range(250, 0, -1)]
+        assert await paged(one, f"/signs/{bench.one}/shown", r"<code>(TEXT \d+)</code>") == every
+        assert "nothing earlier" in (await one.get(f"/signs/{bench.one}/shown?before=1"))[1]
+        found = await rows(one, f"/signs/{bench.one}/shown.csv")
+        assert [row["text"] for row in found] == ["", *every] and found[0]["fault"] == "no reply"
+        last = found[-1]
+        assert (last["number"], last["sign"], last["row"], last["mode"]) == ("1", "one", "changeable 1", "central")
+        assert (last["priority"], last["owner"], last["activated_from"]) == ("100", "me", "192.0.2.1")
+        assert last["from"] and last["until"] and not last["fault"]
+        said = [what for _, _, who, what in history.audit(bench.store.database, None) if who == "reader"]
+        assert said[0] == "exported what one showed"
+
+    run(tmp_path, where, act)
+
+
+def test_all_entries_of_the_ledger_are_there(tmp_path: pathlib.Path, where: str) -> None:
+    async def act(bench: Bench, visitor: Visitors) -> None:
+        entries = [f"ledger {at} ffffff0300019a66c0000201 accepted" for at in range(1, 451)]
+        bench.store.lines.keep([News(bench.one, entries)])
+        one = await bench.logged_in(visitor, "reader")
+        numbers = await paged(one, f"/signs/{bench.one}/ledger", r'<th scope="row">(\d+)</th>')
+        assert numbers == [str(at) for at in range(450, 0, -1)]
+        assert "nothing earlier" in (await one.get(f"/signs/{bench.one}/ledger?before=1"))[1]
+
+    run(tmp_path, where, act)

@@ -160,6 +160,7 @@ STRANGE = (
     "/signs/{gantry}/table",
     "/signs/{gantry}/ledger",
     "/signs/{gantry}/shown",
+    "/signs/{gantry}/shown.csv",
     "/signs/{gantry}/log",
 )
 

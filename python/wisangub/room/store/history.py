@@ -62,12 +62,14 @@ class Activation:
     line: str | None = None
 
 
-def ledger(database: Database, number: int, most: int = 200) -> list[Activation]:
-    """The newest entries."""
+def ledger(database: Database, number: int, most: int = 200, before: int | None = None) -> list[Activation]:
+    """The newest entries, of those before one of this number."""
     rows = database.run(
         "SELECT ledger.number, ledger.code, ledger.outcome, ledger.at, commands.who, commands.line FROM ledger"
-        " LEFT JOIN commands ON commands.id = ledger.command WHERE ledger.sign = ? ORDER BY ledger.number DESC LIMIT ?",
+        " LEFT JOIN commands ON commands.id = ledger.command WHERE ledger.sign = ? AND ledger.number < ?"
+        " ORDER BY ledger.number DESC LIMIT ?",
         number,
+        2**62 if before is None else before,
         most,
     )
     return [
@@ -78,25 +80,33 @@ def ledger(database: Database, number: int, most: int = 200) -> list[Activation]
 
 @dataclass(frozen=True)
 class ReadingView:
-    """What a sign said it showed, or why it said nothing, from when until when."""
+    """What a sign said it showed, or why it said nothing, from when until when; of later ones the number is less."""
 
+    number: int
     at: float
     heard: float
     shown: Shown | None
     fault: str | None
 
 
-def readings(database: Database, number: int, most: int = 100) -> list[ReadingView]:
+def readings(database: Database, number: int, most: int = 100, after: int | None = None) -> list[ReadingView]:
+    """The newest, of those before one of this number."""
     rows = database.run(
-        "SELECT readings.at, CASE WHEN hearings.newest = readings.number THEN COALESCE(hearings.heard, readings.heard)"
-        " ELSE readings.heard END, shown, fault FROM readings LEFT JOIN hearings ON hearings.sign = readings.sign"
-        " WHERE readings.sign = ? ORDER BY readings.number LIMIT ?",
+        "SELECT readings.number, readings.at, CASE WHEN hearings.newest = readings.number"
+        " THEN COALESCE(hearings.heard, readings.heard) ELSE readings.heard END, shown, fault"
+        " FROM readings LEFT JOIN hearings ON hearings.sign = readings.sign"
+        " WHERE readings.sign = ? AND readings.number > ? ORDER BY readings.number LIMIT ?",
         number,
+        -(2**62) if after is None else after,
         most,
     )
     return [
         ReadingView(
-            time_of(row[0]), time_of(row[1]), None if row[2] is None else Shown.of(str(row[2])), text_or_none(row[3])
+            whole(row[0]),
+            time_of(row[1]),
+            time_of(row[2]),
+            None if row[3] is None else Shown.of(str(row[3])),
+            text_or_none(row[4]),
         )
         for row in rows
     ]

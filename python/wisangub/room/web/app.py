@@ -79,6 +79,7 @@ ROUTES = (
     Route("POST", r"/signs/{sign:\d{1,9}}/brightness", brightness_pages.ask, _OPERATOR),
     Route("GET", r"/signs/{sign:\d{1,9}}/ledger", record_pages.ledger),
     Route("GET", r"/signs/{sign:\d{1,9}}/shown", record_pages.shown),
+    Route("GET", r"/signs/{sign:\d{1,9}}/shown.csv", exports.shown_csv),
     Route("GET", r"/signs/{sign:\d{1,9}}/log", log_pages.log),
     Route("GET", "/history", record_pages.history_page),
     Route("GET", "/alarms", alarm_pages.listed),

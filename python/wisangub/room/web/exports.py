@@ -1,4 +1,5 @@
-"""History and audit as CSV (RFC 4180, in UTF-8): all that a page of them looks for, however much it is."""
+"""History, audit and what a sign showed as CSV (RFC 4180, in UTF-8): all that a page of them looks for, however much it
+is."""
 
 import csv
 import io
@@ -13,17 +14,21 @@ from aiohttp import web
 from wisangub.room.store import history, queries
 from wisangub.room.store.audit import note
 from wisangub.room.store.database import Database
-from wisangub.room.store.history import AuditWanted, Entry
+from wisangub.room.store.history import AuditWanted, Entry, ReadingView
 from wisangub.room.store.queries import CommandView
 from wisangub.room.store.search import SLICE
 
 from . import words
 from .progress import because
 from .record_pages import Asked, wanted_of
-from .service import Service, service_of, visitor_of
+from .service import Service, service_of, sign_of, visitor_of
 
 _COMMANDS = ("number", "asked", "sign", "who", "what", "text", "how", "outcome", "why", "ended")
 _ENTRIES = ("number", "at", "who", "what")
+_SHOWN = (
+    *("number", "from", "until", "sign", "text", "mode", "row", "priority", "owner"),
+    *("activated_from", "beacon", "pixel_service", "fault"),
+)
 _FORMULA = re.compile(r"(^|[;\t\r\n])(?=[=+\-@\t\r])")  # where some spreadsheet would see the beginning of one
 _AT_ONCE = struct.pack("ii", 1, 0)  # what waits to go out is thrown away
 _Slice = Callable[[Database, int | None], tuple[list[Sequence[Any]], int | None]]
@@ -49,10 +54,12 @@ def _command(service: Service, one: CommandView) -> Sequence[Any]:
     return one.id, time(one.at), one.sign_name, one.who, line.what, text, line.how, how, why, ended
 
 
-async def _exported(request: web.Request, name: str, columns: tuple[str, ...], slice_of: _Slice) -> web.StreamResponse:
-    """Slice after slice, each in a thread; that somebody took it stands in the audit."""
+async def _exported(
+    request: web.Request, name: str, columns: tuple[str, ...], slice_of: _Slice, of: str = ""
+) -> web.StreamResponse:
+    """Slice after slice, each in a thread; that somebody took it stands in the audit, with `of` what it is in words."""
     service, visitor, query = service_of(request), visitor_of(request), request.query_string[:200]
-    what = f"exported the {name}" + (f", {query}" if query else "")
+    what = f"exported {of or f'the {name}'}" + (f", {query}" if query else "")
     await service.connections.run(lambda database: note(database, visitor.name, what))
     answer = web.StreamResponse(headers={"Content-Type": "text/csv; charset=utf-8"})
     answer.headers["Content-Disposition"] = f'attachment; filename="{name}.csv"'
@@ -105,3 +112,36 @@ async def audit_csv(request: web.Request) -> web.StreamResponse:
         return [row(one) for one in found if asked.takes_entry(one)], found[-1][0] if len(found) == SLICE else None
 
     return await _exported(request, "audit", _ENTRIES, slice_of)
+
+
+def _reading(service: Service, sign: str, one: ReadingView) -> Sequence[Any]:
+    time = service.clock.iso
+    head = -one.number, time(one.at), time(one.heard), sign
+    if one.shown is None:
+        return *head, *[None] * 8, one.fault
+    it = one.shown
+    return (
+        *head,
+        words.text_of(it.text),
+        words.mode_word(it.mode),
+        words.source_word(it.source),
+        it.priority,
+        words.text_of(it.owner),
+        words.address_word(it.requester),
+        it.beacon,
+        it.pixel,
+        None,
+    )
+
+
+async def shown_csv(request: web.Request) -> web.StreamResponse:
+    """All that a sign said that it showed."""
+    service, sign_id = service_of(request), sign_of(request)
+    name = service.signs[sign_id].name
+
+    def slice_of(database: Database, after: int | None) -> tuple[list[Sequence[Any]], int | None]:
+        found = history.readings(database, sign_id, SLICE, after)
+        rows = [_reading(service, name, one) for one in found]
+        return rows, found[-1].number if len(found) == SLICE else None
+
+    return await _exported(request, "shown", _SHOWN, slice_of, f"what {name} showed")

@@ -20,6 +20,7 @@ from .service import Service, rights_of, service_of, sign_of
 
 _OUTCOMES = ("accepted", "failed", "open")
 _MOST, _MOST_LINES = 50, 100
+_MOST_ACTIVATIONS, _MOST_READINGS = 200, 100
 _MOST_FIND = 100
 
 
@@ -180,25 +181,35 @@ def _activated(service: Service, one: Activation) -> Activated:
 
 
 async def ledger(request: web.Request) -> web.Response:
-    service, sign_id = service_of(request), sign_of(request)
+    service, sign_id, before = service_of(request), sign_of(request), number_of(request, "before")
 
     def found(database: Database) -> tuple[SignView | None, list[Activation], float]:
-        return queries.sign(database, sign_id), history.ledger(database, sign_id), queries.now(database)
+        rows = history.ledger(database, sign_id, _MOST_ACTIVATIONS + 1, before)
+        return queries.sign(database, sign_id), rows, queries.now(database)
 
     sign, rows, now = await service.connections.run(found)
-    entries = [_activated(service, one) for one in rows]
-    return service.page(request, "ledger.html", sign=sign, entries=entries, now=now, tab="ledger")
+    entries = [_activated(service, one) for one in rows[:_MOST_ACTIVATIONS]]
+    earlier = entries[-1].number if len(rows) > len(entries) else None
+    return service.page(
+        request, "ledger.html", sign=sign, entries=entries, now=now, tab="ledger", before=before, earlier=earlier
+    )
 
 
 async def shown(request: web.Request) -> web.Response:
-    service, sign_id = service_of(request), sign_of(request)
+    """Numbers of readings are below 0, and stand in addresses without their sign."""
+    service, sign_id, before = service_of(request), sign_of(request), number_of(request, "before")
+    after = None if before is None else -before
 
     def found(database: Database) -> tuple[SignView | None, list[history.ReadingView], float]:
-        return queries.sign(database, sign_id), history.readings(database, sign_id), queries.now(database)
+        rows = history.readings(database, sign_id, _MOST_READINGS + 1, after)
+        return queries.sign(database, sign_id), rows, queries.now(database)
 
     sign, rows, now = await service.connections.run(found)
-    said = [(one, service.picture(sign_id, one.shown.text) if one.shown else None) for one in rows]
-    return service.page(request, "shown.html", sign=sign, rows=said, now=now, tab="shown")
+    said = [(one, service.picture(sign_id, one.shown.text) if one.shown else None) for one in rows[:_MOST_READINGS]]
+    earlier = -said[-1][0].number if len(rows) > len(said) else None
+    return service.page(
+        request, "shown.html", sign=sign, rows=said, now=now, tab="shown", before=before, earlier=earlier
+    )
 
 
 async def audit(request: web.Request) -> web.Response:

@@ -84,12 +84,12 @@ async def send(request: web.Request) -> web.StreamResponse:
     service, visitor, found = service_of(request), visitor_of(request), await confirmed(request)
     if isinstance(found, web.Response):
         return found
-    draft = found.draft
+    draft, confirmation, newest = found.draft, found.word, found.newest
 
     def done(database: Database) -> int:
         lines = lines_of(service, draft, visitor.name)
         what = asked(lines[0][1]).what
-        return Commands(database).ask_all(lines, visitor.name, what, found.word, newest=found.newest)
+        return Commands(database).ask_all(lines, visitor.name, what, confirmation, newest=newest)
 
     def text(database: Database) -> bytes:
         sign, line = lines_of(service, draft, visitor.name)[0]
