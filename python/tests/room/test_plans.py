@@ -20,7 +20,7 @@ needs.modules("aiohttp", "jinja2")
 
 from wisangub.process.places import environment
 from wisangub.refusal import Refusal
-from wisangub.room.store import database, history, plans, queries, rules
+from wisangub.room.store import database, groups, history, plans, queries, rules
 from wisangub.room.store.database import Database
 from wisangub.room.store.rights import Level
 from wisangub.room.store.sqlite import Sqlite
@@ -364,6 +364,28 @@ def test_who_may_change_a_plan(where: str) -> None:
     with pytest.raises(Refusal, match="no sign yet"):
         plans.take_out(held, number, one, "me")
         plans.begin(held, number, "me")
+
+
+def test_no_sign_is_blanked_by_who_may_not_command_it(where: str) -> None:
+    """Nor by the end of a plan that it was taken out of while that was on."""
+    store, _, one = two_stores(where)
+    held = store.database
+    other = next(row for row in store.signs.enter([SIGN, OTHER]) if row != one)
+    number = planned(store, one, other)
+    person(held, "neighbour", level=Level.NOTHING)
+    group = groups.add(held, "A 9", "route", "me")
+    groups.change_signs(held, group, frozenset([one]), frozenset([one, other]), "me")
+    groups.give(held, group, "neighbour", Level.PUBLISH, "me")
+    plans.begin(held, number, "me")
+    held.run("UPDATE commands SET line_number = 1, outcome = 'accepted'")
+    for sign in (other, one):
+        plans.take_out(held, number, sign, "me")
+        with pytest.raises(Refusal, match="neighbour may not command every sign that this plan has put a text on"):
+            plans.end(held, number, "neighbour")
+        found = plans.found(held, number)
+        assert found is not None and found.is_on and len(lines(held)) == 2
+    plans.end(held, number, "me")
+    assert lines(held)[2:] == [(one, "me", OFF), (other, "me", OFF)]
 
 
 LOOKER = """

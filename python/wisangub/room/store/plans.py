@@ -226,11 +226,15 @@ def begin(database: Database, number: int, who: str, shown: str | None = None) -
 
 
 def end(database: Database, number: int, who: str) -> None:
-    """Ends a plan that is on, however it was begun."""
+    """Ends a plan that is on, however it was begun. Signs that were taken out of it since are blanked too, and so he
+    has to be one who may command these."""
     with database.transaction(is_alone=True):
         plan = _let(database, number, who)
         if plan.last is None or plan.last.ended is not None:
             raise Refusal("the plan is not on")
+        signs = [whole(sign) for _, sign, _ in _asked_by(database, plan.last)]
+        if not all(map(rights.of_user(database, who).may_command, signs)):
+            raise Refusal(f"{who} may not command every sign that this plan has put a text on")
         _end(database, plan.name, plan.last, who)
 
 
@@ -333,19 +337,23 @@ def _end(database: Database, name: str, run: Run, who: str) -> None:
     """Takes the texts of a run off, within a transaction: not where somebody asked for something else since."""
     database.run("UPDATE plan_runs SET ended = {clock} WHERE id = ?", run.id)
     note(database, who, f"plan {name} ends")
-    rows = database.run(
-        "SELECT commands.id, commands.sign, commands.line FROM commands"
-        " JOIN batch_commands ON batch_commands.command = commands.id WHERE batch_commands.batch = ?"
-        " ORDER BY commands.id",
-        run.batch,
-    )
     lines = []
-    for command, sign, line in rows:
+    for command, sign, line in _asked_by(database, run):
         if _is_to_take_off(database, whole(command), whole(sign), who):
             words = str(line).split(" ")
             lines.append((whole(sign), f"blank 1 65535 {words[7]} {words[10]}"))
     if lines:
         Commands(database).put_all(lines, who, f"plan {name} ends", f"plan {run.occurrence} ends")
+
+
+def _asked_by(database: Database, run: Run) -> list[Row]:
+    """The commands of a run, each with its number, its sign and its line."""
+    return database.run(
+        "SELECT commands.id, commands.sign, commands.line FROM commands"
+        " JOIN batch_commands ON batch_commands.command = commands.id WHERE batch_commands.batch = ?"
+        " ORDER BY commands.id",
+        run.batch,
+    )
 
 
 def _is_to_take_off(database: Database, command: int, sign: int, who: str) -> bool:
