@@ -1,5 +1,6 @@
 """Log-ins in the database: how long one waits after those that failed, which stand, and when they end."""
 
+import contextlib
 import hashlib
 import ipaddress
 import secrets
@@ -8,7 +9,7 @@ from dataclasses import dataclass
 from wisangub.refusal import Refusal
 
 from .audit import note
-from .connection import Database
+from .connection import Database, Failed
 from .users import Role, check_secret
 from .values import SLACK, time_of, whole
 
@@ -206,7 +207,8 @@ def find(database: Database, cookie: str, idle: float = IDLE, is_asked: bool = F
     if not rows:
         return None
     if is_asked and time_of(rows[0][2]) > min(_LOOK, idle / 10):
-        database.run("UPDATE logins SET seen = {clock} WHERE id = ? AND ended IS NULL", _hidden(cookie))
+        with contextlib.suppress(Failed):  # a disk that is full keeps nobody from what signs show
+            database.run("UPDATE logins SET seen = {clock} WHERE id = ? AND ended IS NULL", _hidden(cookie))
     return Visitor(str(rows[0][0]), Role.of(str(rows[0][1])), cookie)
 
 

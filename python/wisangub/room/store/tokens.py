@@ -3,6 +3,7 @@
 The database has the digest of a token alone; what is sent is shown once, as it is made.
 """
 
+import contextlib
 import hashlib
 import secrets
 from dataclasses import dataclass
@@ -11,7 +12,7 @@ from wisangub.refusal import Refusal
 from wisangub.room.plain import counted
 
 from .audit import note
-from .connection import Database, Row
+from .connection import Database, Failed, Row
 from .rules import name_of
 from .users import Role, check_secret
 from .values import SLACK, time_of, time_or_none, whole
@@ -133,7 +134,8 @@ def find(database: Database, word: str, address: str) -> Holder | None:
         _refuse(database, whole(number), f"token “{name}” is refused, since it has ended, from {address}", str(user))
         return None
     if abs(time_of(age)) > _LOOK:  # at a time to come: the clock jumped
-        database.run("UPDATE tokens SET used_at = {clock} WHERE id = ?", number)
+        with contextlib.suppress(Failed):  # a disk that is full keeps nobody from what signs show
+            database.run("UPDATE tokens SET used_at = {clock} WHERE id = ?", number)
     return Holder(whole(number), str(name), str(user), Role.READER if reads_only else Role.of(str(role)))
 
 
