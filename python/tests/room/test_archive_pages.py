@@ -1,7 +1,9 @@
 """Pages of archives: what was in the database once, for administrators."""
 
+import csv
 import gzip
 import html
+import io
 import os
 import pathlib
 import re
@@ -117,3 +119,24 @@ def test_without_a_folder(tmp_path: pathlib.Path) -> None:
         assert (await one.get("/archives/old.gz"))[0] == 404 and "archives" not in (await one.get("/history"))[1]
 
     run(tmp_path, str(tmp_path / "database"), act)
+
+
+def test_what_an_archive_took_is_not_said_never_to_have_been(tmp_path: pathlib.Path, where: str) -> None:
+    """Lists that end say that there may be more of them, to everybody, and files of them do."""
+
+    async def act(bench: Bench, visitor: Visitors) -> None:
+        one, boss = [await bench.logged_in(visitor, name) for name in ("operator", "administrator")]
+        lists = {"/history": one, f"/signs/{bench.one}/shown": one, "/audit": boss}
+        words = "An archive took out what was old, old.gz on 20"
+        for path, who in lists.items():
+            assert words not in (await who.get(path))[1] and words not in (await who.get(f"{path}.csv"))[1], path
+        archived(bench, tmp_path / "archives")
+        for path, who in lists.items():
+            assert words in (await who.get(path))[1], path
+            *_, last = csv.reader(io.StringIO((await who.get(f"{path}.csv"))[1]))
+            assert last[0] == "" and [cell for cell in last if cell] == [cell for cell in last if words in cell], path
+        for path in ("/history", "/audit"):
+            assert words not in (await boss.get(f"{path}?first=2199-01-01"))[1], "nothing of it was then"
+            assert words not in (await boss.get(f"{path}.csv?first=2199-01-01"))[1]
+
+    run(tmp_path, where, act)

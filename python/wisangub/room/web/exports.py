@@ -20,7 +20,7 @@ from wisangub.room.store.search import SLICE
 
 from . import words
 from .progress import because
-from .record_pages import Asked, wanted_of
+from .record_pages import Asked, archived_words, wanted_of
 from .service import Service, service_of, sign_of, visitor_of
 
 _COMMANDS = ("number", "asked", "sign", "who", "what", "text", "how", "outcome", "why", "ended")
@@ -54,10 +54,22 @@ def _command(service: Service, one: CommandView) -> Sequence[Any]:
     return one.id, time(one.at), one.sign_name, one.who, line.what, text, line.how, how, why, ended
 
 
+def _said(columns: tuple[str, ...], what: str) -> Sequence[Any]:
+    """A row that is none of what is exported, and says something of all of it."""
+    at = columns.index("what" if "what" in columns else "fault")
+    return [what if number == at else None for number in range(len(columns))]
+
+
 async def _exported(
-    request: web.Request, name: str, columns: tuple[str, ...], slice_of: _Slice, of: str = ""
+    request: web.Request,
+    name: str,
+    columns: tuple[str, ...],
+    slice_of: _Slice,
+    of: str = "",
+    since: float | None = None,
 ) -> web.StreamResponse:
-    """Slice after slice, each in a thread; that somebody took it stands in the audit, with `of` what it is in words."""
+    """Slice after slice, each in a thread; that somebody took it stands in the audit, with `of` what it is in words.
+    Where an archive may have more of it, from `since` on, a last row without a number says so."""
     service, visitor, query = service_of(request), visitor_of(request), request.query_string[:200]
     what = f"exported {of or f'the {name}'}" + (f", {query}" if query else "")
     await service.connections.run(lambda database: note(database, visitor.name, what))
@@ -72,7 +84,11 @@ async def _exported(
             rows, before = await service.connections.run(lambda database: slice_of(database, after))
             await answer.write(_lines(rows))
             if before is None:
-                return answer
+                break
+        gone = await service.connections.run(lambda database: archived_words(service, database, since))
+        if gone:
+            await answer.write(_lines([_said(columns, gone)]))
+        return answer
     except Exception:
         _break_off(request)
         raise
@@ -95,7 +111,7 @@ async def history_csv(request: web.Request) -> web.StreamResponse:
         rows = [_command(service, one) for one in found if asked.takes_command(one)]
         return rows, found[-1].id if len(found) == SLICE else None
 
-    return await _exported(request, "history", _COMMANDS, slice_of)
+    return await _exported(request, "history", _COMMANDS, slice_of, since=asked.since)
 
 
 async def audit_csv(request: web.Request) -> web.StreamResponse:
@@ -111,7 +127,7 @@ async def audit_csv(request: web.Request) -> web.StreamResponse:
         found = history.audited(database, replace(wanted, before=before))
         return [row(one) for one in found if asked.takes_entry(one)], found[-1][0] if len(found) == SLICE else None
 
-    return await _exported(request, "audit", _ENTRIES, slice_of)
+    return await _exported(request, "audit", _ENTRIES, slice_of, since=asked.since)
 
 
 def _reading(service: Service, sign: str, one: ReadingView) -> Sequence[Any]:

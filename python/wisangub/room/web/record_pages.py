@@ -8,7 +8,7 @@ from aiohttp import web
 
 from wisangub.endpoint.texts import ended
 from wisangub.room.plain import plain_of
-from wisangub.room.store import history, queries
+from wisangub.room.store import archived, history, queries
 from wisangub.room.store import words as find_words
 from wisangub.room.store.database import Database
 from wisangub.room.store.history import Activation, AuditWanted, Entry
@@ -114,11 +114,21 @@ def wanted_of(request: web.Request, asked: Asked) -> Wanted:
     )
 
 
+def archived_words(service: Service, database: Database, since: float | None = None) -> str:
+    """What is said at the end of a list where an archive may have what is not in it."""
+    found = archived.last(database, since)
+    if found is None:
+        return ""
+    return (
+        f"An archive took out what was old, {found.file} on {service.clock.full(found.at)}: it may have more of this."
+    )
+
+
 async def history_page(request: web.Request) -> web.Response:
     service, asked = service_of(request), Asked.of(request)
     wanted = wanted_of(request, asked)
 
-    def found(database: Database) -> tuple[list[CommandView], int | None, list[str], float]:
+    def found(database: Database) -> tuple[list[CommandView], int | None, str, list[str], float]:
         rows, before = search(
             lambda before, most: queries.commands(database, replace(wanted, before=before, most=most)),
             _number_of_command,
@@ -127,15 +137,17 @@ async def history_page(request: web.Request) -> web.Response:
             _MOST,
             lambda before: find_words.slices(database, wanted, asked.find, before),
         )
-        return rows, before, history.people(database), queries.now(database)
+        gone = "" if before else archived_words(service, database, asked.since)
+        return rows, before, gone, history.people(database), queries.now(database)
 
-    rows, before, people, now = await service.connections.run(found)
+    rows, before, gone, people, now = await service.connections.run(found)
     signs = sorted((service.signs[sign_id].name, sign_id) for sign_id in rights_of(request).seen(service.signs))
     of = {"sign": wanted.sign, "outcome": wanted.outcome}
     return service.page(
         request,
         "history.html",
         rows=rows,
+        archived=gone,
         people=people,
         now=now,
         wanted=wanted,
@@ -200,15 +212,24 @@ async def shown(request: web.Request) -> web.Response:
     service, sign_id, before = service_of(request), sign_of(request), number_of(request, "before")
     after = None if before is None else -before
 
-    def found(database: Database) -> tuple[SignView | None, list[history.ReadingView], float]:
+    def found(database: Database) -> tuple[SignView | None, list[history.ReadingView], str, float]:
         rows = history.readings(database, sign_id, _MOST_READINGS + 1, after)
-        return queries.sign(database, sign_id), rows, queries.now(database)
+        gone = "" if len(rows) > _MOST_READINGS else archived_words(service, database)
+        return queries.sign(database, sign_id), rows, gone, queries.now(database)
 
-    sign, rows, now = await service.connections.run(found)
+    sign, rows, gone, now = await service.connections.run(found)
     said = [(one, service.picture(sign_id, one.shown.text) if one.shown else None) for one in rows[:_MOST_READINGS]]
     earlier = -said[-1][0].number if len(rows) > len(said) else None
     return service.page(
-        request, "shown.html", sign=sign, rows=said, now=now, tab="shown", before=before, earlier=earlier
+        request,
+        "shown.html",
+        sign=sign,
+        rows=said,
+        archived=gone,
+        now=now,
+        tab="shown",
+        before=before,
+        earlier=earlier,
     )
 
 
@@ -216,7 +237,7 @@ async def audit(request: web.Request) -> web.Response:
     service, asked = service_of(request), Asked.of(request)
     wanted = AuditWanted(asked.who, asked.since, asked.until)
 
-    def found(database: Database) -> tuple[list[Entry], int | None, list[str], float]:
+    def found(database: Database) -> tuple[list[Entry], int | None, str, list[str], float]:
         lines, before = search(
             lambda before, most: history.audited(database, replace(wanted, before=before, most=most)),
             _number_of_entry,
@@ -225,14 +246,16 @@ async def audit(request: web.Request) -> web.Response:
             _MOST_LINES,
             lambda before: find_words.audit_slices(database, wanted, asked.find, before),
         )
-        return lines, before, history.audit_people(database), queries.now(database)
+        gone = "" if before else archived_words(service, database, asked.since)
+        return lines, before, gone, history.audit_people(database), queries.now(database)
 
-    rows, before, people, now = await service.connections.run(found)
+    rows, before, gone, people, now = await service.connections.run(found)
     lines = [(number, at, who, words.audit_words(what)) for number, at, who, what in rows]
     return service.page(
         request,
         "audit.html",
         lines=lines,
+        archived=gone,
         people=people,
         now=now,
         asked_for=asked,
