@@ -12,6 +12,7 @@ needs.modules("aiohttp", "jinja2")
 from wisangub.room.store import tokens, users
 from wisangub.room.store.database import Away, Failed, Row
 from wisangub.room.store.sqlite import Sqlite
+from wisangub.room.web import connections
 
 from .visits import Bench, Visitors, run
 
@@ -57,5 +58,19 @@ def test_what_signs_show_is_seen_though_nothing_can_be_written(
         assert (await one.get("/"))[0] == 200
         (seen,) = bench.store.database.run("SELECT seen FROM logins")[0]
         assert seen is not None, "it is written as soon as it can be"
+
+    run(tmp_path, str(tmp_path / "database"), act)
+
+
+def test_pages_end_where_a_newer_program_has_the_database(
+    tmp_path: pathlib.Path, monkeypatch: pytest.MonkeyPatch
+) -> None:
+    monkeypatch.setattr(connections, "_KNOWN", 0.0)
+
+    async def act(bench: Bench, visitor: Visitors) -> None:
+        one = await bench.logged_in(visitor, "operator")
+        assert (await one.get("/"))[0] == 200
+        bench.store.database.run("INSERT INTO migrations (number, at) VALUES (900, {clock})")
+        assert (await one.get("/"))[0] == 503
 
     run(tmp_path, str(tmp_path / "database"), act)

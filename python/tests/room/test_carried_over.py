@@ -10,6 +10,7 @@ from wisangub.room.store.commands import Command
 from wisangub.room.store.database import Database, Taken
 from wisangub.room.store.store import Store
 
+from .bench import HELLO, bench
 from .test_database import BLANK
 
 BEFORE = 14  # the last migration of the version before
@@ -89,3 +90,26 @@ def test_a_copy_of_before_stays_one_and_is_carried_over(nowhere: str, empty: str
     outcomes = [str(row[0]).split(":")[0] for row in made.run("SELECT outcome FROM commands ORDER BY id")]
     assert outcomes == ["accepted", "unknown", "unknown"]
     assert made.run("SELECT leased_by FROM signs ORDER BY id") == [(None,), (None,)]
+
+
+def test_a_worker_ends_where_a_newer_program_has_the_database(tmp_path: pathlib.Path, where: str) -> None:
+    """It knows not what that one's tables mean, and drives no sign by them."""
+    with bench(tmp_path, where) as at:
+        worker = at.worker()
+        at.ask(HELLO)
+        while not worker.sessions:
+            worker.guarded_round()
+        at.store.database.run("INSERT INTO migrations (number, at) VALUES (900, {clock})")
+        worker.next_renewal = 0.0
+        with pytest.raises(Refusal, match="of a newer program: it has migration 900"):
+            worker.run()
+        assert not worker.sessions
+        assert at.store.database.run("SELECT leased_by FROM signs") == [(None,)], "the next one goes on at once"
+
+
+def test_files_of_a_newer_program_carry_nothing_over(tmp_path: pathlib.Path) -> None:
+    """As they come into the place of those of a service that stands."""
+    (tmp_path / "001_a.sql").write_text("CREATE TABLE a (b BIGINT);\n")
+    known = database.migrations(tmp_path)
+    (tmp_path / "002_c.sql").write_text("CREATE TABLE c (d BIGINT);\n")
+    assert [number for number, _ in known] == [1] == [number for number, _ in database.migrations(tmp_path)]

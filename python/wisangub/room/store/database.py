@@ -1,5 +1,6 @@
 """A database by its name, SQLite's or PostgreSQL's, with numbered migrations that make its tables those of today."""
 
+import functools
 import os
 import pathlib
 
@@ -19,6 +20,7 @@ __all__ = [
     "Row",
     "Taken",
     "Value",
+    "check_known",
     "connected",
     "is_url",
     "migrate",
@@ -37,8 +39,10 @@ _CARRIED = (
 )
 
 
+@functools.cache
 def migrations(folder: pathlib.Path = _MIGRATIONS) -> list[tuple[int, str]]:
-    """Each migration's number and text, in their order."""
+    """Each migration's number and text, in their order, as this program began with them: files of a newer one that come
+    into their place meanwhile carry nothing over."""
     return sorted((int(path.name.split("_")[0]), path.read_text(encoding="utf-8")) for path in folder.glob("*.sql"))
 
 
@@ -89,6 +93,13 @@ def migrate(database: Database, known: list[tuple[int, str]]) -> list[int]:
             database.run("INSERT INTO migrations (number, at) VALUES (?, {clock})", number)
             done.append(number)
     return done
+
+
+def check_known(database: Database) -> None:
+    """Refuses a database that a newer program has carried over since this one opened it."""
+    newest = int(database.run("SELECT max(number) FROM migrations")[0][0] or 0)
+    if newest > max(number for number, _ in migrations()):
+        raise Refusal(f"the database is of a newer program: it has migration {newest}")
 
 
 def is_url(where: str) -> bool:

@@ -3,6 +3,7 @@
 import asyncio
 import contextlib
 import threading
+import time
 from concurrent.futures import ThreadPoolExecutor
 from typing import Callable, TypeVar
 
@@ -11,6 +12,7 @@ from wisangub.room.store import database
 from wisangub.room.store.database import Away, Database, Failed, NotYet
 
 _Answer = TypeVar("_Answer")
+_KNOWN = 3.0  # seconds after which it is looked at again whether a newer program has carried the database over
 
 
 class Connections:
@@ -32,8 +34,14 @@ class Connections:
                 raise Away(str(refused)) from refused
             except Refusal as refused:
                 raise Failed(str(refused)) from refused
-            self.local.held = found
+            self.local.held, self.local.checked = found, time.monotonic()
             self.opened.append(found)
+        if time.monotonic() - self.local.checked > _KNOWN:
+            try:
+                database.check_known(found)
+            except Refusal as refused:
+                raise Failed(str(refused)) from refused
+            self.local.checked = time.monotonic()
         return found
 
     def let_go(self) -> None:

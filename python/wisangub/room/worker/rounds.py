@@ -15,7 +15,7 @@ from wisangub.room.addresses import AGAIN
 from wisangub.room.fleet import Sign
 from wisangub.room.options import GIVE_UP
 from wisangub.room.output import LOG
-from wisangub.room.store.database import Failed, Taken
+from wisangub.room.store.database import Failed, Taken, check_known
 from wisangub.room.store.lines import News
 from wisangub.room.store.store import Store
 from wisangub.snmp.mib import Mib
@@ -73,14 +73,15 @@ class Worker:
         self.to_release: set[int] = set()
         self.leaving = Leaving()
         self.fault = ""  # what the database said last, which is said once
+        self.refused: Refusal | None = None  # why it ends by itself
         self.next_look = self.next_renewal = self.next_end = 0.0
         store.readings.anew(list(self.signs))
 
     def run(self) -> None:
-        """Until it is stopped."""
+        """Until it is stopped, or a newer program has the database."""
         if self.is_reading_beside:
             self.reader.start()
-        while not self.waiting.is_stopped:
+        while not self.waiting.is_stopped and self.refused is None:
             self.guarded_round()
         for sign_id in list(self.sessions):
             self.drop(sign_id)
@@ -91,6 +92,8 @@ class Worker:
         self.leaving.wait()
         self.reader.stop()
         self.where.close()
+        if self.refused is not None:
+            raise self.refused
 
     def guarded_round(self) -> None:
         """A round; a database that does not answer is asked again later."""
@@ -99,6 +102,8 @@ class Worker:
             if self.fault:
                 LOG.info("the database answers again")
             self.fault = ""
+        except Refusal as refused:
+            self.refused = refused
         except (Failed, Taken) as fault:
             if str(fault) != self.fault:
                 LOG.warning(f"the database: {fault}")
@@ -111,6 +116,7 @@ class Worker:
         now = time.monotonic()
         if now >= self.next_renewal:
             self.next_renewal = now + self.pace.lease / 3
+            check_known(self.store.database)
             self.renew()
         if now >= self.next_look:
             self.next_look = now + self.pace.look
