@@ -4,6 +4,7 @@ import pathlib
 import re
 import socket
 from dataclasses import replace
+from html.parser import HTMLParser
 from typing import Any
 
 import pytest
@@ -352,5 +353,29 @@ def test_minutes_that_were_written_are_not_left_out(tmp_path: pathlib.Path, path
         assert (await one.post("/send", [*held, ("lasts", "minutes"), ("minutes", "")]))[0] == 422
         assert (await one.post("/send", [*held, ("lasts", "minutes"), ("minutes", "30")]))[0] == 303
         assert asked(queries.commands(bench.store.database, queries.Wanted())[0].line).minutes == 30
+
+    run(tmp_path, str(tmp_path / "database"), act)
+
+
+def test_what_describes_a_field_is_all_of_it(tmp_path: pathlib.Path) -> None:
+    """An attribute that stands twice counts once: a browser drops the second."""
+
+    class Attributes(HTMLParser):
+        def handle_starttag(self, tag: str, attrs: list[tuple[str, str | None]]) -> None:
+            names = [name for name, _ in attrs]
+            assert len(set(names)) == len(names), (tag, names)
+            if ("name", "text") in attrs and tag == "textarea":
+                found.append(dict(attrs)["aria-describedby"])
+
+    found: list[str | None] = []
+
+    async def act(bench: Bench, visitor: Visitors) -> None:
+        one = await bench.logged_in(visitor, "operator")
+        for written in ("FOG", ""):
+            fields = {**GOOD, "text": written, "sign": str(bench.one), "minutes": "x"}
+            status, page, _ = await one.post("/compose", fields)
+            assert status == 422
+            Attributes().feed(page)
+        assert found == ["text-help looks", "text-fault text-help looks"]
 
     run(tmp_path, str(tmp_path / "database"), act)
