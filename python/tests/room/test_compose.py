@@ -379,3 +379,22 @@ def test_what_describes_a_field_is_all_of_it(tmp_path: pathlib.Path) -> None:
         assert found == ["text-help looks", "text-fault text-help looks"]
 
     run(tmp_path, str(tmp_path / "database"), act)
+
+
+def test_the_audit_has_the_text_of_a_row_that_is_shown(tmp_path: pathlib.Path, where: str) -> None:
+    """The command names the row alone, and what stands there is another text later."""
+
+    async def act(bench: Bench, visitor: Visitors) -> None:
+        bench.table(bench.one)
+        one = await bench.logged_in(visitor, "operator")
+        page = (await one.get(f"/show?sign={bench.one}&memory=3&number=1"))[1]
+        fields = [*await _form(one, page), ("priority", "255"), ("lasts", "forever")]
+        assert (await one.post("/send", fields))[0] == 303
+        bench.store.commands.ask(bench.one, "operator", "activate ffffff0300029a66c0000201")
+        said = [what for _, _, who, what in history.audit(bench.store.database, None) if who == "operator"]
+        assert said[2] == "one: the row that is to be shown, as it was last read: “FOG”"
+        assert said[0] == "one: the row that is to be shown, which was not read, or has no text"
+        boss = await bench.logged_in(visitor, "administrator")
+        assert "as it was last read: “FOG”" in (await boss.get("/audit?find=FOG"))[1]
+
+    run(tmp_path, where, act)

@@ -113,7 +113,16 @@ class Commands:
             f"INSERT INTO commands (sign, who, asked_at, line) VALUES (?, ?, {CLOCK}, ?) RETURNING id", sign, who, line
         )
         note(self.database, who, f"{self._name_of(sign)}: {line}")
+        if line.startswith("activate "):
+            self._note_row(sign, who, line)
         return whole(rows[0][0])
+
+    def _note_row(self, sign: int, who: str, line: str) -> None:
+        """What stood in a row that is shown, which neither the command says nor, once it is written anew, the table."""
+        text = text_of(self.database, sign, line).decode("latin-1")
+        said = "".join(one if one.isprintable() else "?" for one in text)
+        words = f"as it was last read: “{said}”" if said else "which was not read, or has no text"
+        note(self.database, who, f"{self._name_of(sign)}: the row that is to be shown, {words}")
 
     def _name_of(self, sign: int) -> str:
         """The sign's name."""
