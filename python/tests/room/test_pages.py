@@ -315,3 +315,13 @@ def test_times_and_words() -> None:
     ]
     assert audit_words("one: blank 1 65535 255 192.0.2.1") == "one: blank 1, without end, activation priority 255"
     assert audit_words("one: publish 3") == "one: publish 3"
+
+
+def test_a_line_of_the_audit_that_quotes_a_command_is_no_command() -> None:
+    """Of a text that somebody wrote, or that a sign said, nothing is left out, whatever stands in it."""
+    line = "publish 3 1 464f47 6d65 0 0 100 65535 100 192.0.2.1"
+    for quoted in (f"library: a is written: 'one: {line}'", f"one: the row, as it was last read: “A: {line}”"):
+        assert audit_words(quoted) == quoted
+    assert audit_words(f"one: {line}").startswith("one: publish in changeable 1 “FOG”, without end")
+    for code in ("ffff640300019a66c0000201", "FFFF640300019A66C0000201"):
+        assert audit_words(f"one: activate {code}").startswith("one: show changeable 1")

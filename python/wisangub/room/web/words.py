@@ -1,6 +1,7 @@
 """What the pages say in words: times, modes, durations, codes, and what an operator asked for."""
 
 import datetime
+import re
 from dataclasses import dataclass
 
 from wisangub.room.store.values import SLACK
@@ -22,6 +23,7 @@ _MEMORIES: dict[int, str] = {
     Memory.CURRENT: "what was shown before",
     Memory.BLANK: "blank",
 }
+_LAST = re.compile(r"(?:^[0-9A-Fa-f]{24}| [0-9.]+)\Z")  # a command ends with a code or with an address
 _MODES = {
     8: ("central", "A central system activated it."),
     10: ("power recovery", "Power came back, or the sign was started."),
@@ -182,10 +184,10 @@ class Clock:
 
 
 def audit_words(what: str) -> str:
-    """A line of the audit, a command's line in words."""
+    """A line of the audit, a command's line in words; one of something else in which such words stand as it is."""
     for kind in ("publish", "blank", "activate"):
         name, found, rest = what.rpartition(f": {kind} ")
-        held = asked(f"{kind} {rest}") if found else None
+        held = asked(f"{kind} {rest}") if found and _LAST.search(rest) else None
         if held is not None and held.kind != "other":
             said = f" “{text_of(held.text)}”" if kind == "publish" else ""
             return f"{name}: {held.what}{said}, {held.how}"
