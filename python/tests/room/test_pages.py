@@ -152,7 +152,7 @@ def test_the_routes_are_those_that_are_tried() -> None:
     tried = {re.sub(r"\?.*", "", re.sub(r"\{\w+\}|\d+", "*", path)) for path in [*PAGES, *POSTS]}
     others = {"/login", "/logout", "/events", "/pictures/*/*.svg", "/signs/*/table", "/logins/*/end", "/account/factor"}
     others |= {"/account/tokens", "/health", "/metrics", "/archives/*", "/history.csv", "/audit.csv"}
-    others |= {"/signs/*/shown.csv"}
+    others |= {"/signs/*/shown.csv", "/alarms.csv"}
     found = {re.sub(r"\{\w+(:(?:[^{}]|\{[^{}]*\})*)?\}", "*", route.path) for route in ROUTES}
     assert found - others <= tried, found - others - tried
 

@@ -20,6 +20,7 @@ from wisangub.room.store.lines import Line, News
 from wisangub.room.store.readings import Said
 from wisangub.room.store.rights import Level
 
+from .test_rights import narrowed
 from .visits import SHOWN, Bench, Visitor, Visitors, run
 
 DAY = 86_400.0
@@ -332,5 +333,39 @@ def test_all_entries_of_the_ledger_are_there(tmp_path: pathlib.Path, where: str)
         numbers = await paged(one, f"/signs/{bench.one}/ledger", r'<th scope="row">(\d+)</th>')
         assert numbers == [str(at) for at in range(450, 0, -1)]
         assert "nothing earlier" in (await one.get(f"/signs/{bench.one}/ledger?before=1"))[1]
+
+    run(tmp_path, where, act)
+
+
+def test_alarms_that_are_over_and_acknowledged_are_not_lost(
+    tmp_path: pathlib.Path, monkeypatch: pytest.MonkeyPatch, where: str
+) -> None:
+    """No page has them any more; a file has all, of the signs that may be seen."""
+    from wisangub.room.web import exports
+
+    monkeypatch.setattr(exports, "SLICE", 2)
+
+    async def act(bench: Bench, visitor: Visitors) -> None:
+        held = bench.store.database
+        for sign, number in ((bench.one, -2), (bench.gantry, -2), (bench.one, -4)):
+            bench.silent(sign, number)
+            held.run("UPDATE alarm_looks SET at = 0")
+            bench.store.alarms.look()
+            bench.read(sign, number - 1, text="")
+            held.run("UPDATE alarm_looks SET at = 0")
+            bench.store.alarms.look()
+        one, reader = [await bench.logged_in(visitor, name) for name in ("operator", "reader")]
+        for number in (1, 2, 3):
+            assert (await one.post(f"/alarms/{number}/acknowledge", {}))[0] == 303
+        assert "no reply" not in (await one.get("/alarms"))[1]
+        found = await rows(one, "/alarms.csv")
+        assert [(row["number"], row["sign"]) for row in found] == [("3", "one"), ("2", "gantry"), ("1", "one")]
+        last = found[-1]
+        assert (last["kind"], last["what"], last["acknowledged_by"]) == ("silent", "no reply", "operator")
+        assert last["begun"] and last["ended"] and last["acknowledged"]
+        narrowed(bench, "reader", Level.SEE, bench.gantry)
+        assert [row["sign"] for row in await rows(reader, "/alarms.csv")] == ["gantry"]
+        said = [what for _, _, who, what in history.audit(held, None) if who == "reader"]
+        assert said[0] == "exported the alarms"
 
     run(tmp_path, where, act)

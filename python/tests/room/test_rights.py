@@ -172,7 +172,7 @@ async def _hides(bench: Bench, one: Visitor) -> None:
     assert (await one.post(f"/signs/{bench.gantry}/table", {}))[0] == 404
     for view in (f"sign/{bench.gantry}", f"table/{bench.gantry}"):
         assert (await one.get(f"/events?view={view}"))[0] == 404, view
-    for path in ("/", "/history", f"/history?sign={bench.gantry}", "/alarms", "/library", "/library/1"):
+    for path in ("/", "/history", f"/history?sign={bench.gantry}", "/alarms", "/alarms.csv", "/library", "/library/1"):
         status, page = await one.get(path)
         assert status == 200 and "gantry" not in page and "GANTRY" not in page, path
     stream = await listened(one, "wall")

@@ -73,6 +73,12 @@ def listed(
     return [found[number] for number in numbers]
 
 
+def every(database: Database, before: int | None, most: int) -> list[Alarm]:
+    """All that ever were, the newest first, of those with numbers below one."""
+    below = 2**62 if before is None else before
+    return list(map(_alarm, database.run(f"{_FOUND} WHERE alarms.id < ? ORDER BY alarms.id DESC LIMIT ?", below, most)))
+
+
 def _newest(database: Database, which: str, order: str, signs: Sequence[int | None], most: int) -> list[int]:
     """The numbers of the newest alarms that are so, of each of these signs by its index, or of all for none."""
     found: list[int] = []

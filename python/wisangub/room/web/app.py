@@ -83,6 +83,7 @@ ROUTES = (
     Route("GET", r"/signs/{sign:\d{1,9}}/log", log_pages.log),
     Route("GET", "/history", record_pages.history_page),
     Route("GET", "/alarms", alarm_pages.listed),
+    Route("GET", "/alarms.csv", exports.alarms_csv),
     Route("POST", r"/alarms/{alarm:\d{1,9}}/acknowledge", alarm_pages.acknowledge, _OPERATOR),
     Route("GET", "/library", library_pages.listed),
     Route("POST", "/library", library_pages.add, _OPERATOR),

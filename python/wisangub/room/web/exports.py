@@ -1,5 +1,5 @@
-"""History, audit and what a sign showed as CSV (RFC 4180, in UTF-8): all that a page of them looks for, however much it
-is."""
+"""History, audit, alarms and what a sign showed as CSV (RFC 4180, in UTF-8): all that a page of them looks for, however
+much it is."""
 
 import csv
 import io
@@ -11,7 +11,8 @@ from typing import Any, Callable, Sequence
 
 from aiohttp import web
 
-from wisangub.room.store import history, queries
+from wisangub.room.store import alarms, history, queries
+from wisangub.room.store.alarms import Alarm
 from wisangub.room.store.audit import note
 from wisangub.room.store.database import Database
 from wisangub.room.store.history import AuditWanted, Entry, ReadingView
@@ -21,10 +22,11 @@ from wisangub.room.store.search import SLICE
 from . import words
 from .progress import because
 from .record_pages import Asked, archived_words, wanted_of
-from .service import Service, service_of, sign_of, visitor_of
+from .service import Service, rights_of, service_of, sign_of, visitor_of
 
 _COMMANDS = ("number", "asked", "sign", "who", "what", "text", "how", "outcome", "why", "ended")
 _ENTRIES = ("number", "at", "who", "what")
+_ALARMS = ("number", "sign", "kind", "what", "begun", "ended", "acknowledged_by", "acknowledged")
 _SHOWN = (
     *("number", "from", "until", "sign", "text", "mode", "row", "priority", "owner"),
     *("activated_from", "beacon", "pixel_service", "fault"),
@@ -67,6 +69,7 @@ async def _exported(
     slice_of: _Slice,
     of: str = "",
     since: float | None = None,
+    is_archived: bool = True,
 ) -> web.StreamResponse:
     """Slice after slice, each in a thread; that somebody took it stands in the audit, with `of` what it is in words.
     Where an archive may have more of it, from `since` on, a last row without a number says so."""
@@ -85,8 +88,7 @@ async def _exported(
             await answer.write(_lines(rows))
             if before is None:
                 break
-        gone = await service.connections.run(lambda database: archived_words(service, database, since))
-        if gone:
+        if is_archived and (gone := await service.connections.run(lambda held: archived_words(service, held, since))):
             await answer.write(_lines([_said(columns, gone)]))
         return answer
     except Exception:
@@ -161,3 +163,20 @@ async def shown_csv(request: web.Request) -> web.StreamResponse:
         return rows, found[-1].number if len(found) == SLICE else None
 
     return await _exported(request, "shown", _SHOWN, slice_of, f"what {name} showed")
+
+
+def _alarm(service: Service, one: Alarm) -> Sequence[Any]:
+    begun, ended, seen = (None if at is None else service.clock.iso(at) for at in (one.begun, one.ended, one.seen_at))
+    return one.id, one.sign_name, words.ALARMS[one.kind], one.what, begun, ended, one.seen_by, seen
+
+
+async def alarms_csv(request: web.Request) -> web.StreamResponse:
+    """All alarms that ever were, of the signs that who asks may see."""
+    service, may_see = service_of(request), rights_of(request).may_see
+
+    def slice_of(database: Database, before: int | None) -> tuple[list[Sequence[Any]], int | None]:
+        found = alarms.every(database, before, SLICE)
+        rows = [_alarm(service, one) for one in found if may_see(one.sign)]
+        return rows, found[-1].id if len(found) == SLICE else None
+
+    return await _exported(request, "alarms", _ALARMS, slice_of, is_archived=False)
