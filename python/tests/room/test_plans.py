@@ -81,6 +81,18 @@ def test_a_schedule_where_clocks_change() -> None:
     assert times("2026-07-01", "2026-07-02", WEEK, "10:00", "11:00", "").next(0.0) is not None, "the machine's zone"
 
 
+def test_what_is_on_of_a_night_in_which_clocks_go_forward() -> None:
+    """They show 03:00 after 01:59: what begins at 02:30 and ends at 03:15 is on from then on."""
+    before, change = second("2026-03-29T00:00"), second("2026-03-29T01:00")
+    part = times("2026-03-28", "2026-03-30", WEEK, "02:30", "03:15")
+    assert part.next(before) == change, "it is promised as it comes"
+    assert part.on(change - 1) is None and part.on(change) == (change, second("2026-03-29T01:15"))
+    none = times("2026-03-28", "2026-03-30", WEEK, "02:00", "03:00")
+    assert none.on(change) is None and none.next(before) == second("2026-03-30T00:00"), "and no time that never comes"
+    late = times("2026-03-28", "2026-03-30", WEEK, "02:15", "02:45")
+    assert late.on(second("2026-03-29T01:20")) == (second("2026-03-29T01:15"), second("2026-03-29T01:45"))
+
+
 @pytest.mark.parametrize(
     "words",
     (

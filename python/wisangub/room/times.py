@@ -13,6 +13,7 @@ from wisangub.refusal import Refusal
 
 _DAY = datetime.timedelta(days=1)
 _LOOKED = 400  # days that are looked at for the next time: a day of the week of a leap year is among them
+_LONGEST_CHANGE = 180  # minutes by which clocks may go forward
 _WORDS = "a schedule has two days and two times, such as 2026-11-30 and 06:00"
 _MINUTES = re.compile(r"[0-9]{2}:[0-9]{2}(?::00)?")
 _LAST_YEAR = 9990  # from which on so many days more may be in no calendar
@@ -68,7 +69,7 @@ class Times:
 
     def at(self, day: datetime.date, time: datetime.time) -> float:
         """Seconds since 1970 of a local time. Of one that comes twice it is the first; one that is left out, as clocks
-        go forward, is as much later as they go."""
+        go forward, is as much later as they go, but where something that begins then would be over (`spans`)."""
         try:
             return datetime.datetime.combine(day, time, _zone(self.zone)).timestamp()
         except (ValueError, OverflowError, OSError):
@@ -86,10 +87,25 @@ class Times:
             raise Refusal(f"{day} is no day of this machine's calendar")
         ends = min(self.last_day, day + _LOOKED * _DAY)
         while day <= ends:
-            if day.weekday() in self.days:
-                last = day if self.begins < self.ends else day + _DAY
-                yield self.at(day, self.begins), self.at(last, self.ends)
+            if day.weekday() in self.days and (found := self._span(day)) is not None:
+                yield found
             day += _DAY
+
+    def _span(self, day: datetime.date) -> Span | None:
+        """When it is on that begins on a day; None where clocks, as they go forward, leave out all of it."""
+        last = day if self.begins < self.ends else day + _DAY
+        begins, ends = self.at(day, self.begins), self.at(last, self.ends)
+        if begins >= ends:
+            begins = self._after_change(day, begins)
+        return (begins, ends) if begins < ends else None
+
+    def _after_change(self, day: datetime.date, begins: float) -> float:
+        """The first minute of a day at which clocks show its beginning or later, where they go forward over it."""
+        zone, wanted = _zone(self.zone), datetime.datetime.combine(day, self.begins)
+        before = (begins - 60.0 * minutes for minutes in range(_LONGEST_CHANGE + 1))
+        return min(
+            time for time in before if datetime.datetime.fromtimestamp(time, zone).replace(tzinfo=None) >= wanted
+        )
 
     def day_of(self, now: float) -> datetime.date:
         return datetime.datetime.fromtimestamp(now, _zone(self.zone)).date()
