@@ -17,6 +17,7 @@ from model import layout, text
 from wisangub.endpoint.lack import spelled
 from wisangub.room import fleet
 from wisangub.room.store import database, history, queries
+from wisangub.room.store.commands import is_above
 from wisangub.room.web import send
 from wisangub.room.web.compose import marked
 from wisangub.room.web.draft import Draft, joined
@@ -320,6 +321,33 @@ def test_what_another_one_asked_for_meanwhile_is_not_taken_away_unseen(tmp_path:
         assert (await one.post("/send", again))[2].startswith("/batches/"), "who has seen it may"
 
     run(tmp_path, where, act)
+
+
+def test_what_is_more_urgent_is_not_held_up(tmp_path: pathlib.Path, where: str) -> None:
+    """A computer that writes a sign anew again and again keeps no accident's text from it; nor does one keep another
+    accident's text."""
+
+    async def act(bench: Bench, visitor: Visitors) -> None:
+        one = await bench.logged_in(visitor, "operator")
+        for theirs, status in ((109, 303), (110, 409), (200, 409)):
+            text = await confirmation(one, [("sign", str(bench.one)), *GOOD.items()])  # by a priority of 110
+            line = f"publish 3 4 {b'ICE'.hex()} 6d65 0 0 {theirs} 65535 {theirs} 192.0.2.1"
+            bench.store.commands.ask(bench.one, "administrator", line)
+            assert (await one.post("/send", text))[0] == status, theirs
+        blank = [*await _form(one, (await one.get(f"/blank?sign={bench.one}"))[1]), ("priority", "255")]
+        bench.store.commands.ask(bench.one, "administrator", line)
+        assert (await one.post("/send", blank))[0] == 409, "who blanks has nothing to show"
+
+    run(tmp_path, where, act)
+
+
+def test_which_command_is_above_another() -> None:
+    fog, ice = (f"publish 3 1 41 6d65 0 0 {of} 65535 {of} 192.0.2.1" for of in (100, 200))
+    show = "activate ffff960300019a66c0000201"  # by 150
+    blank = "blank 1 65535 255 192.0.2.1"
+    assert is_above(ice, fog) and is_above(ice, show) and is_above(show, fog)
+    for line, other in ((fog, fog), (fog, ice), (show, ice), (blank, fog), (ice, blank), (ice, "restart")):
+        assert not is_above(line, other), (line, other)
 
 
 def test_what_was_withdrawn_meanwhile_keeps_nobody_waiting(tmp_path: pathlib.Path, where: str) -> None:

@@ -1,7 +1,7 @@
 """The table of commands: what operators ask for, each with its line of the audit, and how it ended."""
 
 from dataclasses import dataclass
-from typing import Sequence
+from typing import Mapping, Sequence
 
 from wisangub.refusal import Refusal
 from wisangub.room.plain import counted
@@ -25,6 +25,27 @@ class Command:
 
     id: int
     line: str
+
+
+def _priorities(line: str) -> tuple[int, int]:
+    """The priority of a command's activation, and that of what it has shown; 255 where it says none."""
+    words = line.split(" ")
+    try:
+        if words[0] == "publish":
+            return int(words[9]), int(words[7])
+        if words[0] == "activate":
+            return bytes.fromhex(words[1])[2], bytes.fromhex(words[1])[2]
+        if words[0] == "blank":
+            return int(words[3]), int(words[3])
+    except (ValueError, IndexError):
+        pass  # the centre refuses it
+    return 255, 255
+
+
+def is_above(line: str, other: str) -> bool:
+    """Whether a command shows a text that is more urgent than another command: it takes that away whatever it is, as an
+    accident's text those of a computer that writes anew each minute. A blank never is."""
+    return not line.startswith("blank ") and _priorities(line)[0] > _priorities(other)[1]
 
 
 class Commands:
@@ -58,7 +79,7 @@ class Commands:
                 rights.check(self.database, who, lines)
                 batch = self.put_all(lines, who, what, confirmation)
                 if newest is not None:
-                    self._check_none_since([sign for sign, _ in lines], newest, batch)
+                    self._check_none_since(dict(lines), newest, batch)
                 if through:
                     note(self.database, who, f"{what} on {counted(len(lines), 'sign')} was asked for through {through}")
                 return batch
@@ -75,21 +96,22 @@ class Commands:
         rows = self._run(f"SELECT max(id) FROM commands WHERE sign IN ({places(signs)})", *signs)
         return whole_or_none(rows[0][0]) or 0
 
-    def _check_none_since(self, signs: Sequence[int], newest: int, batch: int) -> None:
-        """Refuses what somebody asks for who does not know what else was: all commands since but for his own, and
-        those that were withdrawn."""
+    def _check_none_since(self, lines: Mapping[int, str], newest: int, batch: int) -> None:
+        """Refuses what somebody asks for who does not know what else was: all commands since but for his own, those
+        that were withdrawn, and those that are less urgent than a text of his."""
         rows = self._run(
-            "SELECT commands.who, signs.name FROM commands JOIN signs ON signs.id = commands.sign"
-            f" WHERE commands.sign IN ({places(signs)}) AND commands.id > ?"
+            "SELECT commands.sign, commands.line, commands.who, signs.name FROM commands"
+            f" JOIN signs ON signs.id = commands.sign WHERE commands.sign IN ({places(lines)}) AND commands.id > ?"
             " AND COALESCE(commands.outcome, '') NOT LIKE 'withdrawn by %'"
             " AND commands.id NOT IN (SELECT command FROM batch_commands WHERE batch = ?)"
-            " ORDER BY commands.id DESC LIMIT 1",
-            *signs,
+            " ORDER BY commands.id DESC",
+            *lines,
             newest,
             batch,
         )
-        for who, name in rows:
-            raise Meanwhile(f"{who} has asked for something else of {name} meanwhile")
+        for sign, line, who, name in rows:
+            if not is_above(lines[whole(sign)], str(line)):
+                raise Meanwhile(f"{who} has asked for something else of {name} meanwhile")
 
     def put_all(self, lines: Sequence[tuple[int, str]], who: str, what: str, confirmation: str) -> int:
         """What was asked together, within a transaction of who has found that it may be asked for: its number."""
