@@ -19,6 +19,7 @@ MODULES = tuple(
     f"tests.tester.test_{part}"
     for part in (
         "signs",
+        "nearly_right",
         "judge",
         "udp",
         "parts",

@@ -12,6 +12,7 @@ from wisangub.tester.requests.steps import Ask, Raw, fixed, get, get_next
 
 from .ber_contents import integers, names, values
 from .ber_forms import BAD_TAGS, of_kind, raw, whole_changed
+from .ber_writes import writes
 from .block import Block, Chapter
 
 _INSIDE = ("message", "pdu", "list", "binding")
@@ -150,6 +151,7 @@ def _sizes() -> Iterator[Block]:
 def _blocks(context: Context) -> Iterator[Block]:
     for part in (_accepted_lengths, _refused_lengths, integers, values, names, _tags, _trailing, _cut, _sizes):
         yield from part()
+    yield from writes(context)
     yield Block("after all that", "get", [get(HEIGHT)])
 
 

@@ -18,7 +18,7 @@ from wisangub.tester.requests.objects import (
     row_of,
     word_of,
 )
-from wisangub.tester.requests.steps import Ask, Step
+from wisangub.tester.requests.steps import Ask, Raw, Step
 
 from .compare import Kind, Mismatch
 from .rules import RULES, Rule
@@ -164,6 +164,8 @@ def _written(steps: Sequence[Step]) -> list[set[str]]:
 def is_of_the_sets(named: Rule, found: Rule, steps: Sequence[Step]) -> bool:
     """Whether values differ for SETs that are to change nothing, or that activate nothing though the reports differ."""
     sets = [step for step in steps[:-1] if isinstance(step, Ask) and step.kind == wire.SET]
+    if named.key == "responses":
+        return not sets and any(isinstance(step, Raw) for step in steps[:-1])
     if named.chapter == "communities":
         return any(not step.is_writer or step.community is not None for step in sets)
     words = [word_of(name) for step in sets for name, _ in step.bindings]
