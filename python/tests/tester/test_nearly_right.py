@@ -3,9 +3,11 @@
 from model import text
 from wisangub.process.places import TOP
 from wisangub.snmp import wire
+from wisangub.snmp.names import Memory, scalar
 from wisangub.tester.findings.results import Verdict
+from wisangub.tester.requests.objects import Column, Name, Row, Value, integer
 
-from .nearly_right import Around, told, tried
+from .nearly_right import Around, is_set_of, told, tried
 
 SIGNS = (text.BENCH, (TOP / "signs/roadside.sign").read_bytes())
 
@@ -43,6 +45,32 @@ class DoesResponses(Around):
         return self.right(octets)
 
 
+class ReadsOtherwiseToTheReader(Around):
+    """An object reads to the reader what it is not, in one kind of request: all is right as the sign begins."""
+
+    def __init__(self, name: Name, value: Value, kind: int) -> None:
+        super().__init__()
+        self.name, self.value, self.kind = name, value, kind
+
+    def answer(self, octets: bytes, message: wire.Message) -> bytes | None:
+        if message.kind != self.kind or message.community != self.state.reader:
+            return self.right(octets)
+        return self.read(octets, lambda name, held: self.value if name == self.name else held)
+
+
+class TakesWhatTheReaderWrites(Around):
+    """What the reader writes of one object is refused, and taken."""
+
+    def __init__(self, name: Name) -> None:
+        super().__init__()
+        self.name = name
+
+    def answer(self, octets: bytes, message: wire.Message) -> bytes | None:
+        if message.community == self.state.reader and is_set_of(message, self.name):
+            self.write(message)
+        return self.right(octets)
+
+
 def test_right_signs_conform() -> None:
     for description in SIGNS:
         results = tried(Around(description), "ber", "communities", "get", "getnext", "set", "rows", "sizes")
@@ -56,3 +84,18 @@ def test_what_has_no_answer_writes_nothing() -> None:
     assert told(DoesWhatIsNoMessage(writer + b"\xa4", writer + b"\xa3"), "ber") == ("ber", "responses")
     assert told(SeesLateThatOctetsFollow(), "ber") == ("ber", "responses")
     assert told(DoesResponses(), "ber") == ("ber", "responses")
+
+
+def test_the_reader_reads_what_the_writer_does() -> None:
+    minutes, text_of_a_row = scalar("dmsMessageTimeRemaining"), Row(Memory.VOLATILE, 1).cell(Column.TEXT)
+    for kind in (wire.GET, wire.GET_NEXT):
+        assert told(ReadsOtherwiseToTheReader(minutes, integer(65535), kind), "communities")[0] == "communities"
+        sign = ReadsOtherwiseToTheReader(text_of_a_row, (wire.OCTETS, b""), kind)
+        assert told(sign, "communities")[0] == "communities"
+
+
+def test_the_reader_writes_no_object() -> None:
+    words = ("dmsPowerLossMessage", "defaultPageOffTime", "dmsShortPowerLossTime", "defaultFlashOn")
+    names = [*map(scalar, words), Row(Memory.CHANGEABLE, 1).cell(Column.OWNER)]
+    for name in names:
+        assert told(TakesWhatTheReaderWrites(name), "communities") == ("communities", "reader writes"), name

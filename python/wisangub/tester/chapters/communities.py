@@ -6,10 +6,23 @@ from typing import Iterator
 from wisangub.snmp import wire
 from wisangub.snmp.names import Memory, RowStatus, scalar
 from wisangub.tester.context import Context, activate
-from wisangub.tester.requests.objects import NULL, Row, cell, instance, integer
-from wisangub.tester.requests.steps import Ask, get, get_next, put
+from wisangub.tester.requests.objects import (
+    DEFAULTS,
+    NULL,
+    OWN_CODES,
+    SHOWN_CELLS,
+    STATE_SCALARS,
+    Binding,
+    Row,
+    cell,
+    instance,
+    integer,
+    octets,
+)
+from wisangub.tester.requests.steps import Ask, Step, get, get_next, looks, put
 
-from .block import Block, Chapter, look
+from .block import Block, Chapter, fill, look, message, modify
+from .sets_values import numbers_of
 
 
 def _strangers(communities: tuple[bytes, bytes]) -> list[bytes]:
@@ -28,6 +41,46 @@ def _strangers(communities: tuple[bytes, bytes]) -> list[bytes]:
             bytes([known[0] ^ 0x80]) + known[1:],
         ]
     return [name for name in dict.fromkeys(found) if name not in communities]
+
+
+def _settings(context: Context) -> list[Binding]:
+    """Each scalar that may be written, with another value than in the known state."""
+    numbers = [(name, integer(most if least == held else least)) for name, least, most, held in _held(context)]
+    codes = [(name, octets(context.message_code(Row(Memory.BLANK, name[-2]), 0))) for name in OWN_CODES]
+    return [*numbers, *codes]
+
+
+def _held(context: Context) -> Iterator[tuple[tuple[int, ...], int, int, int]]:
+    """Each of these that holds a number, with its ends, and what it reads in the known state."""
+    defaults = dict(zip(DEFAULTS, context.defaults))
+    for name, least, most in numbers_of(context):
+        yield name, least, most, defaults.get(name, 0)
+
+
+def _by_the_reader(context: Context) -> Iterator[Block]:
+    """The reader writes each object that may be written, in a request of its own: nothing of it is taken."""
+    settings: list[Step] = [put(bound, is_writer=False) for bound in _settings(context)]
+    yield Block("the reader writes each object", "reader writes", [*settings, *look()], True)
+    for row in context.outermost:
+        fields = fill(row, b"A", b"B", 1, 1, 7).bindings
+        written: list[Step] = [put(bound, is_writer=False) for bound in (*fields, row.status(RowStatus.NOT_USED_REQ))]
+        yield Block("the reader writes a row", "reader writes", [modify(row), *written, *look(row)], True)
+
+
+def _changed(context: Context) -> Iterator[Block]:
+    """Both communities read the same, when nothing is as a sign begins."""
+    asked: list[Step] = [put(bound) for bound in _settings(context) if bound[0] != scalar("dmsTimeCommLoss")]
+    asked += [put((scalar("dmsTimeCommLoss"), integer(65535)))]
+    for row in context.outermost[-1:]:
+        asked += message(row, context.character(), b"owner", 0, 0, 9)
+    asked += [modify(row) for row in context.outermost[:-1]]
+    asked += [fill(row, b"text", b"owner", 1, 1, 8) for row in context.outermost[:-1]]
+    asked += [activate(context.code(Row(9, 1), 7)), activate(context.blank_code(3, 255, 9))]
+    names = [row.cell(column) for row in context.outermost for column in range(3, 10)] + STATE_SCALARS + SHOWN_CELLS
+    before = [(*name[:-1], name[-1] - 1) if name[-1] else name[:-1] for name in names]
+    reads = [*looks(names), get_next(*before[: len(before) // 2]), get_next(*before[len(before) // 2 :])]
+    steps = [replace(read, is_writer=is_writer) for is_writer in (False, True) for read in reads]
+    yield Block("both read what was changed", "reader reads", [*asked, *steps], True)
 
 
 def _blocks(context: Context) -> Iterator[Block]:
@@ -56,6 +109,8 @@ def _blocks(context: Context) -> Iterator[Block]:
         ]
     yield Block("the reader writes", "reader writes", [replace(step, is_writer=False) for step in refusals])
     yield Block("nothing was written", "reader writes", look())
+    yield from _by_the_reader(context)
+    yield from _changed(context)
     yield Block("the reader writes nothing", "set", [replace(put(), is_writer=False), put()])
     for community in _strangers(context.communities):
         asks = [
