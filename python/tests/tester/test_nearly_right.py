@@ -1,5 +1,7 @@
 """Signs that are right in nearly all that they do are found, each by the chapter that its rule is of."""
 
+from dataclasses import replace
+
 from model import text
 from wisangub.process.places import TOP
 from wisangub.snmp import wire
@@ -71,6 +73,21 @@ class TakesWhatTheReaderWrites(Around):
         return self.right(octets)
 
 
+class KeepsWhatIsBesideACause(Around):
+    """A SET that is refused with this status leaves what it has for one object written."""
+
+    def __init__(self, status: int, name: Name) -> None:
+        super().__init__()
+        self.status, self.name = status, name
+
+    def answer(self, octets: bytes, message: wire.Message) -> bytes | None:
+        reply = self.right(octets)
+        refused = wire.spelled(reply or b"")
+        if message.kind == wire.SET and refused is not None and refused.status == self.status:
+            self.write(replace(message, bindings=[bound for bound in message.bindings if bound[0] == self.name][:1]))
+        return reply
+
+
 def test_right_signs_conform() -> None:
     for description in SIGNS:
         results = tried(Around(description), "ber", "communities", "get", "getnext", "set", "rows", "sizes")
@@ -99,3 +116,11 @@ def test_the_reader_writes_no_object() -> None:
     names = [*map(scalar, words), Row(Memory.CHANGEABLE, 1).cell(Column.OWNER)]
     for name in names:
         assert told(TakesWhatTheReaderWrites(name), "communities") == ("communities", "reader writes"), name
+
+
+def test_a_refusal_writes_nothing_of_what_is_beside_its_cause() -> None:
+    row = Row(Memory.CHANGEABLE, 1)
+    names = [scalar("dmsPowerLossMessage"), scalar("dmsShortPowerLossTime"), row.cell(Column.OWNER)]
+    for status in (wire.NO_SUCH_NAME, wire.BAD_VALUE, wire.GENERAL):
+        for name in names:
+            assert told(KeepsWhatIsBesideACause(status, name), "set")[0] == "set", (status, name)

@@ -6,23 +6,11 @@ from typing import Iterator
 from wisangub.snmp import wire
 from wisangub.snmp.names import Memory, RowStatus, scalar
 from wisangub.tester.context import Context, activate
-from wisangub.tester.requests.objects import (
-    DEFAULTS,
-    NULL,
-    OWN_CODES,
-    SHOWN_CELLS,
-    STATE_SCALARS,
-    Binding,
-    Row,
-    cell,
-    instance,
-    integer,
-    octets,
-)
+from wisangub.tester.requests.objects import NULL, SHOWN_CELLS, STATE_SCALARS, Row, cell, instance, integer
 from wisangub.tester.requests.steps import Ask, Step, get, get_next, looks, put
 
 from .block import Block, Chapter, fill, look, message, modify
-from .sets_values import numbers_of
+from .sets_values import other_values
 
 
 def _strangers(communities: tuple[bytes, bytes]) -> list[bytes]:
@@ -43,23 +31,9 @@ def _strangers(communities: tuple[bytes, bytes]) -> list[bytes]:
     return [name for name in dict.fromkeys(found) if name not in communities]
 
 
-def _settings(context: Context) -> list[Binding]:
-    """Each scalar that may be written, with another value than in the known state."""
-    numbers = [(name, integer(most if least == held else least)) for name, least, most, held in _held(context)]
-    codes = [(name, octets(context.message_code(Row(Memory.BLANK, name[-2]), 0))) for name in OWN_CODES]
-    return [*numbers, *codes]
-
-
-def _held(context: Context) -> Iterator[tuple[tuple[int, ...], int, int, int]]:
-    """Each of these that holds a number, with its ends, and what it reads in the known state."""
-    defaults = dict(zip(DEFAULTS, context.defaults))
-    for name, least, most in numbers_of(context):
-        yield name, least, most, defaults.get(name, 0)
-
-
 def _by_the_reader(context: Context) -> Iterator[Block]:
     """The reader writes each object that may be written, in a request of its own: nothing of it is taken."""
-    settings: list[Step] = [put(bound, is_writer=False) for bound in _settings(context)]
+    settings: list[Step] = [put(bound, is_writer=False) for bound in other_values(context)]
     yield Block("the reader writes each object", "reader writes", [*settings, *look()], True)
     for row in context.outermost:
         fields = fill(row, b"A", b"B", 1, 1, 7).bindings
@@ -69,7 +43,7 @@ def _by_the_reader(context: Context) -> Iterator[Block]:
 
 def _changed(context: Context) -> Iterator[Block]:
     """Both communities read the same, when nothing is as a sign begins."""
-    asked: list[Step] = [put(bound) for bound in _settings(context) if bound[0] != scalar("dmsTimeCommLoss")]
+    asked: list[Step] = [put(bound) for bound in other_values(context) if bound[0] != scalar("dmsTimeCommLoss")]
     asked += [put((scalar("dmsTimeCommLoss"), integer(65535)))]
     for row in context.outermost[-1:]:
         asked += message(row, context.character(), b"owner", 0, 0, 9)

@@ -21,6 +21,7 @@ from wisangub.tester.requests.objects import (
 from wisangub.tester.requests.steps import Ask, Step, put
 
 from .block import Block, Chapter, alone, look, look_at, message, modify
+from .sets_refused import refused
 from .sets_values import cells, numbers_of, scalars
 from .telling import Telling, telling
 
@@ -220,6 +221,7 @@ def _blocks(context: Context) -> Iterator[Block]:
     yield from _causes(context)
     yield from _twice(context)
     yield from _together(context)
+    yield from refused(context)
 
 
 CHAPTER = Chapter("set", "SET", _blocks)

@@ -3,10 +3,11 @@
 from typing import Iterator
 
 from wisangub.snmp import wire
-from wisangub.snmp.names import SCALARS, scalar
+from wisangub.snmp.names import SCALARS, Memory, scalar
 from wisangub.tester.context import Context
 from wisangub.tester.requests.objects import (
     COMMANDS,
+    DEFAULTS,
     NULL,
     OWN_CODES,
     RANGES,
@@ -62,6 +63,14 @@ def _around(name: Name, least: int, most: int) -> list[Binding]:
 def numbers_of(context: Context) -> list[tuple[Name, int, int]]:
     """The scalars that hold numbers, with what they take."""
     return [(scalar(word), *context.claims.range_of(word)) for word in NUMBERS]
+
+
+def other_values(context: Context) -> list[Binding]:
+    """Each of these, and each code that the sign activates itself, with another value than in the known state."""
+    held = dict(zip(DEFAULTS, context.defaults))
+    numbers = [(name, most if least == held.get(name, 0) else least) for name, least, most in numbers_of(context)]
+    codes = [(name, octets(context.message_code(Row(Memory.BLANK, name[-2]), 0))) for name in OWN_CODES]
+    return [*[(name, integer(value)) for name, value in numbers], *codes]
 
 
 def scalars(context: Context) -> Iterator[Block]:
