@@ -4,12 +4,25 @@ from dataclasses import replace
 from typing import Iterator
 
 from wisangub.snmp import wire
-from wisangub.snmp.names import DMS, scalar
-from wisangub.tester.context import Context
-from wisangub.tester.requests.objects import NULL, Column, Name, Row, cell, column_of, instance, integer, octets, row_of
-from wisangub.tester.requests.steps import Ask, Step, get, looks
+from wisangub.snmp.names import DMS, SCALARS, scalar
+from wisangub.tester.context import Context, activate
+from wisangub.tester.requests.objects import (
+    NULL,
+    SHOWN_CELLS,
+    Column,
+    Name,
+    Row,
+    cell,
+    column_of,
+    instance,
+    integer,
+    octets,
+    row_of,
+)
+from wisangub.tester.requests.steps import Ask, Step, get, looks, put
 
-from .block import Block, Chapter, look, message
+from .block import Block, Chapter, fill, look, message, modify
+from .sets_values import other_values
 
 _NO_INSTANCES: list[Name] = [
     scalar("vmsSignHeightPixels")[:-1],
@@ -116,6 +129,20 @@ def _blocks(context: Context) -> Iterator[Block]:
             True,
         )
         yield Block("a row of a beacon", "checksum", _filled(context, row), True)
+    yield from _alone(context)
+
+
+def _alone(context: Context) -> Iterator[Block]:
+    """Each object and each cell of a row in a request of its own, when nothing is as a sign begins."""
+    asked: list[Step] = [put(*other_values(context)), activate(context.code(Row(9, 1), 7))]
+    asked += [activate(context.blank_code(3, 255, 9, bytes([10, 9, 8, 7])))]
+    rows = list(dict.fromkeys((*context.outermost[:1], *context.outermost[-1:])))
+    asked += [step for row in rows for step in (modify(row), fill(row, b"text", b"owner", 1, 1, 8))]
+    names = [*map(instance, *zip(*SCALARS)), *SHOWN_CELLS]
+    names += [row.cell(column) for row in rows for column in Column]
+    for at in range(0, len(names), 40):
+        reads = [get(name) for name in names[at : at + 40]]
+        yield Block("one instance", "values", [*asked, *reads], True)
 
 
 def _filled(context: Context, row: Row) -> list[Step]:

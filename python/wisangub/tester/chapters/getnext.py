@@ -3,9 +3,9 @@
 from typing import Iterator
 
 from wisangub.snmp import wire
-from wisangub.snmp.names import DMS, scalar
+from wisangub.snmp.names import DMS, Memory, scalar
 from wisangub.tester.context import Context
-from wisangub.tester.requests.objects import NULL, Name, integer, octets
+from wisangub.tester.requests.objects import NULL, Name, integer, octets, row_of
 from wisangub.tester.requests.steps import Ask, get_next
 
 from .block import Block, Chapter
@@ -63,8 +63,19 @@ _PAST: list[Name] = [
 ]
 
 
+def walked(context: Context) -> list[Name]:
+    """What is walked over a name at a time, as managers do: all but blank messages in the middle of their column,
+    unless slow cases are asked for."""
+    ends = (1, 2, 127, 128, 254, 255)
+    rows = ((name, row_of(name)) for name in context.instances)
+    return [name for name, row in rows if context.is_slow or row is None or row[0] != Memory.BLANK or row[1] in ends]
+
+
 def _blocks(context: Context) -> Iterator[Block]:
     names = context.instances
+    alone = [get_next(name) for name in walked(context) if name != names[-1]]
+    for at in range(0, len(alone), 30):
+        yield Block("after one instance", "getnext", alone[at : at + 30])
     for at in range(0, len(names) - 1, 30):
         yield Block("after every instance", "getnext", [get_next(*names[at : min(at + 30, len(names) - 1)])])
     for at in range(0, len(names) - 1, 30):
@@ -85,6 +96,8 @@ def _blocks(context: Context) -> Iterator[Block]:
     many = [get_next(*[(0, 0)] * count, (2, 100)) for count in (126, 127, 128, 199)]
     yield Block("past the last at a high index", "getnext", many)
     yield Block("several names", "getnext", [get_next(), get_next(here, here), get_next(*[here] * 30)])
+    lists = [get_next(*names[at : at + count]) for at, count in ((0, 31), (3, 40), (9, 50))]
+    yield Block("many names", "getnext", lists)
     values = [integer(7), octets(b"A"), (wire.ADDRESS, bytes(4)), (wire.NAME, (1, 3))]
     asks = [Ask(wire.GET_NEXT, ((here, value), (here, NULL))) for value in values]
     yield Block("values of a request", "getnext", asks)
