@@ -11,6 +11,7 @@ from wisangub.tester.requests.steps import FIRST_NUMBER, Ask, Step, get, get_nex
 from .block import Block, Chapter, look, modify
 
 _MOST = wire.MOST_DATAGRAM
+_SIZES = ((126, 146), (254, 278), (482, 487), (510, 515), (546, 550), (1022, 1027))  # octets, and the first behind
 
 
 def _size(context: Context, bindings: Sequence[Binding]) -> int:
@@ -105,6 +106,17 @@ def _requests(context: Context) -> Iterator[Block]:
     )
 
 
+def _others(context: Context) -> Iterator[Block]:
+    """Requests of sizes at which a length takes an octet more, or a buffer may end; each answer is as long."""
+    nowhere = instance(2, 5)
+    held = [(nowhere, octets(bytes(size))) for size in range(_SIZES[-1][1])]
+    by_size = {_size(context, [bound]): bound for bound in held}
+    for least, most in _SIZES:
+        bindings = [by_size[size] for size in range(least, most) if size in by_size]
+        asks = [Ask(kind, (bound,)) for bound in bindings for kind in (wire.GET, wire.SET)]
+        yield Block(f"requests of {least} to {most - 1} octets", "error reply", asks)
+
+
 def _writes(context: Context, row: Row) -> Iterator[Block]:
     """A SET that succeeds is never too big, in the greatest size."""
     text = b"A" * 512
@@ -132,6 +144,7 @@ def _writes(context: Context, row: Row) -> Iterator[Block]:
 
 def _blocks(context: Context) -> Iterator[Block]:
     yield from _requests(context)
+    yield from _others(context)
     for row in context.rows[:1]:
         yield from _reads(context, row)
         yield from _writes(context, row)
