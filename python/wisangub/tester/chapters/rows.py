@@ -9,6 +9,7 @@ from wisangub.tester.requests.steps import Step, Wait, put
 from wisangub.tester.sign.judge import MOST_TEXT
 
 from .block import Block, Chapter, fill, look, look_at, message, modify, reports, settle, unuse, validate
+from .rows_held import any_octets, each, one_by_one, outlived
 
 _BAD_TEXT = b"[zz]"
 
@@ -191,6 +192,10 @@ def _blocks(context: Context) -> Iterator[Block]:
         yield from _two_rows(context, first, rows[1])
     yield from _counts(context)
     yield from _settling(context, last)
+    yield from each(context)
+    yield from any_octets(last)
+    yield from one_by_one(context, first)
+    yield from outlived(context, first)
     for row in dict.fromkeys((first, last)):
         yield from _at_their_edges(context, row)
 
