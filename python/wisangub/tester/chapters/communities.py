@@ -86,13 +86,13 @@ def _blocks(context: Context) -> Iterator[Block]:
     yield from _by_the_reader(context)
     yield from _changed(context)
     yield Block("the reader writes nothing", "set", [replace(put(), is_writer=False), put()])
-    for community in _strangers(context.communities):
+    for at, community in enumerate(_strangers(context.communities)):
         asks = [
             Ask(wire.GET, ((scalar("vmsSignHeightPixels"), NULL),), community=community),
             Ask(wire.GET_NEXT, ((scalar("vmsSignHeightPixels"), NULL),), community=community),
             Ask(wire.SET, ((scalar("defaultPageOnTime"), integer(20)),), community=community),
         ]
-        yield Block("a community that is neither", "no community", asks)
+        yield Block("a community that is neither", "no community", asks, is_fresh=not at)
     yield Block("nothing was written", "no community", look())
 
 
