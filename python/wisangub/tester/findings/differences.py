@@ -84,6 +84,11 @@ class Difference:
         made.subject = subject(exchange)
         return made
 
+    def is_like(self, other: "Difference") -> bool:
+        """Whether both are of one rule, class and object."""
+        kinds = (self.mismatch.kind, other.mismatch.kind)
+        return self.rule.key == other.rule.key and kinds[0] is kinds[1] and self.subject == other.subject
+
     @property
     def title(self) -> str:
         """The class and the first of the objects that differ."""

@@ -113,8 +113,11 @@ class Results:
         return self.before + [difference for result in self.chapters for difference in result.differences]
 
     def once(self) -> list[Difference]:
-        """What was seen once, and did not come again: wrong now and then."""
-        return self.once_before + [held for result in self.chapters for held in result.once]
+        """What was seen once, and did not come again: wrong now and then. What an earlier part of the test saw, and
+        this one sees too, is told as that alone."""
+        found = self.differences()
+        before = [held for held in self.once_before if not any(held.is_like(other) for other in found)]
+        return before + [held for result in self.chapters for held in result.once]
 
     def is_clean(self) -> bool:
         """Whether no difference came again, be all of it judged or not."""

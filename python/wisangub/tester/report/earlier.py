@@ -21,6 +21,7 @@ from wisangub.tester.sign.way import Way
 from .words import About
 
 _BY_NAME = {chapter.name: chapter for chapter in ALL}
+_BEFORE = "it came again in the part of the test that was before, and was not seen in this one"
 
 
 @dataclass
@@ -29,7 +30,7 @@ class Earlier:
 
     when: str
     chapters: list[ChapterResult]
-    once_before: list[Difference]
+    once_before: list[Difference]  # what was wrong once, and what differed where it is looked at once more
     emptied: list[tuple[str, str]]
     first: dict[Name, Value]  # the sign's own settings, where it could not be brought back to them
     counts: dict[str, Any]
@@ -71,13 +72,15 @@ def _earlier(held: dict[str, Any], communities: tuple[bytes, bytes]) -> Earlier:
     by_name = {one.chapter.name: one for one in chapters}
     before: list[Difference] = []
     for found in held["differences"]:
+        difference = _difference(found, communities)
         if found["found_in"] in by_name:
-            by_name[found["found_in"]].differences.append(_difference(found, communities))
+            by_name[found["found_in"]].differences.append(difference)
+        else:
+            before.append(difference)
+            difference.note = difference.note or _BEFORE
     for found in held["seen_once"]:
-        is_before = found["found_in"] not in _BY_NAME
-        if is_before or found["found_in"] in by_name:
-            kept = before if is_before else by_name[found["found_in"]].once
-            kept.append(_difference(found, communities))
+        kept = by_name[found["found_in"]].once if found["found_in"] in by_name else before
+        kept.append(_difference(found, communities))
     emptied = [(one["object"], one["read"]) for one in held["emptied"]]
     message = None if held["is_set_back"] else spelled(bytes.fromhex(held["first"]))
     first = {} if message is None else dict(message.bindings)
