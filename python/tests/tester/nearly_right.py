@@ -9,7 +9,7 @@ from trials.wrong_signs import bench
 from wisangub.snmp import wire
 from wisangub.tester.findings.results import Results
 from wisangub.tester.requests.objects import Name, Value
-from wisangub.tester.session import chapters_of
+from wisangub.tester.session import Session, chapters_of
 
 Change = Callable[[Name, Value], Value]  # a name that is read, and what is read in the place of its value
 
@@ -49,10 +49,14 @@ class Around:
         self.right(wire.written(replace(message, kind=wire.SET, community=self.state.writer)))
 
 
+def session(sign: Around) -> Session:
+    """The test of a sign, up to its first difference, without random requests."""
+    return bench.session(sign.description, sign, requests=0, most_differences=1)
+
+
 def tried(sign: Around, *chapters: str) -> Results:
     """The test of a sign by these chapters alone, up to its first difference."""
-    made = bench.session(sign.description, sign, requests=0, most_differences=1)
-    return made.run(chapters_of(chapters, False))
+    return session(sign).run(chapters_of(chapters, False))
 
 
 def told(sign: Around, *chapters: str) -> tuple[str, str]:

@@ -9,8 +9,9 @@ from wisangub.snmp import wire
 from wisangub.snmp.names import Memory, scalar
 from wisangub.tester.findings.results import Verdict
 from wisangub.tester.requests.objects import Column, Name, Row, Value, column_of, integer, row_of
+from wisangub.tester.session import chapters_of
 
-from .nearly_right import Around, is_set_of, told, tried
+from .nearly_right import Around, is_set_of, session, told, tried
 
 SIGNS = (text.BENCH, (TOP / "signs/roadside.sign").read_bytes())
 
@@ -199,6 +200,16 @@ class DropsASize(Around):
         return None if len(reply or b"" if self.is_of_replies else octets) == self.size else reply
 
 
+class RefusesInSilence(Around):
+    """An activation of a type of memory that is none is refused without an answer."""
+
+    def answer(self, octets: bytes, message: wire.Message) -> bytes | None:
+        reply = self.right(octets)
+        codes = [held for name, (_, held) in message.bindings if name == scalar("dmsActivateMessage")]
+        is_none = any(isinstance(code, bytes) and len(code) == 12 and code[3] not in (2, 3, 4, 5, 7) for code in codes)
+        return None if message.kind == wire.SET and is_none else reply
+
+
 def test_right_signs_conform() -> None:
     for description in SIGNS:
         results = tried(Around(description), "ber", "communities", "get", "getnext", "set", "rows", "sizes")
@@ -268,3 +279,13 @@ def test_datagrams_of_each_size_are_answered() -> None:
     for size in (128, 257, 484, 512, 548, 1024):
         assert told(DropsASize(size), "sizes") == ("sizes", "error reply"), size
         assert told(DropsASize(size, True), "sizes") == ("sizes", "error reply"), size
+
+
+def test_a_set_that_never_has_its_answer_is_not_judged_where_others_like_it_have_theirs() -> None:
+    for sign, wanted in ((Around(), Verdict.CONFORMS), (RefusesInSilence(), Verdict.NOT_JUDGED)):
+        made = session(sign)
+        made.pair.port.asked_again = 1  # on a way that loses some
+        made.pair.answered.add((wire.SET, made.context.communities[1], (6, 3), wire.GENERAL))
+        results = made.run(chapters_of(("repeated",), False))
+        results.lossy = 100.0
+        assert results.verdict() is wanted, (results.verdict(), results.unjudged())

@@ -10,7 +10,7 @@ from wisangub.tester.findings.differences import Signature, signature
 from wisangub.tester.requests.messages import spelled, status_of
 from wisangub.tester.requests.objects import is_validation
 from wisangub.tester.requests.steps import Ask, Raw, Step, Wait
-from wisangub.tester.sign.pair import Exchange, Inconclusive, Likeness, Pair, likeness
+from wisangub.tester.sign.pair import MOST_SENT, Exchange, Inconclusive, Likeness, Pair, likeness
 from wisangub.tester.state.reset import Reset
 from wisangub.tester.state.unanswered import is_command, ours_reads
 
@@ -41,7 +41,8 @@ class Runner:
     most_seconds: float = 40.0  # that a difference is made smaller
     runs: int = 0
     lost: Counter[Likeness] = field(default_factory=Counter)  # SETs without a reply, by their likes
-    is_doubtful: bool = False  # whether the last run had a SET without a reply of which no like was ever answered
+    # whether the last run had a SET without a reply of which no like was ever answered, or that was sent again in vain
+    is_doubtful: bool = False
 
     def steps(self, steps: Sequence[Step]) -> Run | None:
         """The steps, from the state of now, up to the first difference."""
@@ -92,7 +93,7 @@ class Runner:
             return False
         unknown = _likeness(exchange) - self.pair.answered
         self.lost.update(unknown)
-        self.is_doubtful |= bool(unknown)
+        self.is_doubtful |= bool(unknown) or exchange.tries >= MOST_SENT
         return all(self.lost[one] <= _MOST_LOST for one in unknown)
 
     def anew(self, steps: Sequence[Step], after_a_tick: bool = True, is_alike: bool = False) -> Run | None:

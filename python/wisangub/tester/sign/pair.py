@@ -20,7 +20,7 @@ from .ticks import Ticks
 _OF_NAMES = (Kind.STATUS, Kind.BINDINGS, Kind.VALUE)  # differences that other objects may explain
 _MOST_DOUBTS = 2  # sequences in a row that end since a tick may have come late
 _SAMPLES = 3  # how often a Get whose answer is in doubt is asked anew
-_MOST_SENT = 3  # how often a SET is sent that is known to be lost
+MOST_SENT = 3  # how often a SET is sent that is known to be lost
 
 
 Likeness = tuple[object, ...]
@@ -43,6 +43,7 @@ class Exchange:
     is_set: bool = False
     is_slip: bool = False  # a read that was wrong, and right when it was asked again at once
     cause: int | None = None  # for which one of the two alone refused an activation
+    tries: int = 1  # how often a SET was sent
 
 
 @dataclass
@@ -185,7 +186,7 @@ class Pair:
         is_void = self.port.is_lossy() and is_refused(message, ours)
         heard = self._ask_void(octets, message, ours) if is_void else self._ask_set(octets, message, ours)
         if heard.reply is None:
-            return Exchange(step, octets, ours, None, Mismatch(Kind.NO_ANSWER), True, True)
+            return Exchange(step, octets, ours, None, Mismatch(Kind.NO_ANSWER), True, True, tries=heard.tries)
         if _hangs_on_ticks(message) and self.ticks.may_have_come(heard.ended):
             raise Inconclusive("a tick may have come before the sign took what hangs on ticks")
         differs = self._mismatch(message, ours, heard.reply)
@@ -201,6 +202,7 @@ class Pair:
             if sent and self._again(octets) != ours:
                 raise Inconclusive("a SET that was to be refused is lost, and would be refused no more")
             heard = self.port.ask_once(octets, message.number, ours, wait, is_again=sent > 0)
+            heard.tries = sent + 1
             if heard.reply is not None:
                 return heard
         self._settle_lost(octets, message, ours)
@@ -215,13 +217,14 @@ class Pair:
         def is_seen() -> bool:
             return is_usual and is_seen_taken(self, octets, message)
 
-        for sent in range(_MOST_SENT):
+        for sent in range(MOST_SENT):
             if sent and self._again(octets) != ours:
                 raise Inconclusive("a SET that is sent once more would be answered otherwise")
             heard = self.port.ask_watched(octets, message.number, ours, is_seen, is_again=sent > 0)
+            heard.tries = sent + 1
             if heard.reply is not None:
                 break
-            is_last = sent == _MOST_SENT - 1 or not self.port.is_lossy()
+            is_last = sent == MOST_SENT - 1 or not self.port.is_lossy()
             if self._settle_lost(octets, message, ours, is_last) is Fate.TAKEN or is_last:
                 break
         return heard
