@@ -1,6 +1,6 @@
-"""What is made of the table of objects for the settings, for tools/objects.py: in dms_sign_access the settings and what a
-SET assigns, in dms_sign what they read and their ranges, with what is proved of each, and in dms_sign_state the type of
-those that are numbers and what is said of each; in the code, and in the definitions."""
+"""What is made of the table of objects for the settings, for tools/objects.py: in dms_sign_access the settings and what
+a SET assigns, in dms_sign what they read and their ranges, with what is proved of each, and in dms_sign_state the type
+of those that are numbers and what is said of each; in the code, and in the definitions."""
 
 from __future__ import annotations
 

@@ -12,11 +12,11 @@ from .connection import Database, Taken
 from .shown_by import text_of
 from .values import CLOCK, places, text_or_none, texts, whole, whole_or_none
 
+GIVEN_UP = "given up"  # the first words on a command that waited for too long
+
 
 class Meanwhile(Refusal):
     """Something else was asked of a sign since somebody saw it."""
-
-GIVEN_UP = "given up"  # the first words on a command that waited for too long
 
 
 @dataclass(frozen=True)
