@@ -1,7 +1,7 @@
 """The table of commands: what operators ask for, each with its line of the audit, and how it ended."""
 
 from dataclasses import dataclass
-from typing import Mapping, Sequence
+from typing import Collection, Mapping, Sequence
 
 from wisangub.refusal import Refusal
 from wisangub.room.plain import counted
@@ -13,6 +13,7 @@ from .shown_by import text_of
 from .values import CLOCK, places, text_or_none, texts, whole, whole_or_none
 
 GIVEN_UP = "given up"  # the first words on a command that waited for too long
+_WAITS = "outcome IS NULL AND line_number IS NULL"
 
 
 class Meanwhile(Refusal):
@@ -204,17 +205,23 @@ class Commands:
             note(self.database, who, f"{self._name_of(whole(rows[0][0]))}: command {command} is withdrawn")
         return bool(rows)
 
-    def give_up(self, seconds: float) -> None:
-        """Ends commands that have waited for their turn for so long, of whichever sign, with a line of the audit each:
-        what nobody could carry out is not put on a road hours later. What is under way is its centre's to end."""
-        late = "outcome IS NULL AND line_number IS NULL AND asked_at + ? < {clock}"
-        if not self._run(f"SELECT 1 FROM commands WHERE {late} LIMIT 1", seconds):
+    def waiting(self, seconds: float | None = None) -> set[int]:
+        """The commands whose turn has not come: all, or those that were asked for so long ago by the database's clock."""
+        late = "" if seconds is None else " AND asked_at + ? < {clock}"
+        rows = self._run(f"SELECT id FROM commands WHERE {_WAITS}{late}", *([] if seconds is None else [seconds]))
+        return {whole(row[0]) for row in rows}
+
+    def give_up(self, late: Collection[int], seconds: float) -> None:
+        """Ends these commands, which have waited for their turn for so long, with a line of the audit each: what nobody
+        could carry out is not put on a road hours later. What is under way is its centre's to end."""
+        if not late:
             return
         with self.database.transaction(is_alone=True):
             rows = self._run(
-                f"UPDATE commands SET outcome = ?, ended = {CLOCK} WHERE {late} RETURNING id, sign, who",
+                f"UPDATE commands SET outcome = ?, ended = {CLOCK} WHERE {_WAITS} AND id IN ({places(late)})"
+                " RETURNING id, sign, who",
                 f"{GIVEN_UP}: its turn did not come within {seconds:g} seconds",
-                seconds,
+                *sorted(late),
             )
             for command, sign, who in sorted(rows):
                 note(self.database, str(who), f"{self._name_of(whole(sign))}: command {command} is given up")

@@ -22,6 +22,7 @@ from wisangub.snmp.mib import Mib
 
 from .carry import Offer, carry
 from .files import most_driven
+from .late import Late
 from .reader import Reader
 from .session import MOST_LINES, Left, Lost, Session
 from .where import Where
@@ -75,6 +76,7 @@ class Worker:
         self.fault = ""  # what the database said last, which is said once
         self.refused: Refusal | None = None  # why it ends by itself
         self.next_look = self.next_renewal = self.next_end = 0.0
+        self.late = Late(store.commands, pace.give_up)
         store.readings.anew(list(self.signs))
 
     def run(self) -> None:
@@ -132,7 +134,7 @@ class Worker:
         now = time.monotonic()
         if now >= self.next_end:
             self.next_end = now + _ENDS
-            self.store.commands.give_up(self.pace.give_up)
+            self.late.give_up()
         self.lease()
 
     # ---- lines
