@@ -9,12 +9,11 @@ import sys
 import pytest
 
 from model import text
+from tests.tester.endpoints import LONG
 from wisangub.process.coprocess import Died
 from wisangub.process.places import environment
 from wisangub.tester import __main__ as command
 from wisangub.tester.several import program as several
-
-from .endpoints import LONG
 
 TROUBLES: list[tuple[BaseException, str]] = [
     (KeyError("a\nb"), r"a fault of the tester, .*: KeyError 'a\\nb' \(its traceback: (.*)\)\n"),
