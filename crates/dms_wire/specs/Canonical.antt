@@ -8,28 +8,32 @@ use Rattle.dms_wire.specs.Spelling.{tag_of}
 use Rattle.dms_wire_ber.specs.Element.{element}
 use Rattle.dms_wire_ber.specs.Integer.{integer_octets}
 use Rattle.dms_wire_ber.specs.ObjectIdentifier.{name_octets}
+use Rattle.dms_wire_ber.specs.Tags.{integer_tag, null_tag, object_identifier_tag, octet_string_tag, sequence_tag}
+use Rattle.dms_wire.specs.Tags.{counter_tag, gauge_tag, ip_address_tag, opaque_tag, time_ticks_tag}
 
 abbrev pub value_octets : ObjectValue → List ℕ
-value_octets (integer z) = element 2 (integer_octets z)
-value_octets (octet_string s) = element 4 s
-value_octets null = element 5 []
-value_octets (object_identifier numbers) = element 6 (name_octets numbers)
-value_octets (ip_address address) = element 64 address
-value_octets (counter n) = element 65 (integer_octets (pos n))
-value_octets (gauge n) = element 66 (integer_octets (pos n))
-value_octets (time_ticks n) = element 67 (integer_octets (pos n))
-value_octets (opaque s) = element 68 s
+value_octets (integer z) = element integer_tag (integer_octets z)
+value_octets (octet_string s) = element octet_string_tag s
+value_octets null = element null_tag []
+value_octets (object_identifier numbers) = element object_identifier_tag (name_octets numbers)
+value_octets (ip_address address) = element ip_address_tag address
+value_octets (counter n) = element counter_tag (integer_octets (pos n))
+value_octets (gauge n) = element gauge_tag (integer_octets (pos n))
+value_octets (time_ticks n) = element time_ticks_tag (integer_octets (pos n))
+value_octets (opaque s) = element opaque_tag s
 
 unfoldable pub binding_octets : VarBind → List ℕ
-binding_octets b = element 48 (element 6 (name_octets b.name) ++ value_octets b.value)
+binding_octets b = element sequence_tag (element object_identifier_tag (name_octets b.name) ++ value_octets b.value)
 
 -- request-id, error-status and error-index
 unfoldable pub numbers_octets : SnmpMessage → List ℕ
-numbers_octets m = element 2 (integer_octets m.request) ++ element 2 (integer_octets m.status)
-    ++ element 2 (integer_octets m.index)
+numbers_octets m = element integer_tag (integer_octets m.request) ++ element integer_tag (integer_octets m.status)
+    ++ element integer_tag (integer_octets m.index)
 
 unfoldable pub pdu_octets : SnmpMessage → List ℕ
-pdu_octets m = numbers_octets m ++ element 48 (flat_map binding_octets m.bindings)
+pdu_octets m = numbers_octets m ++ element sequence_tag (flat_map binding_octets m.bindings)
 
 unfoldable pub canonical : SnmpMessage → List ℕ
-canonical m = element 48 (element 2 (0 ∷ []) ++ element 4 m.community ++ element (tag_of m.kind) (pdu_octets m))
+canonical m =
+    element sequence_tag (element integer_tag (0 ∷ []) ++ element octet_string_tag m.community
+    ++ element (tag_of m.kind) (pdu_octets m))

@@ -1,6 +1,7 @@
 -- What a reader must believe: what a message says, which octets spell it, and the shortest ones.
 pub mod Message
 pub mod ErrorStatus
+pub mod Tags
 pub mod Spelling
 pub mod Limits
 pub mod Canonical

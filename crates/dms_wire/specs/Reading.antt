@@ -14,23 +14,29 @@ use Rattle.dms_wire_ber.specs.NameReading.{is_name, numbers_of}
 use Rattle.dms_wire_ber.specs.Reading.{◌>>=◌, fault, length_at, integer_value, content_at, element_at}
 use Rattle.dms_wire_ber.specs.Reading.{offset_of_content, integer_at, name_at, natural_value, ended}
 use Rattle.dms_wire_ber.specs.Limits.{longest_datagram}
+use Rattle.dms_wire_ber.specs.Tags.{integer_tag, null_tag, object_identifier_tag, octet_string_tag, sequence_tag}
+use Rattle.dms_wire.specs.Tags.{counter_tag, gauge_tag, get_next_tag, get_tag, ip_address_tag, opaque_tag}
+use Rattle.dms_wire.specs.Tags.{response_tag, set_tag, time_ticks_tag}
 
 -- The value that a tag and a content are. before is the offset of the length, and place that of the content.
 unfoldable pub value_from : ℕ → ℕ → ℕ → List ℕ → Result ObjectValue WireFault
 value_from tag before place content =
-    if tag == 2 then (ok_or (option_map integer (integer_value content)) (fault BadInteger place))
-    else if tag == 4 then Ok (octet_string content)
-    else if tag == 5 then (if length content == 0 then Ok null else Err (fault BadLength before))
-    else if tag == 6
+    if tag == integer_tag then (ok_or (option_map integer (integer_value content)) (fault BadInteger place))
+    else if tag == octet_string_tag then Ok (octet_string content)
+    else if tag == null_tag then (if length content == 0 then Ok null else Err (fault BadLength before))
+    else if tag == object_identifier_tag
     then (if is_name content then Ok (object_identifier (numbers_of content)) else Err (fault BadName place))
-    else if tag == 64 then (if length content == 4 then Ok (ip_address content) else Err (fault BadLength before))
-    else if tag == 65 then (ok_or (option_map counter (natural_value content)) (fault BadInteger place))
-    else if tag == 66 then (ok_or (option_map gauge (natural_value content)) (fault BadInteger place))
-    else if tag == 67 then (ok_or (option_map time_ticks (natural_value content)) (fault BadInteger place))
+    else if tag == ip_address_tag
+    then (if length content == 4 then Ok (ip_address content) else Err (fault BadLength before))
+    else if tag == counter_tag then (ok_or (option_map counter (natural_value content)) (fault BadInteger place))
+    else if tag == gauge_tag then (ok_or (option_map gauge (natural_value content)) (fault BadInteger place))
+    else if tag == time_ticks_tag then (ok_or (option_map time_ticks (natural_value content)) (fault BadInteger place))
     else Ok (opaque content)
 
 abbrev pub is_value_tag : ℕ → Bool
-is_value_tag b = (b == 2) || (b == 4) || (b == 5) || (b == 6) || (nat_le 64 b && nat_le b 68)
+is_value_tag b =
+    (b == integer_tag) || (b == octet_string_tag) || (b == null_tag) || (b == object_identifier_tag)
+    || (nat_le ip_address_tag b && nat_le b opaque_tag)
 
 unfoldable pub after_tag : ℕ → ℕ → List ℕ → Result (ObjectValue × List ℕ) WireFault
 after_tag tag end bytes = do
@@ -53,7 +59,7 @@ members_at end bytes = do
 
 unfoldable pub binding_at : ℕ → List ℕ → Result (VarBind × List ℕ) WireFault
 binding_at end bytes = do
-  c ← element_at 48 end bytes
+  c ← element_at sequence_tag end bytes
   m ← members_at (end - length c.1) c.0
   Ok (m, c.1)
 
@@ -74,8 +80,11 @@ is_zero (pos n) = n == 0
 is_zero (negsuc n) = false
 
 abbrev pub kind_of : ℕ → Option Kind
-kind_of b = (if b == 160 then Some Get
-    else if b == 161 then Some GetNext else if b == 162 then Some Response else if b == 163 then Some Set else None)
+kind_of b =
+    (if b == get_tag then Some Get
+    else if b == get_next_tag then Some GetNext
+    else if b == response_tag then Some Response
+    else if b == set_tag then Some Set else None)
 
 -- the version, which is 0
 abbrev pub version_of : ℕ → List ℕ → Result (Unit {0}) WireFault
@@ -85,13 +94,13 @@ version_of place content = do
 
 unfoldable pub version_at : ℕ → List ℕ → Result (Unit {0} × List ℕ) WireFault
 version_at end bytes = do
-  c ← element_at 2 end bytes
+  c ← element_at integer_tag end bytes
   v ← version_of (offset_of_content end c.0 c.1) c.0
   Ok (v, c.1)
 
 unfoldable pub list_at : ℕ → List ℕ → Result (List VarBind × List ℕ) WireFault
 list_at end bytes = do
-  c ← element_at 48 end bytes
+  c ← element_at sequence_tag end bytes
   es ← bindings_at (end - length c.1) c.0
   Ok (es, c.1)
 
@@ -123,7 +132,7 @@ tagged_pdu_at end (b ∷ bytes) = do
 unfoldable pub inside_at : ℕ → List ℕ → Result SnmpMessage WireFault
 inside_at end bytes = do
   version ← version_at end bytes
-  community ← element_at 4 end version.1
+  community ← element_at octet_string_tag end version.1
   p ← tagged_pdu_at end community.1
   _ ← ended end p.1
   Ok (record {
@@ -143,7 +152,7 @@ outer_content end bytes = do
 
 unfoldable pub outer_at : List ℕ → Result (List ℕ × List ℕ) WireFault
 outer_at [] = Err (fault Truncated 0)
-outer_at (b ∷ bytes) = (if b == 48 then outer_content (1 + length bytes) bytes else Err (fault BadTag 0))
+outer_at (b ∷ bytes) = (if b == sequence_tag then outer_content (1 + length bytes) bytes else Err (fault BadTag 0))
 
 unfoldable pub datagram_at : List ℕ → Result SnmpMessage WireFault
 datagram_at bytes = do

@@ -10,25 +10,28 @@ use Rattle.dms_wire_ber.specs.Element.{IsElement, ◌⨾◌}
 use Rattle.dms_wire_ber.specs.Integer.{IsInteger}
 use Rattle.dms_wire_ber.specs.ObjectIdentifier.{IsName}
 use Rattle.dms_wire_ber.specs.Limits.{longest_datagram}
+use Rattle.dms_wire_ber.specs.Tags.{integer_tag, null_tag, object_identifier_tag, octet_string_tag, sequence_tag}
+use Rattle.dms_wire.specs.Tags.{counter_tag, gauge_tag, get_next_tag, get_tag, ip_address_tag, opaque_tag}
+use Rattle.dms_wire.specs.Tags.{response_tag, set_tag, time_ticks_tag}
 
 -- an address is four octets
 abbrev pub IsAddress : List ℕ → List ℕ → Type 0
 IsAddress address content = (content ≡ address) × (length address ≡ 4)
 
 abbrev pub IsValue : ObjectValue → List ℕ → Type 0
-IsValue (integer z) = IsElement 2 (IsInteger z)
-IsValue (octet_string s) = IsElement 4 (λ content. content ≡ s)
-IsValue null = IsElement 5 (λ content. content ≡ [])
-IsValue (object_identifier numbers) = IsElement 6 (IsName numbers)
-IsValue (ip_address address) = IsElement 64 (IsAddress address)
-IsValue (counter n) = IsElement 65 (IsInteger (pos n))
-IsValue (gauge n) = IsElement 66 (IsInteger (pos n))
-IsValue (time_ticks n) = IsElement 67 (IsInteger (pos n))
-IsValue (opaque s) = IsElement 68 (λ content. content ≡ s)
+IsValue (integer z) = IsElement integer_tag (IsInteger z)
+IsValue (octet_string s) = IsElement octet_string_tag (λ content. content ≡ s)
+IsValue null = IsElement null_tag (λ content. content ≡ [])
+IsValue (object_identifier numbers) = IsElement object_identifier_tag (IsName numbers)
+IsValue (ip_address address) = IsElement ip_address_tag (IsAddress address)
+IsValue (counter n) = IsElement counter_tag (IsInteger (pos n))
+IsValue (gauge n) = IsElement gauge_tag (IsInteger (pos n))
+IsValue (time_ticks n) = IsElement time_ticks_tag (IsInteger (pos n))
+IsValue (opaque s) = IsElement opaque_tag (λ content. content ≡ s)
 
 -- a binding is a sequence of a name and a value
 abbrev pub IsBinding : VarBind → List ℕ → Type 0
-IsBinding b = IsElement 48 (IsElement 6 (IsName b.name) ⨾ IsValue b.value)
+IsBinding b = IsElement sequence_tag (IsElement object_identifier_tag (IsName b.name) ⨾ IsValue b.value)
 
 -- bindings, one after the other
 abbrev pub AreBindings : List VarBind → List ℕ → Type 0
@@ -36,21 +39,23 @@ AreBindings [] bytes = bytes ≡ []
 AreBindings (b ∷ bs) bytes = (IsBinding b ⨾ AreBindings bs) bytes
 
 abbrev pub tag_of : Kind → ℕ
-tag_of Get = 160
-tag_of GetNext = 161
-tag_of Response = 162
-tag_of Set = 163
+tag_of Get = get_tag
+tag_of GetNext = get_next_tag
+tag_of Response = response_tag
+tag_of Set = set_tag
 
 -- request-id, error-status, error-index and the list of bindings
 abbrev pub IsPdu : SnmpMessage → List ℕ → Type 0
 IsPdu m =
-    IsElement 2 (IsInteger m.request) ⨾ IsElement 2 (IsInteger m.status) ⨾ IsElement 2 (IsInteger m.index)
-    ⨾ IsElement 48 (AreBindings m.bindings)
+    IsElement integer_tag (IsInteger m.request) ⨾ IsElement integer_tag (IsInteger m.status)
+    ⨾ IsElement integer_tag (IsInteger m.index)
+    ⨾ IsElement sequence_tag (AreBindings m.bindings)
 
 -- version 0, community and PDU
 abbrev pub IsMessage : SnmpMessage → List ℕ → Type 0
-IsMessage m = IsElement 48 (IsElement 2 (IsInteger (pos 0)) ⨾ IsElement 4 (λ content. content ≡ m.community)
-    ⨾ IsElement (tag_of m.kind) (IsPdu m))
+IsMessage m =
+    IsElement sequence_tag (IsElement integer_tag (IsInteger (pos 0))
+    ⨾ IsElement octet_string_tag (λ content. content ≡ m.community) ⨾ IsElement (tag_of m.kind) (IsPdu m))
 
 -- at most longest_datagram octets that are the message's element, with nothing after it
 pub record Spells (m : SnmpMessage) (bytes : List ℕ) : Type 0 where

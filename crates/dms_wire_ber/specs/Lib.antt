@@ -1,6 +1,7 @@
 -- What a reader must believe: the content and the length of each element, in any accepted form and in the shortest, and
 -- their limits.
 pub mod Limits
+pub mod Tags
 pub mod Length
 pub mod Element
 pub mod Integer

@@ -9,6 +9,7 @@ use Rattle.dms_wire_ber.specs.declared.fault.FaultKind.TheVariants.{BadInteger, 
 use Rattle.dms_wire_ber.specs.declared.fault.WireFault.{WireFault}
 use Rattle.dms_wire_ber.specs.Integer.{is_shortest, signed_value, in_range}
 use Rattle.dms_wire_ber.specs.NameReading.{is_name, numbers_of}
+use Rattle.dms_wire_ber.specs.Tags.{integer_tag, object_identifier_tag}
 
 infixl 10 ◌>>=◌
 abbrev pub ◌>>=◌ : {A B : Type 0} → Result A WireFault → (A → Result B WireFault) → Result B WireFault
@@ -56,7 +57,7 @@ offset_of_content end content rest = end - length rest - length content
 
 unfoldable pub integer_at : ℕ → List ℕ → Result (ℤ × List ℕ) WireFault
 integer_at end bytes = do
-  c ← element_at 2 end bytes
+  c ← element_at integer_tag end bytes
   z ← ok_or (integer_value c.0) (fault BadInteger (offset_of_content end c.0 c.1))
   Ok (z, c.1)
 
@@ -65,7 +66,7 @@ name_of place content = (if is_name content then Ok (numbers_of content) else Er
 
 unfoldable pub name_at : ℕ → List ℕ → Result (List ℕ × List ℕ) WireFault
 name_at end bytes = do
-  c ← element_at 6 end bytes
+  c ← element_at object_identifier_tag end bytes
   n ← name_of (offset_of_content end c.0 c.1) c.0
   Ok (n, c.1)
 
