@@ -13,7 +13,7 @@ use Rattle.dms_table.specs.declared.writable.Writable.{Writable}
 use Rattle.dms_table.specs.declared.writable.RowPlace.{RowPlace}
 use Rattle.dms_codes.specs.declared.status.Ask.{Ask}
 use Rattle.dms_codes.specs.Status.{is_validate}
-use Rattle.dms_table.specs.PlaceView.{of_type, IsOnly, IsOnlyOfAll, IsPlaced, validating_after}
+use Rattle.dms_table.specs.PlaceView.{of_type, IsOnly, IsOnlyOfAll, IsPlaced, validating_if}
 use Rattle.dms_table.proofs.OneRow.{count, weight, extra_of, count-cons, any_validating, unsettled, settling_is, changed_one_row, asked_weight, asked_before, asked_now, written_weight, written_before}
 
 -- ---- the first row, and those after it
@@ -247,7 +247,7 @@ may_place validating table ask is may = free_after (is_validate ask) (is_some va
 pub asked_place : (memory : Writable) (validating after : Option RowPlace) (table : TableModel) (ask : Ask) (more : List RowModel) (number index : ℕ)
     → IsPlaced validating table.changeable table.volatile → may_ask table ask ≡ true → index + 1 ≡ number
     → changed_in (of_type memory table.changeable table.volatile) number (asked_row ask) ≡ Some more
-    → after ≡ validating_after validating ask (record { memory = memory; index = index })
+    → after ≡ validating_if (is_validate ask) (record { memory = memory; index = index }) validating
     → IsPlaced after (of_type memory more table.changeable) (of_type memory table.volatile more)
 asked_place memory validating after table ask more number index is may numbered changed e = grind (arith, asked_by, may_place)
 

@@ -13,9 +13,8 @@ use Rattle.dms_table.specs.declared.saved_row.RowFault.TheVariants as faults
 use Rattle.dms_table.specs.declared.writable.Writable.{Writable}
 use Rattle.dms_table.specs.declared.writable.RowPlace.{RowPlace}
 use Rattle.dms_table.specs.Rows.{RowModel, TableModel, row_is_validating, numbered, changed_in, is_settling}
-use Rattle.dms_table.specs.PlaceView.{writable_by, writable, of_type, IsOnlyOfAll, IsPlaced}
+use Rattle.dms_table.specs.PlaceView.{writable_by, writable, of_type, validating_if, IsOnlyOfAll, IsPlaced}
 use Rattle.dms_table.specs.SavedRows.{put_over, place_fault, writable_rows_by, row_there, may_put, value_fault}
-use Rattle.dms_table.specs.TableView.{validating_with}
 use Rattle.dms_table.proofs.OneRow.{count, weight, changed_one_row}
 use Rattle.dms_table.proofs.Places.{Frees, IsValidatingAt, kept_place, put_by, changed_rows, changed_count, placed_settling}
 
@@ -105,7 +104,7 @@ put_used services put e = used_by (is_not_used put.status) _ e
 pub put_place : (memory : Writable) (validating : Option RowPlace) (put : RowModel) (table : TableModel) (more : List RowModel) (number index : ℕ)
     → IsPlaced validating table.changeable table.volatile → may_put table put.status ≡ true → index + 1 ≡ number
     → changed_in (of_type memory table.changeable table.volatile) number (put_over put) ≡ Some more
-    → IsPlaced (validating_with validating put.status (record { memory = memory; index = index })) (of_type memory more table.changeable) (of_type memory table.volatile more)
+    → IsPlaced (validating_if (row_is_validating put) (record { memory = memory; index = index }) validating) (of_type memory more table.changeable) (of_type memory table.volatile more)
 put_place memory validating put table more number index placed may numbered changed =
     put_at (row_is_validating put) memory validating put table.changeable table.volatile more number index refl
     (ap (λ b. row_is_validating put && b) (sym (placed_settling validating table placed)) ∙ not_true (row_is_validating put && is_settling table) may) numbered changed placed

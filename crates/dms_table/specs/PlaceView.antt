@@ -1,8 +1,6 @@
 -- The rows that can be changed, and where the one stands that is being validated (this profile).
-use Rattle.std.specs.Prelude.{◌≡◌, ℕ, ◌+◌, true, if◌then◌else◌}
+use Rattle.std.specs.Prelude.{◌≡◌, ℕ, ◌+◌, Bool, true, if◌then◌else◌}
 use Rattle.std.specs.Prelude.{List, Option, Some, None, option_map, slice_get, count_by}
-use Rattle.dms_codes.specs.declared.status.Ask.{Ask}
-use Rattle.dms_codes.specs.Status.{is_validate}
 use Rattle.dms_codes.specs.declared.memory.Memory.{Memory}
 use Rattle.dms_codes.specs.declared.memory.Memory.TheVariants as memories
 use Rattle.dms_codes.specs.Memory.{memory_of}
@@ -42,6 +40,6 @@ abbrev pub IsPlaced : Option RowPlace → (changeable volatile : List RowModel) 
 IsPlaced None changeable volatile = count_by row_is_validating changeable + count_by row_is_validating volatile ≡ 0
 IsPlaced (Some place) changeable volatile = IsOnlyOfAll place changeable volatile
 
--- the place once a row at another has taken what it was asked
-abbrev pub validating_after : Option RowPlace → Ask → RowPlace → Option RowPlace
-validating_after validating ask place = if is_validate ask then Some place else validating
+-- the place once a row at another is being validated, or is not
+abbrev pub validating_if : Bool → RowPlace → Option RowPlace → Option RowPlace
+validating_if is_validating place validating = if is_validating then Some place else validating

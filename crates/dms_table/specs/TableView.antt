@@ -1,7 +1,5 @@
 -- What holds of the fields of every table (this profile).
-use Rattle.std.specs.Prelude.{◌≤◌, List, Option, Some, if◌then◌else◌, length}
-use Rattle.dms_codes.specs.declared.status.Status.{Status}
-use Rattle.dms_codes.specs.Status.{is_validating}
+use Rattle.std.specs.Prelude.{◌≤◌, List, Option, length}
 use Rattle.dms_codes.specs.Limits.{longest_text, longest_owner}
 use Rattle.dms_table.specs.declared.saved_row.SavedRow.{SavedRow}
 use Rattle.dms_table.specs.declared.saved_shown.SavedShown.{SavedShown}
@@ -15,10 +13,6 @@ pub record IsTableKept (validating : Option RowPlace) (changeable volatile : Lis
   pub placed : IsPlaced validating changeable volatile
   pub changeable_empty : AreEmptyWhereUnused changeable
   pub volatile_empty : AreEmptyWhereUnused volatile
-
--- the place once a row of this status was put at another
-abbrev pub validating_with : Option RowPlace → Status → RowPlace → Option RowPlace
-validating_with validating status place = if is_validating status then Some place else validating
 
 -- there is room for its octets in a row
 pub record FitsARow (row : SavedRow) : Type 0 where

@@ -1,7 +1,7 @@
 //! The message table.
 
 ghost use Rattle.std.specs.Prelude.{◌≡◌, ◌⊎◌, ◌<◌, ◌+◌, IfNone, map, find, All, IsTrue, IfOk, IfErr, OnOk, OnErr};
-ghost use Rattle.std.specs.Prelude.{Some, None, IfSome, if◌then◌else◌, option_map, is_some, replicate};
+ghost use Rattle.std.specs.Prelude.{Some, None, IfSome, option_map, is_some, replicate};
 ghost use Rattle.std.specs.Option.{option_copied};
 ghost use Rattle.dms_table.specs.Rows.{unused, row_is_validating, rows_of, numbered, row_read, valid_count};
 ghost use Rattle.dms_table.specs.Rows.{unused_count, row_count, is_settling, may_ask, changed, changed_in, asked_row};
@@ -17,7 +17,7 @@ ghost use Rattle.dms_table.specs.Validation.{settled, verdict, ValidRowsAreGood}
 ghost use Rattle.dms_table.specs.SavedRows.{row_saved, put_over, place_fault, may_put, row_fault};
 ghost use Rattle.dms_table.specs.SavedRows.{AreEmptyWhereUnused};
 ghost use Rattle.dms_table.specs.TableView.{FitsARow};
-ghost use Rattle.dms_table.specs.PlaceView.{IsOnly, IsPlaced};
+ghost use Rattle.dms_table.specs.PlaceView.{IsOnly, IsPlaced, validating_if};
 ghost use Rattle.dms_table.specs.ValidatorView.{settled_by, verdict_by, IsJudged};
 ghost use Rattle.dms_table.specs.Stock.{permanent_row, has_ranges, stock_fault, table_of, IsFirstFault};
 ghost use Rattle.dms_table.specs.Stock.{PermanentRowsAreGood, HasOctets};
@@ -297,7 +297,7 @@ fn is_validate(ask: Ask) -> bool
 
 /// The row at a place may be the one that is being validated from now on.
 fn note_validating(validating: &mut Option<RowPlace>, is_validating: bool, place: RowPlace)
-    ensures { validating.new ≡ (if is_validating then Some place else validating.old) }
+    ensures { validating.new ≡ validating_if is_validating place validating.old }
 {
     if is_validating {
         *validating = Some(place);
