@@ -1,5 +1,6 @@
 pub mod DigitPairs
 pub mod Splits
+mod Newlines
 pub mod LineLaws
 pub mod DigitsRead
 pub mod NumberLaws

@@ -6,7 +6,7 @@ ghost use Rattle.std.specs.Str.Lines.{lines, strip_carriage_return};
 ghost use Rattle.dms_text.specs.Lines.{is_skipped, numbered, lines_left, number_after};
 ghost use Rattle.dms_text.specs.Views.{numbered_line};
 
-use crate::parts::split_once;
+use crate::parts::split_line;
 use std::marker::Model;
 
 /// A line without its newline, and its number among all lines, from 1.
@@ -90,7 +90,7 @@ fn first_line(text: &[u8]) -> (&[u8], &[u8])
     ensures lines { lines text.now ≡ result.0.now ∷ lines result.1.now }
     ensures shorter { length result.1.now < length text.now }
 {
-    match split_once(text, b'\n') {
+    match split_line(text) {
         Some((line, rest)) => (without_carriage_return(line), rest),
         None => (text, &[]),
     }

@@ -134,8 +134,21 @@ impl<'a> Words<'a> {
 }
 
 /// Whether these are the same octets.
+#[inline]
 pub fn are_same(word: &[u8], other: &[u8]) -> bool
     ensures { result ≡ same_octets word.now other.now }
 {
-    word == other
+    let mut left = word;
+    let mut wanted = other;
+    while let [octet, rest @ ..] = left {
+        let [same, more @ ..] = wanted else {
+            return false;
+        };
+        if *octet != *same {
+            return false;
+        }
+        left = rest;
+        wanted = more;
+    }
+    wanted.is_empty()
 }
