@@ -226,7 +226,7 @@ octets_some (octet ∷ octets) = omega (arith, length-encode_with lower_digits (
 
 -- ---- the test of a word
 
-small_is_hex : (word : List ℕ) → list_all is_small_digit word ≡ true → list_all is_hex_digit word ≡ true
+pub small_is_hex : (word : List ℕ) → list_all is_small_digit word ≡ true → list_all is_hex_digit word ≡ true
 small_is_hex [] e = refl
 small_is_hex (c ∷ word) e =
     let parts = and_parts (is_small_digit c) (list_all is_small_digit word) e in
@@ -235,7 +235,7 @@ small_is_hex (c ∷ word) e =
     one : (c : ℕ) → is_small_digit c ≡ true → is_hex_digit c ≡ true
     one c e = grind (arith, nat_tests)
 
-abbrev are_even : List ℕ → Bool
+abbrev pub are_even : List ℕ → Bool
 are_even word = nat_lt 0 (length word) && length word % 2 == 0
 
 whole_tested : (word : List ℕ) → (is_dash word || list_all is_small_digit word) ≡ true → (is_dash word || are_even word) ≡ is_some (octets_of word)
@@ -247,7 +247,7 @@ whole_tested word small = of_cases (is_dash word) (list_all is_small_digit word)
     of_cases false true dash are e = grind (arith, pairs word, small_is_hex word are)
     of_cases false false dash are e = absurd cc
 
-whole_of : (most : ℕ) (word : List ℕ) → are_written most word ≡ true → (is_dash word || are_even word) ≡ is_some (octets_in most word)
+pub whole_of : (most : ℕ) (word : List ℕ) → are_written most word ≡ true → (is_dash word || are_even word) ≡ is_some (octets_in most word)
 unfolding octets_in
 whole_of most word all =
     let parts = and_parts (nat_le (length word / 2) most) (is_dash word || list_all is_small_digit word) all in

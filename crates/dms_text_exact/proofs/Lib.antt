@@ -4,5 +4,7 @@ mod Tests
 pub mod FrontLaws
 -- each word that is written is read, and what is read is written so
 pub mod DigitLaws
+-- pairs of small digits, and the table of their values
+mod PairLaws
 pub mod NumberLaws
 pub mod AddressLaws

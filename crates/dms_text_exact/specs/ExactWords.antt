@@ -1,13 +1,13 @@
 -- Words in their only spelling (this profile): of the spellings that a word of a description may have, a state's text
 -- takes the one that is written. No number has a needless zero, and octets have small digits.
-use Rattle.std.specs.Prelude.{ℕ, ℤ, ◌/◌, ◌==◌, ◌&&◌, ◌||◌, Bool, false, if◌then◌else◌, List, [], ◌∷◌, length}
+use Rattle.std.specs.Prelude.{ℕ, ℤ, ◌-◌, ◌/◌, ◌==◌, ◌&&◌, ◌||◌, Bool, false, if◌then◌else◌, List, [], ◌∷◌, length}
 use Rattle.std.specs.Prelude.{nat_le, Option, Some, None, Result, Ok, Err}
 use Rattle.std.specs.List.{list_all, list_any}
 use Rattle.std.specs.Str.{byte}
-use Rattle.hex.specs.Hex.{decode_sized}
+use Rattle.hex.specs.Hex.{decode_of, decode_sized}
 use Rattle.hex.specs.declared.error.FromHexError.{FromHexError}
 use Rattle.dms_text.specs.Words.{parts_of}
-use Rattle.dms_text.specs.Reading.{number_of, within, is_dash, octets_of, ◌>>=◌}
+use Rattle.dms_text.specs.Reading.{number_of, within, is_dash, octets_of, octets_decoded, ◌>>=◌}
 use Rattle.dms_text_forms.specs.FieldsReading.{address_of}
 use Rattle.dms_text_values.specs.ValueReading.{integer_of}
 
@@ -37,6 +37,13 @@ address_in word = if list_any has_needless_zero (parts_of (byte ".") word) then 
 abbrev pub is_small_digit : ℕ → Bool
 is_small_digit octet = (nat_le 48 octet && nat_le octet 57) || (nat_le 97 octet && nat_le octet 102)
 
+-- the value of a small digit, and 256 of what is none
+abbrev pub small_value : ℕ → ℕ
+small_value octet =
+    if nat_le 48 octet && nat_le octet 57 then octet - 48
+    else if nat_le 97 octet && nat_le octet 102 then octet - 87
+    else 256
+
 -- the length of at most so many octets, and small digits or a dash
 abbrev pub are_written : ℕ → List ℕ → Bool
 are_written most word = nat_le (length word / 2) most && (is_dash word || list_all is_small_digit word)
@@ -44,6 +51,10 @@ are_written most word = nat_le (length word / 2) most && (is_dash word || list_a
 -- at most so many octets, `-` for none
 unfoldable pub octets_in : ℕ → List ℕ → Option (List ℕ)
 octets_in most word = if are_written most word then octets_of word else None
+
+-- what small digits spell, one pair or more
+abbrev pub small_decoded : List ℕ → Option (List ℕ)
+small_decoded word = if list_all is_small_digit word then octets_decoded (decode_of word) else None
 
 abbrev pub decoded : Result (List ℕ) FromHexError → Option (List ℕ)
 decoded (Ok octets) = Some octets

@@ -12,6 +12,7 @@
 mod digits;
 mod fronts;
 mod numbers;
+mod pairs;
 mod putting;
 
 pub use digits::{are_octets, code, octets};

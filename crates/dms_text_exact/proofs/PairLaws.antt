@@ -1,0 +1,84 @@
+-- Pairs of small digits are looked up, and decode to what they spell.
+use Rattle.std.proofs.Common.{◌≡◌, ℕ, zero, suc, ◌+◌, ◌-◌, ◌*◌, ◌/◌, ◌%◌, ◌<◌, ◌≤◌, ◌&&◌, Bool, true, false, T, eqb, get_or, inl, inr, arith, eq-zero-or-pos, eqb→eq, List, [], ◌∷◌, length, take, slice_index, is_some, cond, ◌||◌, Option, Some, None, refl, sym, ap, ◌∙◌}
+use Rattle.std.specs.List.{list_all}
+use Rattle.std.proofs.lemmas.Bool.{and_parts, and_from, le-leb, lt-ltb, eq-eqb, cases_Bool}
+use Rattle.std.proofs.lemmas.Bool.Decides.{nat_tests}
+use Rattle.std.proofs.lemmas.List.Folds.{list_all_more}
+use lib.Ieee.Fits.{and_l, and_r}
+use Rattle.hex.specs.Hex.{decode_of}
+use Rattle.dms_text.specs.Reading.{is_dash, octets_of, octets_decoded}
+use Rattle.dms_text.proofs.DigitPairs.{pairs}
+use Rattle.dms_text_exact.specs.ExactWords.{is_small_digit, small_value, are_written, octets_in, small_decoded}
+use Rattle.dms_text_exact.specs.declared.pairs.TheConstants.{VALUES}
+use Rattle.dms_text_exact.proofs.DigitLaws.{are_even, small_is_hex, whole_of, not_written}
+
+-- ---- the table
+
+-- the values of the octets below a number are theirs
+abbrev are_values : ℕ → Bool
+are_values zero = true
+are_values (suc n) = eqb (get_or VALUES n 0) (small_value n) && are_values n
+
+below : (n octet : ℕ) → T (are_values n) → octet < n → get_or VALUES octet 0 ≡ small_value octet
+below zero octet t h = absurd (omega arith)
+below (suc n) octet t h =
+    elim (eq-zero-or-pos (n - octet)) [
+      | inl z ↦ let e : octet ≡ n = omega arith in rw e (eqb→eq _ _ (and_l _ (are_values n) t))
+      | inr g ↦ below n octet (and_r _ (are_values n) t) (omega arith)
+    ]
+
+pub value_at : (octet from : ℕ) → octet < 256 → from ≡ octet → get_or VALUES from 0 ≡ small_value octet
+value_at octet from h is = ap (λ n. get_or VALUES n 0) is ∙ below 256 octet tt h
+
+value_most : (octet : ℕ) → octet < 256 → small_value octet ≤ 256
+value_most octet h = grind (arith, nat_tests)
+
+pub most_at : (octet from : ℕ) → octet < 256 → from ≡ octet → get_or VALUES from 0 ≤ 256
+most_at octet from h is = omega (arith, value_at octet from h is, value_most octet h)
+
+-- ---- pairs
+
+pub small_more : (word : List ℕ) (index : ℕ) → 2 * index + 1 < length word
+    → true ≡ (is_small_digit (slice_index word (2 * index)) && is_small_digit (slice_index word (2 * index + 1)))
+    → list_all is_small_digit (take (2 * index) word) ≡ true → list_all is_small_digit (take (2 * (index + 1)) word) ≡ true
+small_more word index fits pair all =
+    let both = and_parts _ _ (sym pair) in
+    let one = list_all_more is_small_digit word (2 * index) 0 (omega arith) ∙ and_from _ _ all both.0 in
+    let two = list_all_more is_small_digit word (2 * index + 1) 0 fits ∙ and_from _ _ one both.1 in
+    let at : 2 * (index + 1) ≡ 2 * index + 1 + 1 = omega arith in
+    ap (λ n. list_all is_small_digit (take n word)) at ∙ two
+
+-- ---- the words of pairs
+
+pub small_some : (word : List ℕ) → 0 < length word → length word % 2 ≡ 0 → list_all is_small_digit word ≡ true → is_some (small_decoded word) ≡ true
+small_some word some even small =
+    let hex = and_from _ _ (eq-eqb (length word % 2) 0 even) (small_is_hex word small) in
+    ap (λ b. is_some (cond b (octets_decoded (decode_of word)) None)) small
+    ∙ (sym (pairs word) ∙ and_from _ _ (lt-ltb 0 (length word) some) hex)
+
+pub dash_in : (most : ℕ) (word : List ℕ) → is_dash word ≡ true → Some [] ≡ octets_in most word
+unfolding octets_in octets_of
+dash_in most [] e = absurd cc
+dash_in most (octet ∷ []) e = grind (arith, e)
+dash_in most (octet ∷ other ∷ word) e = absurd cc
+
+pub pairs_in : (most : ℕ) (word : List ℕ) → is_dash word ≡ false → length word / 2 ≤ most → small_decoded word ≡ octets_in most word
+unfolding octets_in octets_of
+pairs_in most word dash few =
+    sym (ap (λ b. cond (b && (is_dash word || list_all is_small_digit word)) (octets_of word) None) (le-leb (length word / 2) most few)
+    ∙ ap (λ b. cond (b || list_all is_small_digit word) (cond b (Some []) (octets_decoded (decode_of word))) None) dash)
+
+none_of : (found : Option (List ℕ)) → is_some found ≡ false → None ≡ found
+none_of None none = refl
+none_of (Some octets) none = absurd cc
+
+pub odd_in : (most : ℕ) (word : List ℕ) → is_dash word ≡ false → are_even word ≡ false → None ≡ octets_in most word
+odd_in most word dash odd =
+    elim (cases_Bool (are_written most word)) [
+      | inl written ↦ none_of _ (sym (whole_of most word written) ∙ ap (λ b. b || are_even word) dash ∙ odd)
+      | inr other ↦ none_of _ (sym (not_written most word (are_written most word) refl other) ∙ other)
+    ]
+
+pub long_in : (most : ℕ) (word : List ℕ) → most < length word / 2 → None ≡ octets_in most word
+unfolding octets_in
+long_in most word many = grind (arith, nat_tests)
