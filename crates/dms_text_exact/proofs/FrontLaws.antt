@@ -1,10 +1,13 @@
 -- What stands at the front of a text is read, and nothing else; parts are told by an octet that is in none of them.
-use Rattle.std.proofs.Common.{◌≡◌, ℕ, suc, ◌+◌, ◌==◌, ◌||◌, ltb, Bool, true, false, cond, not, List, [], ◌∷◌, ◌++◌, length, get_or, take, drop, Option, Some, None, refl, sym, ap, subst, ◌∙◌, append_assoc, add-one, drop-cons, arith}
+use Rattle.std.proofs.Common.{◌≡◌, ℕ, zero, suc, ◌+◌, ◌-◌, ◌≤◌, ◌==◌, ◌||◌, ltb, Bool, true, false, cond, not, List, [], ◌∷◌, ◌++◌, length, get_or, take, drop, Option, Some, None, refl, sym, ap, subst, ◌∙◌, append_assoc, add-one, drop-cons, arith}
+use Rattle.std.specs.Prelude.{option_map}
 use Rattle.std.specs.List.{position_or_len, list_any, onto_first, join_with_byte}
 use Rattle.std.proofs.lemmas.Bool.{and_from, or_from, or_parts, lt-ltb, eqb-true, eq-eqb}
 use Rattle.std.proofs.lemmas.Option.{cond_some, same_Some}
-use Rattle.std.proofs.lemmas.List.{take_at, drop_at, take-append-drop, length-append}
+use Rattle.std.proofs.lemmas.List.{take_all, take_at, drop_at, take-append-drop, length-append, length-drop}
+use Rattle.std.proofs.lemmas.List.Folds.{list_any-append}
 use Rattle.std.proofs.lemmas.List.Quantifiers.{position-Some}
+use Rattle.std.proofs.Math.Seq.{take-add}
 use Rattle.std.proofs.lemmas.List.Splits.{slice_split-cons_yes, slice_split-cons_no, join_with_byte-slice_split}
 use Rattle.dms_text.specs.Words.{index_of, parts_of}
 use Rattle.dms_text.specs.Reading.{same_octets}
@@ -47,6 +50,32 @@ first_at end (x ∷ word) rest free = further (x == end) (list_any (λ octet. oc
     further : (b free : Bool) (n k : ℕ) → (b || free) ≡ false → (free ≡ false → n ≡ k) → cond (not b) (1 + n) 0 ≡ suc k
     further true free n k e is = absurd cc
     further false free n k e is = omega (arith, is e)
+
+pub passed_front : (end count : ℕ) (text : List ℕ) → count ≤ length text → IsFree end (take count text)
+    → position_or_len (λ octet. octet == end) text ≡ count + position_or_len (λ octet. octet == end) (drop count text)
+passed_front end zero text fits free = omega arith
+passed_front end (suc count) [] fits free = absurd (omega (arith, fits))
+passed_front end (suc count) (x ∷ text) fits free = further (x == end) _ _ _ free (passed_front end count text (omega (arith, fits)))
+  where
+    further : (b free : Bool) (n k : ℕ) → (b || free) ≡ false → (free ≡ false → n ≡ count + k) → cond (not b) (1 + n) 0 ≡ suc count + k
+    further true free n k e is = absurd cc
+    further false free n k e is = omega (arith, is e)
+
+pub passed_more : (end count size : ℕ) (text : List ℕ) → size ≡ 64 → IsFree end (take count text)
+    → false ≡ list_any (λ octet. octet == end) (take size (drop count text)) → IsFree end (take (count + 64) text)
+passed_more end count size text is free more =
+    ap (λ front. list_any (λ octet. octet == end) front) (ap (λ n. take (count + n) text) (sym is) ∙ take-add count size text)
+    ∙ list_any-append _ (take count text) _ ∙ or_from _ _ free (sym more)
+
+-- the first is looked for in all that is behind what is passed
+pub index_behind : (end count size : ℕ) (text : List ℕ) → size ≡ length text - count → count ≤ length text → IsFree end (take count text)
+    → option_map (λ index. count + index) (index_of end (take size (drop count text))) ≡ index_of end text
+index_behind end count size text all fits free =
+    ap (λ rest. option_map (λ index. count + index) (index_of end rest)) (take_all size (drop count text) (omega (arith, all, length-drop count text)))
+    ∙ behind_front
+  where
+    behind_front : option_map (λ index. count + index) (index_of end (drop count text)) ≡ index_of end text
+    behind_front = grind (arith, passed_front end count text fits free, length-drop count text)
 
 cut_of : (end : ℕ) (text : List ℕ) (index : ℕ) → index_of end text ≡ Some index → text ≡ take index text ++ end ∷ drop (index + 1) text
 cut_of end text index e =
