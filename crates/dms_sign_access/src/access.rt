@@ -224,6 +224,7 @@ fn priority(value: &Value<'_>) -> Option<u8>
 
 /// What a value writes to a column of a row.
 #[tactic(auto, unfolding(crate::specs::Access::cell_write))]
+#[inline(always)]
 fn cell_write<'a>(column: Column, id: RowId, value: &Value<'a>) -> Option<Change<'a>>
     ensures exact { option_map write_by result ≡ cell_write column id (object_value value.now) }
     ensures change { IfSome result IsChange }
@@ -242,6 +243,7 @@ fn cell_write<'a>(column: Column, id: RowId, value: &Value<'a>) -> Option<Change
 
 /// What a value writes to an instance.
 #[tactic(auto, unfolding(crate::specs::Access::write_of))]
+#[inline(always)]
 pub fn write_of<'a>(face: &Face, instance: Instance, value: &Value<'a>) -> Option<Change<'a>>
     ensures exact { option_map write_by result ≡ write_of face.now instance (object_value value.now) }
     ensures change { IfSome result IsChange }
