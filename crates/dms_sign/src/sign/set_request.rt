@@ -178,6 +178,7 @@ impl Sign {
 
     /// What a binding writes, or the first thing that is wrong with it where none comes before it.
     #[tactic(auto, unfolding(crate::specs::SetRequest::write_at))]
+    #[inline(always)]
     pub(super) fn change_alone<'a>(
         &self,
         may_write: bool,
@@ -207,6 +208,7 @@ impl Sign {
 
     /// The instance of a name, where it can be set.
     #[tactic(auto, unfolding(crate::specs::SetRequest::settable_instance))]
+    #[inline(always)]
     fn settable(&self, name: &Oid<'_>) -> Option<Instance>
         ensures { result ≡ settable_instance self.now name.now }
     {
@@ -219,7 +221,7 @@ impl Sign {
     }
 
     /// A write to a field of a row that is not being modified.
-    #[inline(never)]
+    #[inline(always)]
     fn is_refused_field(&self, change: &Change<'_>) -> bool
         ensures { result ≡ is_refused_field self.now.table (write_by change.now) }
     {

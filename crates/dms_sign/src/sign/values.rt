@@ -44,6 +44,7 @@ impl Objects for Sign {
 
 impl Sign {
     /// The instance of this name.
+    #[inline(always)]
     pub(super) fn named(&self, name: &Oid<'_>) -> Option<Instance>
         ensures { result ≡ instance_named self.now.table name.now }
     {
