@@ -47,7 +47,7 @@ fn octet_of(high: u8, low: u8) -> Option<u8>
     }
 }
 
-/// Puts the octets that the pairs of a word spell, and answers whether all are of small digits: then all octets are put.
+/// Puts the octets that the pairs of a word spell, and answers whether all are of small digits: then all are put.
 #[inline]
 pub(crate) fn put_pairs(word: &[u8], octets: &mut [u8]) -> bool
     requires { length word.now ≡ 2 * length octets.old }
