@@ -473,7 +473,7 @@ fn begins_plainly(text: &[u8]) -> bool {
 /// The octets after those that spell characters of the font by themselves, each behind the ones before it, as long as
 /// these take less room than the limit; the size is how much they take.
 #[tactic(auto, using(crate::proofs::WidthRuns::steps), unfolding(crate::specs::Runs::run_after))]
-#[inline(never)]
+#[inline(always)]
 fn run_after<'t>(font: &Font, limit: u32, text: &'t [u8], size: &mut u32) -> &'t [u8]
     requires size { size.old ≤ 256 }
     requires limit { limit ≤ 257 }
