@@ -9,3 +9,4 @@ mod ScriptRanges
 mod SpelledOctets
 pub mod EventMemory
 mod OftenLines
+mod ShortNumbers

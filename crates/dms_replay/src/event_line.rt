@@ -1,12 +1,12 @@
 //! The lines of a script's events.
 
-ghost use Rattle.std.specs.Prelude.{◌≡◌, ◌<◌, ◌++◌, true, codes, IfOk, IfSome, IfNone, OnErr, IsOk, IsTrue};
+ghost use Rattle.std.specs.Prelude.{◌≡◌, ◌<◌, ◌++◌, Some, None, true, codes, IfOk, IfSome, IfNone, OnErr, IsTrue};
 ghost use Rattle.std.specs.Prelude.{option_map};
 ghost use Rattle.std.specs.Result.{result_ok, result_err};
 ghost use Rattle.dms_text_forms.specs.Form.{fault_from};
 ghost use Rattle.dms_text.specs.Words.{words_of};
 ghost use Rattle.dms_text_forms.specs.FieldsReading.{last_number_at};
-ghost use Rattle.dms_world.specs.Event.{EventModel, to_sign, to_centre};
+ghost use Rattle.dms_world.specs.Event.{EventModel};
 ghost use Rattle.dms_replay.specs.EventForm.{form_after, place_cause, event_cause};
 ghost use Rattle.dms_replay.specs.EventLine.{SpellsEvent};
 ghost use Rattle.dms_replay.specs.EventReading.{event_after, event_of, has_octets};
@@ -18,7 +18,7 @@ use crate::keyword::EventKeyword;
 use crate::script_event::ScriptEvent;
 use dms_centre_text::{CommandWord, command_after};
 use dms_codes::Order;
-use dms_text::Words;
+use dms_text::{Words, number};
 use dms_text_causes::alone;
 use dms_text_forms::{LineWords, WordFault, WordName};
 use std::alloc::{AllocError, Global};
@@ -40,7 +40,7 @@ pub fn event(alloc: Global, order: Order, line: &[u8]) -> Result<Option<ScriptEv
 
 /// The event that is read of a line, or why none is. Only one that has octets wants memory. The lines of which scripts
 /// have most are told by their octets, before all others.
-#[tactic(auto, using(crate::proofs::OftenLines::often_read))]
+#[inline(always)]
 pub fn read_event(
     alloc: Global,
     order: Order,
@@ -50,19 +50,44 @@ pub fn read_event(
     ensures cause { IfOk result (λ read. result_err read ≡ event_cause line.now) }
     ensures spelled { OnErr result (has_octets (event_of order line.now) ≡ true) }
 {
+    match often_event(line) {
+        Some(event) => Ok(Ok(event)),
+        None => any_event(alloc, order, line),
+    }
+}
+
+/// The event of a line of a kind that scripts have most of, told by its octets, or none where the line may be another.
+#[tactic(auto, using(crate::proofs::OftenLines::often_read))]
+#[inline(always)]
+fn often_event(line: &[u8]) -> Option<ScriptEvent>
+    ensures read { IfSome result (λ event. (order : Order)
+        → Some (script_event_model event) ≡ event_of order line.now) }
+    ensures cause { IfSome result (λ _. None ≡ event_cause line.now) }
+{
     if let Some(rest) = after_to_sign(line) {
-        return to_sign(rest);
+        return Some(ScriptEvent::ToSign(short_number(rest)?));
     }
     if let Some(rest) = after_to_centre(line) {
-        return to_centre(rest);
+        return Some(ScriptEvent::ToCentre(short_number(rest)?));
     }
     if is_sign_tick(line) {
-        return Ok(Ok(ScriptEvent::SignTick));
+        return Some(ScriptEvent::SignTick);
     }
     if is_centre_tick(line) {
-        return Ok(Ok(ScriptEvent::CentreTick));
+        return Some(ScriptEvent::CentreTick);
     }
-    any_event(alloc, order, line)
+    None
+}
+
+/// The number that one to seven digits spell, where nothing else is left of the line.
+#[tactic(auto, using(crate::proofs::ShortNumbers::short_numbers))]
+#[inline]
+fn short_number(rest: &[u8]) -> Option<u32>
+    ensures number { IfSome result (λ number. Some number ≡ last_number_at (words_of rest.now)) }
+    ensures cause { IfSome result (λ _. None ≡ place_cause rest.now) }
+{
+    let number = number(rest, 10, 7)?;
+    Some(number as u32)
 }
 
 /// What stands after `to-sign ` in a line.
@@ -124,50 +149,6 @@ fn is_tick(word: &[u8]) -> bool
     ensures { IsTrue result → word.now ≡ codes "tick" }
 {
     matches!(word, [b't', b'i', b'c', b'k'])
-}
-
-/// The datagram of the place that these octets spell reaches the sign.
-#[inline]
-fn to_sign(rest: &[u8]) -> Result<Result<ScriptEvent, EventCause>, AllocError>
-    ensures read { IfOk result (λ read. option_map script_event_model (result_ok read)
-        ≡ option_map to_sign (last_number_at (words_of rest.now))) }
-    ensures cause { IfOk result (λ read. result_err read ≡ place_cause rest.now) }
-    ensures memory { IsOk result }
-{
-    match place(rest) {
-        Ok(place) => Ok(Ok(ScriptEvent::ToSign(place))),
-        Err(cause) => Ok(Err(cause)),
-    }
-}
-
-/// The datagram of the place that these octets spell reaches the centre.
-#[inline]
-fn to_centre(rest: &[u8]) -> Result<Result<ScriptEvent, EventCause>, AllocError>
-    ensures read { IfOk result (λ read. option_map script_event_model (result_ok read)
-        ≡ option_map to_centre (last_number_at (words_of rest.now))) }
-    ensures cause { IfOk result (λ read. result_err read ≡ place_cause rest.now) }
-    ensures memory { IsOk result }
-{
-    match place(rest) {
-        Ok(place) => Ok(Ok(ScriptEvent::ToCentre(place))),
-        Err(cause) => Ok(Err(cause)),
-    }
-}
-
-/// The place that the words after a keyword spell, or why they spell none.
-#[inline]
-fn place(rest: &[u8]) -> Result<u32, EventCause>
-    ensures number { result_ok result ≡ last_number_at (words_of rest.now) }
-    ensures cause { result_err result ≡ place_cause rest.now }
-{
-    let words = LineWords {
-        place: 2,
-        words: Words::of(rest),
-    };
-    match words.last_number() {
-        Ok(place) => Ok(place),
-        Err(fault) => Err(EventCause::Word(fault)),
-    }
 }
 
 /// The event that is read of any line, word by word, or why none is.
