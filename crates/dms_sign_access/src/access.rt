@@ -199,6 +199,7 @@ fn command<'a>(object: Scalar, value: &Value<'a>) -> Option<Change<'a>>
 
 /// What a value writes to an object; none where its type, its length or its range is wrong.
 #[tactic(auto, unfolding(crate::specs::Access::object_write))]
+#[inline(always)]
 fn object_write<'a>(face: &Face, object: Scalar, value: &Value<'a>) -> Option<Change<'a>>
     ensures exact { option_map write_by result ≡ object_write face.now object (object_value value.now) }
     ensures change { IfSome result IsChange }
