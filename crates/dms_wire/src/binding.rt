@@ -94,6 +94,7 @@ impl<'a> Binds<'a> {
     }
 
     /// The binding that is left, where it is the only one.
+    #[inline(always)]
     pub fn only(&self) -> Option<Bind<'a>>
         ensures some { IfSome result (λ binding. self.now ≡ var_bind binding ∷ []) }
         ensures none { IfNone result (length self.now ≢ 1) }

@@ -487,7 +487,7 @@ pub fn write_response(
 }
 
 /// Writes the message with this header and with bindings of which the shortest spelling is at hand: it is copied.
-#[inline]
+#[inline(always)]
 fn write_octets(header: &Header<'_>, octets: &[u8], out: &mut Out) -> Result<(), TooBig>
     requires { length octets.now ≤ longest_datagram }
     ensures { (bindings : List VarBind) → octets.now ≡ flat_map binding_octets bindings
