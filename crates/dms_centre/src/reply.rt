@@ -14,6 +14,7 @@ const CELL: [u8; 16] = [43, 6, 1, 4, 1, 137, 54, 4, 2, 3, 5, 8, 1, 0, 0, 0];
 
 /// The number that the reply to a GET of a cell reports, as `number_read`. Where the row's numbers are below 128, as
 /// most are, the octets of the name are at hand.
+#[inline(always)]
 #[tactic(auto, unfolding(dms_mib::specs::Names::name_of))]
 pub(crate) fn cell_number(column: Column, row: RowId, binds: Binds<'_>) -> Option<i64>
     ensures { result ≡ number_read (record { name = cell_name column row; value = null } ∷ []) binds.entry }
@@ -38,6 +39,7 @@ pub(crate) fn instance_number(asked: Instance, binds: Binds<'_>) -> Option<i64>
 
 /// The number that the reply to a GET of one object reports, where it has one binding, with the name that was asked,
 /// and an INTEGER.
+#[inline(always)]
 fn number_read(asked: &Oid<'_>, binds: Binds<'_>) -> Option<i64>
     ensures { result ≡ number_read (record { name = asked.now; value = null } ∷ []) binds.entry }
 {

@@ -27,7 +27,7 @@ use dms_wire_ber::{
 const SET: u8 = 163;
 
 /// Writes the request that sets the fields of a row over what `out` holds.
-#[inline(never)]
+#[inline(always)]
 pub(crate) fn put_short_fields(
     community: &[u8],
     number: u32,

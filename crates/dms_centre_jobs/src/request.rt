@@ -63,7 +63,7 @@ fn has_few(community: &[u8], order: Order)
 {}
 
 /// Writes the request for the value of a cell.
-#[inline]
+#[inline(always)]
 #[tactic(auto, unfolding(dms_mib::specs::Names::name_of))]
 fn put_get(community: &[u8], number: u32, column: Column, row: RowId, out: &mut Out)
     requires community { length community.now ≤ longest_community }
@@ -80,7 +80,7 @@ fn put_get(community: &[u8], number: u32, column: Column, row: RowId, out: &mut 
 }
 
 /// Writes the request that asks for a change of a row's status.
-#[inline]
+#[inline(always)]
 #[tactic(auto, unfolding(dms_mib::specs::Names::name_of))]
 fn put_ask(community: &[u8], number: u32, row: RowId, ask: Ask, out: &mut Out)
     requires community { length community.now ≤ longest_community }
