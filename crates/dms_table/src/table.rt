@@ -259,8 +259,8 @@ impl Table {
         Ok(())
     }
 
-    /// Ends the validation of the row that is being validated: it becomes valid, or an error. There is a verdict where
-    /// there was such a row. The defaults must fit the face.
+    /// Ends a validation: its row becomes valid, or an error; no verdict without one. The defaults must fit the face.
+    #[inline(always)]
     pub fn settle(&mut self, face: &Face, defaults: &Defaults) -> Option<Verdict>
         requires { IsTrue (fit face.now.fonts defaults.now) }
         ensures rows { self.new ≡ settled (under face.now defaults.now) self.old }
