@@ -128,8 +128,8 @@ def _rows(count: int) -> Iterator[str]:
 
 
 def _objects(count: int) -> Iterator[str]:
-    """So many objects beside a sign's, published in the order of their names; each of them is read."""
-    names = [(1, 3, 6, 1, 4, 1, 99, number, 0) for number in range(1, count + 1)]
+    """So many objects beside a sign's, published in the order of their names, which are equally long; each is read."""
+    names = [(1, 3, 6, 1, 4, 1, 99, 1_000 + number, 0) for number in range(1, count + 1)]
     yield from (f"object {'.'.join(map(str, name))} INTEGER 7" for name in names)
     yield from (_asked(wire.GET, [name]) for name in names)
 
