@@ -23,6 +23,19 @@ FEW = (
     "silence_counts_dropped_datagrams",
 )
 
+# what a chapter that is not about their rule comes across first
+EARLY = (
+    "getnext_wants_an_instance",
+    "a_loss_of_communications_after_255_minutes_at_most",
+    "times_end_at_254",
+    "a_short_loss_ends_at_32767",
+    "the_last_changeable_row_is_not_written",
+    "minutes_are_rounded_down",
+    "activations_count_seconds",
+    "a_second_counts_as_a_minute",
+    "an_empty_message_is_shown_as_blank",
+)
+
 
 def test_each_wrong_sign_is_made_of_the_model() -> None:
     every = [*MUTANTS, *FURTHER]
@@ -78,3 +91,11 @@ def test_wrong_signs_are_found() -> None:
         if mutant.name in FEW:
             outcome = tried(mutant, BENCH, "model")
             assert outcome.is_found, outcome
+
+
+def test_what_another_chapter_comes_across_is_told_by_its_own_rule() -> None:
+    for mutant in MUTANTS:
+        if mutant.name in EARLY:
+            for is_short in (False, True):
+                outcome = tried(mutant, BENCH, "model", is_short)
+                assert outcome.is_found, outcome

@@ -277,7 +277,9 @@ class Session:
             return named
         if classify.is_of_the_silence(found, run.steps):
             return RULES["silence"]
-        return RULES["copied"] if classify.is_of_the_copy(found, exchange.mismatch, run.steps) else found
+        if classify.is_of_the_copy(found, exchange.mismatch, run.steps):
+            return RULES["copied"]
+        return classify.of_the_command(found, exchange.ours, exchange.theirs, run.steps)
 
     def made_small(self, run: Run, steps: list[Step], is_shrunk: bool) -> tuple[Run, bool]:
         """The difference in few datagrams, and whether it was seen again, with ticks that were learnt anew."""

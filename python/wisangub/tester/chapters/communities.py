@@ -42,7 +42,8 @@ def _by_the_reader(context: Context) -> Iterator[Block]:
 
 
 def _changed(context: Context) -> Iterator[Block]:
-    """Both communities read the same, when nothing is as a sign begins."""
+    """Both communities read the same, when nothing is as a sign begins. What the writer is answered is about the rule
+    of what it asks, and not about communities."""
     asked: list[Step] = [put(bound) for bound in other_values(context) if bound[0] != scalar("dmsTimeCommLoss")]
     asked += [put((scalar("dmsTimeCommLoss"), integer(65535)))]
     for row in context.outermost[-1:]:
@@ -53,8 +54,8 @@ def _changed(context: Context) -> Iterator[Block]:
     names = [row.cell(column) for row in context.outermost for column in range(3, 10)] + STATE_SCALARS + SHOWN_CELLS
     before = [(*name[:-1], name[-1] - 1) if name[-1] else name[:-1] for name in names]
     reads = [*looks(names), get_next(*before[: len(before) // 2]), get_next(*before[len(before) // 2 :])]
-    steps = [replace(read, is_writer=is_writer) for is_writer in (False, True) for read in reads]
-    yield Block("both read what was changed", "reader reads", [*asked, *steps], True)
+    steps = [*reads, *[replace(read, is_writer=False, rule="reader reads") for read in reads]]
+    yield Block("both read what was changed", "", [*asked, *steps], True)
 
 
 def _blocks(context: Context) -> Iterator[Block]:

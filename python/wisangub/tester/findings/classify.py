@@ -58,6 +58,8 @@ _BY_MODE: dict[int, str] = {
     SourceMode.END_DURATION: "ends",
 }
 BY_CAUSE: dict[int, str] = {Cause.NONE: "accepted", Cause.PRIORITY: "priority", Cause.SYNTAX: "fits now"}
+_WRITTEN = (*range(Column.TEXT, Column.CRC), *range(Column.BEACON, Column.STATUS + 1))  # columns of a row
+_BY_COMMAND = {"dmsActivateMessage": "shown", "dmsMessageTimeRemaining": "remaining"}
 _SOURCE, _CAUSE = scalar("dmsMsgTableSource"), scalar("dmsActivateMsgError")
 _SILENCE = "dmsTimeCommLoss"
 _PLACES = ("dmsMultiSyntaxError", "dmsMultiSyntaxErrorPosition")
@@ -96,10 +98,13 @@ def better(named: Rule | None, octets: bytes, ours: bytes | None, theirs: bytes 
         return named
     if named.key == "remaining" and _is_another_checksum(differs, ours, theirs):
         return RULES["shown"]
-    if found.key == "minutes" and (named.chapter in _UNTIMED or named.key == "ends" and len(differs.names) == 1):
+    is_of_minutes = named.key in ("ends", "copied") and len(differs.names) == 1
+    if found.key == "minutes" and (named.chapter in _UNTIMED or is_of_minutes):
         return found
     if differs.kind is Kind.STATUS and status_of(ours) == status_of(theirs) and named.chapter == "communities":
         return found  # both refuse for the same cause, and name another binding
+    if found.key == "written rows" and named.key == "statuses":
+        return found
     if found.key == "verdicts" and named.key in _SETTLING and column_of(differs.names[0]) == Column.STATUS:
         return found
     if named.key == "layout" and differs.kind is Kind.VALUE and _is_of_markup(ours, theirs):
@@ -147,6 +152,18 @@ def is_of_the_copy(found: Rule, differs: Mismatch, steps: Sequence[Step]) -> boo
     are_commands = [not words.isdisjoint(COMMANDS) for words in _written(steps)]
     is_field = any(row is not None and row[0] == Memory.CURRENT for row in map(row_of, differs.names[:1]))
     return found.key == "shown" and is_field and any(are_commands) and not are_commands[-1]
+
+
+def of_the_command(found: Rule, ours: bytes | None, theirs: bytes | None, steps: Sequence[Step]) -> Rule:
+    """The rule of the command right before a read of the minutes, where these are wrong by more than a rounding: no
+    second has passed that could be counted wrong."""
+    minutes = [_read(reply, scalar("dmsMessageTimeRemaining")) for reply in (ours or b"", theirs or b"")]
+    numbers = [held for held in minutes if isinstance(held, int)]
+    is_at_once = len(steps) > 1 and isinstance(steps[-2], Ask) and steps[-2].kind == wire.SET
+    if found.key != "minutes" or not is_at_once or len(numbers) < 2 or abs(numbers[0] - numbers[1]) < 2:
+        return found
+    commands = [word for word in COMMANDS if word in _written(steps)[-1]]
+    return RULES[_BY_COMMAND[commands[0]]] if commands else found
 
 
 def is_of_the_silence(found: Rule, steps: Sequence[Step]) -> bool:
@@ -219,7 +236,7 @@ def _by_refusal(request: wire.Message, want: wire.Message, have: wire.Message) -
         return "order of causes"
     name, value = request.bindings[refused.index - 1]
     if refused.status == wire.NO_SUCH_NAME:
-        return "not to be written"
+        return "written rows" if column_of(name) in _WRITTEN else "not to be written"
     if refused.status == wire.BAD_VALUE:
         return "default font" if word_of(name) == "defaultFont" and _in_range(value) else "ranges"
     return _general_error(request, name, refused.index)
