@@ -181,6 +181,12 @@ def test_a_report_of_another_test_is_not_taken_up() -> None:
                 assert "another test" in str(refused)
             else:
                 raise AssertionError(about)
+        try:
+            Earlier.read(path, replace(ABOUT, to="127.0.0.1:2"), COMMUNITIES)
+        except Refusal as refused:
+            assert "of a test of the sign at 127.0.0.1:1, and not at 127.0.0.1:2" in str(refused)
+        else:
+            raise AssertionError("the report of another sign")
         for held in ("", "[]", '{"test": {}}'):
             path.write_text(held, encoding="utf-8")
             try:

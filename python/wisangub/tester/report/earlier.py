@@ -42,6 +42,8 @@ class Earlier:
         """The report of this file. Raises Refusal where it is none, or one of another test."""
         try:
             held = json.loads(path.read_text(encoding="utf-8"))
+            if held["to"] != about.to:
+                raise Refusal(f"{path} is the report of a test of the sign at {held['to']}, and not at {about.to}")
             if held["test"] != about.test():
                 raise Refusal(f"{path} is the report of another test: another description, seed, or other options")
             return _earlier(held, communities)
