@@ -21,6 +21,15 @@ CALL = [sys.executable, "-m", "wisangub.tester", "several"]
 OPTIONS = ["--signtool", "model", "--only", "communities", "--wait", "5"]
 
 
+def ports_of(captured: bytes) -> list[tuple[int, int]]:
+    """From which port and to which each packet of a capture went."""
+    found, at = list[tuple[int, int]](), 24
+    while at < len(captured):
+        found.append(struct.unpack_from(">HH", captured, at + 16 + 20))
+        at += 16 + struct.unpack_from("<I", captured, at + 8)[0]
+    return found
+
+
 def test_each_sign_has_its_verdict_and_its_reports() -> None:
     with tempfile.TemporaryDirectory() as name, contextlib.ExitStack() as ends:
         folder, ports = pathlib.Path(name), [free_port() for _ in range(2)]
@@ -45,9 +54,9 @@ def test_each_sign_has_its_verdict_and_its_reports() -> None:
         assert "no.sign" in held[2]["words"]
         for kind in ("html", "json", "junit.xml", "txt"):
             assert (folder / f"reports/south.{kind}").stat().st_size, kind
-        for at, sign in enumerate(("north", "south")):
-            captured = (folder / f"reports/{sign}.pcap").read_bytes()
-            assert [struct.pack(">H", port) in captured for port in ports] == [not at, bool(at)], "each its own"
+        for sign, port in zip(("north", "south"), ports):
+            asked = ports_of((folder / f"reports/{sign}.pcap").read_bytes())
+            assert asked and all(port in both for both in asked), "each its own"
 
 
 def test_no_file_is_of_all_signs() -> None:
