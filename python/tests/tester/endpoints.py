@@ -1,6 +1,7 @@
 """Signs on ports, for tests in real time, which a machine that is too busy skips."""
 
 import contextlib
+import pathlib
 import socket
 import subprocess
 import sys
@@ -33,6 +34,22 @@ def free_port() -> int:
     with socket.socket(socket.AF_INET, socket.SOCK_DGRAM) as free:
         free.bind(("127.0.0.1", 0))
         return int(free.getsockname()[1])
+
+
+@contextlib.contextmanager
+def silence() -> Iterator[int]:
+    """A port on which nobody answers, nor says that nobody does."""
+    with socket.socket(socket.AF_INET, socket.SOCK_DGRAM) as taken:
+        taken.bind(("127.0.0.1", 0))
+        yield int(taken.getsockname()[1])
+
+
+def come(path: pathlib.Path) -> bool:
+    """Whether there is such a file before long."""
+    until = time.monotonic() + LONG
+    while not path.exists() and time.monotonic() < until:
+        time.sleep(0.02)
+    return path.exists()
 
 
 @contextlib.contextmanager

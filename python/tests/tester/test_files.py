@@ -11,6 +11,7 @@ import subprocess
 import sys
 import tempfile
 import time
+from typing import Callable
 
 from wisangub.process.places import TOP, environment
 from wisangub.refusal import Refusal, reason
@@ -19,7 +20,7 @@ from wisangub.tester.findings.results import ChapterResult, Results
 from wisangub.tester.report import pdf, words
 from wisangub.tester.report.outputs import Outputs
 from wisangub.tester.sign.capture import Capture, packet_of
-from wisangub.whole import WholeFile
+from wisangub.whole import WholeFile, alone
 
 from .skipping import skip
 
@@ -161,6 +162,51 @@ def test_no_file_is_begun_where_none_can_be_written() -> None:
                 assert not os.listdir(folder)
             else:
                 raise AssertionError(path)
+
+
+def refused_words(make: Callable[[], object]) -> str:
+    """Why nothing is made."""
+    try:
+        made = make()
+    except OSError as fault:
+        return reason(fault)
+    raise AssertionError(made)
+
+
+def test_a_file_is_of_one_run_at_a_time() -> None:
+    with tempfile.TemporaryDirectory() as folder:
+        path = pathlib.Path(folder) / "report.json"
+        first, second = WholeFile(path), WholeFile(path)  # neither has written yet
+        first.write("of the first")
+        another = f"{path}: another run writes it"
+        for make in (lambda: second.write("of the second"), lambda: WholeFile(path), lambda: alone(path)):
+            assert refused_words(make) == another and path.read_text(encoding="utf-8") == "of the first"
+        first.write("all of the first")
+        assert refused_words(lambda: WholeFile(path)) == another and os.listdir(folder) == ["report.json"]
+        first.close()
+        second.write("of the second")
+        assert refused_words(lambda: first.write("of the first")) == another
+        second.close()
+        capture = alone(path)
+        assert refused_words(lambda: WholeFile(path)) == another and path.read_bytes() == b""
+        capture.close()
+        WholeFile(path).close()
+
+
+def test_two_reports_are_no_one_file() -> None:
+    with tempfile.TemporaryDirectory() as name:
+        path, about = pathlib.Path(name) / "report", words.About("127.0.0.1:1", "", "model", None, 1, 0, False, "today")
+        link = path.with_name("link")
+        link.symlink_to(path)
+        asked = argparse.Namespace(html=path, junit=None, json=link, pdf=None)
+        try:
+            Outputs(asked, about, lambda _: [])
+        except Refusal as refused:
+            assert str(refused) == f"the report cannot be written: {path} is to be two reports"
+        else:
+            raise AssertionError
+        nowhere = pathlib.Path(os.devnull)
+        Outputs(argparse.Namespace(html=nowhere, junit=None, json=nowhere, pdf=None), about, lambda _: []).close()
 
 
 _WRITING = """

@@ -15,7 +15,7 @@ from wisangub.process.places import TOP, environment
 from wisangub.refusal import Refusal
 from wisangub.tester.several.listed import read
 
-from .endpoints import LONG, free_port, front_end, in_real_time
+from .endpoints import LONG, come, free_port, front_end, in_real_time, silence
 
 CALL = [sys.executable, "-m", "wisangub.tester", "several"]
 OPTIONS = ["--signtool", "model", "--only", "communities", "--wait", "5"]
@@ -106,6 +106,22 @@ def test_a_report_of_all_that_cannot_be_written_is_found_at_the_start() -> None:
             why = b"No space left on device" if is_full else b"Is a directory"
             assert ended.returncode == 2 and why in ended.stderr and ended.stderr.count(b"\n") == 1, ended
             assert (reports / "west.txt").exists() == is_full
+
+
+def test_two_runs_are_not_into_one_folder() -> None:
+    with tempfile.TemporaryDirectory() as name, silence() as port:
+        folder, report = pathlib.Path(name), pathlib.Path(name) / "reports/several.json"
+        (folder / "bench.sign").write_bytes(text.BENCH)
+        (folder / "list").write_text(f"north 127.0.0.1:{port} bench.sign\n", encoding="utf-8")
+        call = [*CALL, str(folder / "list"), "--into", str(report.parent), *OPTIONS, "--wait", "100"]
+        with subprocess.Popen(call, cwd=TOP, stdout=subprocess.PIPE) as first:
+            assert come(report)
+            held = json.loads(report.read_text(encoding="utf-8"))
+            assert [(one["verdict"], one["words"]) for one in held] == [("not judged", "not begun")]
+            ended = subprocess.run(call, cwd=TOP, capture_output=True, timeout=LONG, check=False)
+            first.terminate()
+        said = b"%s: another run writes it" % bytes(report)
+        assert ended.returncode == 2 and said in ended.stderr and not ended.stdout, ended
 
 
 def test_an_interrupt_ends_the_tests_that_run_and_begins_no_other() -> None:

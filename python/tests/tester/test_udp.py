@@ -23,7 +23,7 @@ from wisangub.tester.requests.steps import get
 from wisangub.tester.sign.clock import RealClock
 from wisangub.tester.sign.link import UdpLink
 
-from .endpoints import LONG, free_port, front_end, in_real_time
+from .endpoints import LONG, come, free_port, front_end, in_real_time, silence
 
 
 def conform(port: int, described: pathlib.Path, *options: str) -> subprocess.CompletedProcess[bytes]:
@@ -141,6 +141,24 @@ def test_a_test_that_is_killed_leaves_whole_reports_of_what_was_judged() -> None
                 shown = page.read_text(encoding="utf-8")
                 assert held["verdict"] == "not judged" and "had not come to its end" in held["not_judged"][0], held
                 assert held["not_judged"][0] in shown and shown.endswith("</html>\n")
+
+
+def test_two_runs_write_no_one_file() -> None:
+    with tempfile.TemporaryDirectory() as name, silence() as port:
+        folder = pathlib.Path(name)
+        described, report, capture = folder / "bench.sign", folder / "report.json", folder / "report.pcap"
+        described.write_bytes(text.BENCH)
+        options = ("--wait", "100", "--json", str(report))
+        call = [sys.executable, "-m", "wisangub.tester", "--to", f"127.0.0.1:{port}", "--sign", str(described)]
+        call += ["--signtool", "model", *options, "--pcap", str(capture)]
+        with subprocess.Popen(call, cwd=TOP, stdout=subprocess.PIPE) as first:
+            assert come(report)
+            before = report.read_bytes()
+            ended = [conform(port, described, *more) for more in (options, ("--pcap", str(capture)))]
+            assert report.read_bytes() == before and capture.stat().st_size
+            first.terminate()
+        for path, one in zip((report, capture), ended):
+            assert one.returncode == 2 and b"%s: another run writes it" % bytes(path) in one.stderr, one
 
 
 def test_a_port_that_closes_ends_the_test() -> None:

@@ -10,6 +10,7 @@ from types import FrameType
 
 from wisangub.process.places import SIGNTOOL, add_version, called
 from wisangub.refusal import Refusal, reason
+from wisangub.whole import alone
 
 from .chapters import ALL, ASKED, NAMES
 from .context import Context
@@ -172,7 +173,7 @@ def _link(asked: argparse.Namespace, clock: RealClock) -> Link:
     link = UdpLink(*address(asked.to), clock)
     if asked.pcap is None:
         return link
-    return Capture(link, asked.pcap.open("wb"), *link.addresses())
+    return Capture(link, alone(asked.pcap), *link.addresses())
 
 
 def _session(asked: argparse.Namespace, description: bytes, oracle: Oracle, judge: Judge, watcher: Watcher) -> Session:

@@ -23,6 +23,7 @@ class Outputs:
         self._about, self._not_tested = about, not_tested
         self._closing = ExitStack()
         paths = (asked.html, asked.junit, asked.json, asked.pdf)
+        _check_apart([path for path in paths if path is not None])
         self._html, self._junit, self._json, self._pdf = map(self._opened, paths)
         self._printer = pdf.printer() if asked.pdf else ""
 
@@ -61,6 +62,14 @@ class Outputs:
 
     def close(self) -> None:
         self._closing.close()
+
+
+def _check_apart(paths: list[pathlib.Path]) -> None:
+    """Raises Refusal where two reports are to be one file."""
+    files = [path.resolve() for path in paths if path.is_file() or not path.exists()]
+    for at, path in enumerate(files):
+        if path in files[:at]:
+            raise Refusal(f"the report cannot be written: {path} is to be two reports")
 
 
 def _put(file: WholeFile, held: str | bytes) -> None:

@@ -95,27 +95,33 @@ class Several:
             print(f"{held.name} at {held.to}: {said}", flush=True)
 
 
-def _summary(signs: list[Listed], several: Several, report: WholeFile) -> int:
-    """Prints how many have which verdict, keeps that as JSON, and says the status of all; 2 where it is not kept."""
-    statuses = {held.name: several.ended.get(held.name, (3, "not begun"))[0] for held in signs}
-    verdicts = {name: _WORDS.get(status, _WRONG) for name, status in statuses.items()}
-    counts = {word: list(verdicts.values()).count(word) for word in dict.fromkeys([*_WORDS.values()])}
-    print(", ".join(f"{number} {word}" for word, number in counts.items() if number))
+def _keep(signs: list[Listed], several: Several, report: WholeFile) -> None:
+    """The verdict of each sign, as far as it is known, as JSON. Raises Refusal where that cannot be written."""
+    ended = {held.name: several.ended.get(held.name, (3, "not begun")) for held in signs}
     whole = [
         {
             "name": held.name,
             "to": held.to,
-            "verdict": verdicts[held.name],
-            "words": several.ended.get(held.name, (3, ""))[1],
+            "verdict": _WORDS.get(ended[held.name][0], _WRONG),
+            "words": ended[held.name][1],
         }
         for held in signs
     ]
     try:
         report.write(json.dumps(whole, indent=1) + "\n")
     except OSError as fault:
-        print(f"the report of all signs cannot be written: {reason(fault)}", file=sys.stderr)
-        return 2
-    known = [status if status in (0, *_ORDER) else 2 for status in statuses.values()]
+        raise Refusal(f"the report of all signs cannot be written: {reason(fault)}") from None
+
+
+def _summary(signs: list[Listed], several: Several, report: WholeFile) -> int:
+    """Prints how many have which verdict, keeps that, and says the status of all. Raises Refusal where it is not
+    kept."""
+    statuses = [several.ended.get(held.name, (3, ""))[0] for held in signs]
+    words = [_WORDS.get(status, _WRONG) for status in statuses]
+    counts = {word: words.count(word) for word in dict.fromkeys([*_WORDS.values()])}
+    print(", ".join(f"{number} {word}" for word, number in counts.items() if number))
+    _keep(signs, several, report)
+    known = [status if status in (0, *_ORDER) else 2 for status in statuses]
     return next((status for status in _ORDER if status in known), 0)
 
 
@@ -141,13 +147,15 @@ def main() -> int:
         signs = read(asked.list)
         asked.into.mkdir(parents=True, exist_ok=True)
         report = WholeFile(asked.into / f"{ALL}.json")
+        several = Several(asked.into, options, REPORTS + kinds)
+        if not report.is_pipe:
+            _keep(signs, several, report)  # from here on it is this run's
     except Refusal as fault:
         print(fault, file=sys.stderr)
         return 2
     except OSError as fault:
         print(reason(fault), file=sys.stderr)
         return 2
-    several = Several(asked.into, options, REPORTS + kinds)
 
     def stopped(_number: int, _frame: FrameType | None) -> None:
         several.stop()
