@@ -13,6 +13,8 @@ from wisangub.tester.findings.results import Results, Verdict
 from wisangub.tester.person.answers import Answer, Reader
 from wisangub.tester.person.showings import showings
 from wisangub.tester.report import files, page, terminal, words
+from wisangub.tester.requests.objects import spoken
+from wisangub.tester.requests.steps import put
 from wisangub.tester.session import chapters_of
 from wisangub.tester.sign.clock import Clock
 from wisangub.tester.sign.link import Link
@@ -77,6 +79,25 @@ def test_a_sign_that_takes_a_short_loss_for_a_long_one_differs() -> None:
     said = results.denied()
     assert results.verdict() is Verdict.DIFFERS and [held.name for held in said] == ["a short loss of power"]
     assert "expected:" in said[0].remark and results.way is not None and not results.way.reboots
+
+
+def test_a_sign_that_forgets_one_setting_without_power_differs() -> None:
+    settings = bench.session(text.BENCH).reset.objects.settings()
+    for name, value in settings.items():
+        sign = Sign(text.described(text.BENCH))
+        session = bench.session(text.BENCH, sign, requests=0)
+        session.person = person = Person(sign)
+        forgets = put((name, value)).octets(1, session.pair.communities)
+
+        def is_done(what: str) -> bool:
+            is_there = Person.is_done(person, what)
+            sign.receive(forgets)
+            return is_there
+
+        with mock.patch.object(person, "is_done", is_done):
+            results = session.run([])
+        assert results.verdict() is Verdict.DIFFERS and results.denied(), spoken(name)
+        assert spoken(name) in results.denied()[-1].remark, results.denied()[-1]
 
 
 class Booting:

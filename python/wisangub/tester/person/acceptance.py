@@ -5,9 +5,10 @@ from typing import Sequence
 
 from wisangub.snmp.names import Memory, scalar
 from wisangub.tester.chapters.block import look, message
+from wisangub.tester.chapters.sets_values import other_values
 from wisangub.tester.context import Context, activate
 from wisangub.tester.findings.compare import value_words
-from wisangub.tester.requests.objects import Row, integer, octets, spoken
+from wisangub.tester.requests.objects import DEFAULTS, Row, integer, octets, spoken, word_of
 from wisangub.tester.requests.steps import Step, get, put
 from wisangub.tester.runs.runner import Runner
 from wisangub.tester.sign.pair import Inconclusive
@@ -21,7 +22,8 @@ SECONDS = 20  # that the power is to be off
 _MOST_ASKED = 120  # times that a sign without a reply is asked after its power is on
 _BLANK = 5  # the blank message that is shown after a long loss
 _LOSSES = {"a short loss of power": 65535, "a long loss of power": 0}  # and dmsShortPowerLossTime
-_TIME = scalar("dmsShortPowerLossTime")
+_TIME, _FONT = scalar("dmsShortPowerLossTime"), scalar("defaultFont")
+_DRAWN = [name for name in DEFAULTS if word_of(name) not in ("defaultFlashOn", "defaultFlashOff")]
 _OFF = (
     f"Switch the sign's power off, wait {SECONDS} seconds, switch it on again, and wait until the sign shows something."
 )
@@ -85,13 +87,19 @@ class Acceptance:
         return [found, Answered(shown_name, *self.person.is_it_so(question, lines))]
 
     def _before_a_loss(self, rows: list[Row], most_short: int) -> list[Step]:
-        """A message in each memory, and what is to be shown after a short and after a long loss."""
-        one = self.context.character()
-        steps = [step for row in rows for step in message(row, one)]
+        """A message in each memory, and what is to be shown after a short and after a long loss. What is set besides
+        reads otherwise than a sign begins, so that what is forgotten is seen; but a message that is shown is drawn by
+        the defaults, which stay then."""
+        one, font = self.context.character(), self.context.described.face.fonts[-1].number
+        sides = (int(self.context.described.beacons), int(self.context.described.pixels))
+        steps = message(rows[0], one, b"owner", priority=9)
+        steps += [step for row in rows[1:] for step in message(row, one, b"owner", *sides, 9)]
+        others = [*other_values(self.context), (_FONT, integer(font))]
         code = self.context.message_code(rows[0], self.context.crc(one))
         blank = self.context.message_code(Row(Memory.BLANK, _BLANK), 0)
         return [
             *steps,
+            *[put(bound) for bound in others if not most_short or bound[0] not in _DRAWN],
             put((_TIME, integer(most_short))),
             put((scalar("dmsShortPowerRecoveryMessage"), octets(code))),
             put((scalar("dmsLongPowerRecoveryMessage"), octets(blank))),
