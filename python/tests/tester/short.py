@@ -20,6 +20,7 @@ MODULES = tuple(
     for part in (
         "signs",
         "nearly_right",
+        "on_the_way",
         "judge",
         "udp",
         "parts",

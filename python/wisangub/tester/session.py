@@ -29,6 +29,8 @@ from .state.known_state import Unreachable
 from .state.preflight import Preflight
 from .state.reset import Reset
 
+_ON_THE_WAY = "it was seen on the way to the known state, where it is written anew"
+_READ_AGAIN = "; the replies shown are those when it was read again"
 MOST_SHRUNK, MOST_TOLD = 4, 12  # differences of a chapter that are made small, and that are told
 MOST_HISTORY = 120  # steps since the known state, on a way that loses some
 # times that what could not be judged is begun again at the end of its chapter: a long sequence often meets a late
@@ -185,7 +187,9 @@ class Session:
         try:
             self.reset.look_for_ticks()
             for at, block in enumerate(blocks):
-                history = self.block(result, block, history)
+                before, history = history, self.block(result, block, history)
+                if self.is_told_behind(result, before):
+                    history = None
                 if history is not None and self.pair.port.is_lossy() and len(history) > MOST_HISTORY:
                     history = None  # what differs is run again with all that was done before it
                 result.blocks += 1
@@ -193,11 +197,49 @@ class Session:
                 self.watcher.went_on(result, at)
                 if self.is_enough():
                     break
+            self.look_behind(result, history)
             self._judge_left(result)
         finally:
             result.seconds = self.pair.clock.now() - begun
             self.results.is_learnt |= self.pair.ticks.is_learnt()
             self.watcher.ended(result)
+
+    def look_behind(self, result: ChapterResult, history: list[Step] | None) -> None:
+        """What the last cases of a chapter left is looked at as what those before them left."""
+        if history and not self.is_enough():
+            self.pair.is_dirty = True
+            self.reset.reach(is_alike=True)
+            self.is_told_behind(result, history)
+
+    def is_told_behind(self, result: ChapterResult, history: list[Step] | None) -> bool:
+        """Whether the sign was not as ours on its way from these steps to the known state. It is told by a read behind
+        them where that differs too, and else, where it hangs on no seconds, as what was seen once."""
+        unlike = self.reset.take_unlike()
+        for exchange in unlike:
+            assert exchange.mismatch is not None
+            block = Block("on the way to the known state", "", [exchange.step], is_fresh=True)
+            run = None if exchange.is_slip else self.run_behind(history or [], exchange.step)
+            if run is not None:
+                self.difference(result, block, run, run.steps[-1:])
+            elif any(map(self.reset.objects.is_steady, exchange.mismatch.names)):
+                self.seen_on_the_way(result, exchange)
+        return bool(unlike)
+
+    def run_behind(self, history: list[Step], step: Step) -> Run | None:
+        """A step behind these from the known state, where that can be told."""
+        try:
+            return self.runner.anew([*history, step])
+        except (Inconclusive, Unreachable):
+            self.pair.is_dirty = True
+            return None
+
+    def seen_on_the_way(self, result: ChapterResult, exchange: Exchange) -> None:
+        """A setting that was not as ours on the way to the known state, and is not seen behind the steps before it."""
+        assert exchange.mismatch is not None
+        rule = classify.rule_of(exchange.octets, exchange.ours, exchange.theirs, exchange.mismatch)
+        found = Difference.of(rule, result.chapter.name, exchange, [exchange.step], [exchange.octets])
+        found.is_repeated, found.note = False, _ON_THE_WAY + (_READ_AGAIN if exchange.is_slip else "")
+        self.seen_once(result, found)
 
     def _claimed(self, chapter: Chapter) -> list[Block]:
         """The cases of a chapter, but for those about what the sign does not claim; each has its place in the trace."""
@@ -230,6 +272,7 @@ class Session:
         try:
             if history is None or block.is_fresh:
                 is_alike = history is not None
+                self.pair.is_dirty |= bool(history)  # what reads alone have left is looked at too
                 run, history = self.runner.anew(block.steps, after_a_tick=False, is_alike=is_alike), []
             else:
                 self.pair.begin()

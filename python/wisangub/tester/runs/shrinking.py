@@ -32,6 +32,7 @@ class Shrinking:
         if self.is_bounded() or not steps:
             return False
         self.runs += 1
+        self.runner.pair.is_dirty = True  # reads alone may have changed a sign that is wrong
         try:
             run = self.runner.anew(steps)
         except Inconclusive:

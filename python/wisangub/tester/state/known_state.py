@@ -111,6 +111,10 @@ class KnownState:
         """The fields of a row that is not used."""
         return self._taken(dict([row.text(b""), row.owner(b""), row.beacon(0), row.pixel(0), row.priority(1)]))
 
+    def is_steady(self, name: Name) -> bool:
+        """Whether an object is set directly, and reads the same whatever seconds pass."""
+        return name in self.settings()
+
     def _taken(self, wanted: dict[Name, Value]) -> dict[Name, Value]:
         """Those that the sign claims to take."""
         return {name: value for name, value in wanted.items() if self.context.claims.is_taken((name, value))}

@@ -5,10 +5,11 @@ from dataclasses import dataclass, field
 from wisangub.snmp import wire
 from wisangub.snmp.names import RowStatus, scalar
 from wisangub.tester.context import Context, activate
+from wisangub.tester.findings.compare import Kind, Mismatch
 from wisangub.tester.requests.messages import spelled
 from wisangub.tester.requests.objects import Column, Name, Row, SourceMode, Value, integer
 from wisangub.tester.requests.steps import Ask, get, looks, put
-from wisangub.tester.sign.pair import Pair
+from wisangub.tester.sign.pair import Exchange, Pair
 
 from .known_state import VERDICTS, KnownState, Unreachable, Unreached
 from .unanswered import ours_reads
@@ -17,6 +18,7 @@ from .validation_ticks import ValidationTicks
 _ROUNDS, _LOSSY_ROUNDS = 4, 12  # times that the sign is read and repaired; more where requests are lost
 _MORE = 3  # times that all of this is done once more there, each after what was late
 _MOST_KEPT = 400  # datagrams after which ours is begun anew
+_MOST_UNLIKE = 20  # names that are read again
 _MOST_LOOKED = 8  # times that ticks are looked for once more
 _Read = dict[Name, Value | None]
 
@@ -31,6 +33,8 @@ class Reset:
     is_begun: bool = False  # whether the sign was in the known state before
     is_entered: bool = False  # whether anything was written to bring it there
     is_together: bool = False  # whether ours is handed what brings the sign under test there
+    unlike: list[Exchange] = field(default_factory=list)  # reads that were not as ours on the way there
+    is_sure: bool = True  # whether each SET on the way there had its reply
     looked: int = 0  # how often ticks were looked for once more
 
     def __post_init__(self) -> None:
@@ -60,7 +64,9 @@ class Reset:
         if self.is_together:
             self.pair.pass_ticks()
             self.pair.hand(sent)
-        return self.pair.port.ask_once(sent, number, wait=self.pair.port.soon()).reply  # it is read back afterwards
+        reply = self.pair.port.ask_once(sent, number, wait=self.pair.port.soon()).reply  # it is read back afterwards
+        self.is_sure &= reply is not None
+        return reply
 
     def ask_height(self) -> bytes | None:
         """Any Get at all."""
@@ -80,6 +86,29 @@ class Reset:
                     found |= self.read([name])
         return found
 
+    def read_alike(self, names: list[Name]) -> _Read:
+        """What the sign under test reads. What ours does not read so, though both are to be alike, is kept. What hangs
+        on seconds may be right again since a tick came early or late, which is no slip."""
+        self.pair.pass_ticks()
+        have = self.read(names)
+        ours = ours_reads(self.pair, names)
+        unlike = [name for name in names if ours is not None and have.get(name) != ours[name]][:_MOST_UNLIKE]
+        if not unlike or self.pair.port.is_lossy() or not self.is_sure or not self.pair.ticks.is_learnt():
+            return have
+        exchange = self.pair.do(get(*unlike))
+        assert exchange is not None
+        slipped = tuple(filter(self.objects.is_steady, unlike))
+        if exchange.mismatch is None and slipped:
+            exchange.is_slip, exchange.mismatch = True, Mismatch(Kind.VALUE, slipped)
+        if exchange.mismatch is not None:
+            self.unlike.append(exchange)
+        return have
+
+    def take_unlike(self) -> list[Exchange]:
+        """The reads that were not as ours since this was asked last."""
+        found, self.unlike = self.unlike, []
+        return found
+
     def bring(self, observe: bool) -> list[Unreached]:
         """Brings the sign under test to the known state; with `observe` a validation is watched for its tick."""
         is_watched = not observe or not self.context.rows
@@ -88,7 +117,7 @@ class Reset:
             is_watched |= is_lossy and left <= _ROUNDS  # where the end of no validation is seen, the rows are emptied
             wanted = self.wanted()
             self.pair.port.strays.clear()
-            have = self.read(list(wanted))
+            have = self.read_alike(list(wanted)) if self.is_together else self.read(list(wanted))
             self._notice_reboot(have)
             wrong = [name for name, value in wanted.items() if have.get(name) != value]
             if not wrong and is_watched:
@@ -241,7 +270,7 @@ class Reset:
 
     def go_together(self) -> bool:
         """Whether the same requests brought both there, and both read the same."""
-        self.is_together = True
+        self.is_together, self.is_sure = True, True
         try:
             unreached = self.bring(False)
         finally:
@@ -250,7 +279,7 @@ class Reset:
             return False
         self.pair.pass_ticks()
         names = [name for name in self.wanted() if name not in self.pair.masked]
-        return self.read(names) == ours_reads(self.pair, names)
+        return self.read_alike(names) == ours_reads(self.pair, names)
 
     def reach_or_end(self, is_timed: bool = False, is_alike: bool = False) -> None:
         """The known state; before a sequence of seconds a tick is looked for where the last was seen long ago."""

@@ -1,0 +1,80 @@
+"""What a sign does wrong where no case looks is seen on its way back to the known state."""
+
+from dataclasses import replace
+
+from model import text
+from wisangub.snmp import wire
+from wisangub.snmp.names import scalar
+from wisangub.tester.findings.results import Verdict
+from wisangub.tester.report import files, terminal, words
+from wisangub.tester.requests.objects import Name, Value, integer
+from wisangub.tester.requests.steps import put
+
+from .nearly_right import Around, is_set_of, tried
+
+ABOUT = words.About("127.0.0.1:1", "bench.sign", "model", None, 1, 0, False, "today")
+PAGE_ON, CAUSE = scalar("defaultPageOnTime"), scalar("dmsActivateMsgError")
+FEW = 5
+
+
+class WritesWhereItReads(Around):
+    """A read in which a name has a value of its own sets a time."""
+
+    def answer(self, octets: bytes, message: wire.Message) -> bytes | None:
+        if message.kind == wire.GET and any(tag != wire.NULL for _, (tag, _) in message.bindings):
+            self.right(put((PAGE_ON, integer(77))).octets(1, (self.state.reader, self.state.writer)))
+        return self.right(octets)
+
+
+class ReadsWrongOnTheWay(Around):
+    """Of the reads of which the tester looks whether the known state is reached one in some has another time."""
+
+    def __init__(self) -> None:
+        super().__init__()
+        self.count = 0
+
+    def answer(self, octets: bytes, message: wire.Message) -> bytes | None:
+        if message.kind != wire.GET or message.bindings[-1:] != [(CAUSE, (wire.NULL, b""))]:
+            return self.right(octets)
+        self.count += 1
+        return self.right(octets) if self.count % FEW else self.read(octets, self._other)
+
+    def _other(self, name: Name, held: Value) -> Value:
+        return integer(99) if name == PAGE_ON else held
+
+
+class DoesNotWriteOnTheWay(Around):
+    """Of the SETs that bring a time back to what it was one in two is answered, and not done."""
+
+    def __init__(self) -> None:
+        super().__init__()
+        self.count = 0
+
+    def answer(self, octets: bytes, message: wire.Message) -> bytes | None:
+        if is_set_of(message, PAGE_ON) and message.bindings == [(PAGE_ON, integer(30))]:
+            self.count += 1
+            if self.count % 2:
+                return wire.written(replace(message, kind=wire.RESPONSE))
+        return self.right(octets)
+
+
+def test_what_reads_change_is_found_behind_them() -> None:
+    results = tried(WritesWhereItReads(), "get")
+    found = results.differences()
+    assert [(held.found_in, held.rule.key) for held in found] == [("get", "set")] and not results.once()
+    assert found[0].mismatch.names == (PAGE_ON,) and found[0].datagrams == 2 and found[0].is_repeated
+
+
+def test_what_is_wrong_on_the_way_alone_is_now_and_then() -> None:
+    for sign in (ReadsWrongOnTheWay(), DoesNotWriteOnTheWay()):
+        results = tried(sign, "defaults", "durations")
+        assert not results.differences() and results.verdict() is Verdict.DIFFERS, words.verdict(results)
+        assert {name for held in results.once() for name in held.mismatch.names} == {PAGE_ON}
+        for report in (files.as_junit(results, ABOUT), "\n".join(terminal.ending(results, ABOUT, []))):
+            assert "now and then" in report, sign
+        assert "on the way to the known state" in "\n".join(terminal.ending(results, ABOUT, []))
+
+
+def test_nothing_is_wrong_on_the_way_of_a_right_sign() -> None:
+    results = tried(Around(text.BENCH), "getnext", "defaults", "durations", "priorities")
+    assert results.verdict() is Verdict.CONFORMS and not results.once(), results.unjudged()
