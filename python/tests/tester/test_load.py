@@ -12,6 +12,7 @@ from wisangub.tester.findings.results import Verdict
 from wisangub.tester.report import files, page, terminal, words
 from wisangub.tester.runs.load import FOUND_IN, rates
 from wisangub.tester.sign.simulated import SimulatedLink
+from wisangub.tester.sign.way import Oddity
 
 ABOUT = words.About("127.0.0.1:1", "bench.sign", "model", None, 1, 0, False, "today")
 
@@ -70,6 +71,18 @@ def test_a_wrong_value_under_load_differs() -> None:
     load, found = session.results.load, session.results.once_before
     assert load is not None and load.done[-1].wrong and found[0].found_in == FOUND_IN
     assert session.results.verdict() is Verdict.DIFFERS and "requests a second" in found[0].note
+
+
+def test_garbage_under_load_differs() -> None:
+    for spoils, oddity in ((misbehaving.garbage, Oddity.GARBAGE), (misbehaving.renumbered(0), Oddity.NUMBER)):
+        session = misbehaving.session(lambda clock: Misbehaving(clock, spoils=spoils, share=0.0))
+        assert session.preflight.begin()
+        link = session.pair.port.link
+        assert isinstance(link, Misbehaving)
+        link.share = 0.01
+        session.results.way = session.pair.port.way
+        session.load(50)
+        assert session.results.way.odd[oddity] and session.results.verdict() is Verdict.DIFFERS, oddity
 
 
 def test_endurance_goes_on_with_other_random_requests_and_finds_what_differs() -> None:

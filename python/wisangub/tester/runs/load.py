@@ -90,7 +90,9 @@ class Load:
 
         def judged(octets: bytes) -> None:
             message = spelled(octets)
-            if message is not None and message.number in waiting:
+            if message is None or message.number not in waiting:
+                port.note_beside(octets, message)
+            else:
                 sent, at = waiting.pop(message.number)
                 rate.longest = max(rate.longest, clock.now() - sent)
                 self._judge(rate, asks[at], replace(ours[at], number=message.number), octets)

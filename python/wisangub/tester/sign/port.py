@@ -111,7 +111,7 @@ class Port:
             if message is not None and self.is_earlier(message.number, 0):
                 self._pass_over(reply, message, 0)
             else:
-                self._note_odd(reply, message, 0)
+                self.note_beside(reply, message)
 
     def await_reply(self, number: int, octets: bytes, expected: bytes | None, until: float) -> bytes | None:
         """The reply to these octets with this number, or one that belongs to no request at all."""
@@ -124,6 +124,14 @@ class Port:
                 self._note_odd(reply, message, number)
                 return reply
             self._pass_over(reply, message, number)
+
+    def note_beside(self, reply: bytes, message: wire.Message | None) -> None:
+        """What came beside the replies that are waited for: one that is late or doubled is nothing odd."""
+        number = None if message is None else message.number
+        if number is None:
+            self.way.note(Oddity.GARBAGE, reply)
+        elif number not in self.odd and not FIRST_NUMBER < number <= self.number:
+            self.way.note(Oddity.NUMBER, reply)
 
     def _note_odd(self, reply: bytes, message: wire.Message | None, number: int) -> None:
         if message is None:
