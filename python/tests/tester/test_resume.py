@@ -14,6 +14,7 @@ from wisangub.refusal import Refusal
 from wisangub.snmp.names import scalar
 from wisangub.tester.chapters import Chapter
 from wisangub.tester.findings.results import ChapterResult, Quiet, Results, Verdict
+from wisangub.tester.person.answers import Answer, Answered
 from wisangub.tester.report import files, terminal, words
 from wisangub.tester.report.earlier import Earlier
 from wisangub.tester.session import Session, chapters_of
@@ -101,6 +102,19 @@ def test_what_differed_in_a_chapter_that_is_begun_anew_is_not_forgotten() -> Non
         assert results.verdict() is Verdict.DIFFERS and bool(results.differences()) is is_still_wrong
         assert [held.rule.key for held in results.once()] == ([] if is_still_wrong else ["ranges"])
         assert is_still_wrong or "was not seen in this one" in "\n".join(terminal.ending(results, ABOUT, []))
+
+
+def test_what_a_person_said_is_not_forgotten() -> None:
+    with tempfile.TemporaryDirectory() as folder:
+        path = pathlib.Path(folder) / "report.json"
+        first = session(Sign(text.bench()), Interrupting(False)).run([])
+        first.person, first.questions = [Answered("colour 3", Answer.NO, "it is pink")], 5
+        path.write_text(files.as_json(first, ABOUT, []), encoding="utf-8")
+        made = session(Sign(text.bench()), Interrupting(False))
+        Earlier.read(path, ABOUT, COMMUNITIES).put_into(made.results, made.pair.port.way)
+        results = made.run(chapters_of(("communities",), False))
+    assert results.verdict() is Verdict.DIFFERS and "1 steps with a person" in words.verdict(results)
+    assert "steps with a person: 4 of 5 were not answered" in results.unjudged()
 
 
 def test_texts_that_were_judged_before_are_not_told_as_not_tested() -> None:

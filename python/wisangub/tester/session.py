@@ -94,7 +94,8 @@ class Session:
         self.results.is_going_on = True
         self.results.asked, self.results.is_slow = chapters, self.context.is_slow
         self.results.way = self.pair.port.way
-        self.results.person = None if self.person is None else []
+        if self.person is not None:  # else what one said in an earlier part of the test stands
+            self.results.person, self.results.questions = [], 0
         self.results.texts_known = len(known(self.context)) if self.context.rows else 0
         claims, trace = self.context.claims, self.results.trace
         trace.missing, trace.ranges = claims.missing | {f"[{tag}]" for tag in claims.tags}, dict(claims.ranges)

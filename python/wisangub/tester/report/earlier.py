@@ -12,6 +12,7 @@ from wisangub.tester.findings.differences import Difference
 from wisangub.tester.findings.results import ChapterResult, Results
 from wisangub.tester.findings.rules import RULES
 from wisangub.tester.findings.trace import Case
+from wisangub.tester.person.answers import Answer, Answered
 from wisangub.tester.requests.messages import spelled
 from wisangub.tester.requests.objects import Name, Value
 from wisangub.tester.runs.repeat import steps_of
@@ -36,6 +37,8 @@ class Earlier:
     counts: dict[str, Any]
     cases: list[Case]
     texts: set[bytes]  # that were judged
+    person: list[Answered] | None = None  # what a person said, of so many questions:
+    questions: int = 0
 
     @staticmethod
     def read(path: pathlib.Path, about: About, communities: tuple[bytes, bytes]) -> "Earlier":
@@ -62,6 +65,7 @@ class Earlier:
         results.first = self.first
         results.trace.cases += self.cases
         results.texts |= self.texts
+        results.person, results.questions = self.person, self.questions
 
     def words(self) -> str:
         """What is taken up, in a line."""
@@ -89,7 +93,11 @@ def _earlier(held: dict[str, Any], communities: tuple[bytes, bytes]) -> Earlier:
     cases = [Case(**case) for case in held["cases"] if case["chapter"] in by_name]
     texts = {bytes.fromhex(digits) for digits in held["texts"].get("judged", ())}  # no word of earlier
     when = held["taken_up"] or held["when"]
-    return Earlier(when, chapters, before, emptied, first, held["way_counts"], cases, texts)
+    made = Earlier(when, chapters, before, emptied, first, held["way_counts"], cases, texts)
+    answered = [Answered(one["step"], Answer(one["answer"]), one["remark"]) for one in held["person"]]
+    made.questions = held.get("questions", len(answered))  # no word of earlier ones
+    made.person = answered if answered or made.questions else None
+    return made
 
 
 def _chapter(held: dict[str, Any]) -> ChapterResult:

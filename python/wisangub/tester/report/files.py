@@ -54,6 +54,7 @@ def as_json(results: Results, about: About, not_tested: list[str]) -> str:
         "person": [
             {"step": held.name, "answer": held.answer.value, "remark": held.remark} for held in results.person or ()
         ],
+        "questions": results.questions,
         "load": [vars(rate) for rate in results.load.done] if results.load is not None else None,
         "texts": {
             "sent": len(results.texts),
