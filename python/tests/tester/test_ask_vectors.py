@@ -13,6 +13,8 @@ import xml.etree.ElementTree as ET
 
 from wisangub.process.places import TOP
 
+from .skipping import skip
+
 CALL = [sys.executable, "-m", "wisangub.tester", "vectors"]
 
 
@@ -41,6 +43,17 @@ def test_stops_after_three_silent_requests() -> None:
         assert ended.returncode == 2
         assert received(udp_socket) == 3
         assert "3 requests one after the other without a reply: stopped" in ended.stderr
+
+
+def test_asks_over_ipv6_too() -> None:
+    with socket.socket(socket.AF_INET6, socket.SOCK_DGRAM) as udp_socket:
+        try:
+            udp_socket.bind(("::1", 0))
+        except OSError:
+            skip("this machine has no IPv6")
+        call = [*CALL, "--to", f"[::1]:{udp_socket.getsockname()[1]}", "--wait", "0.2"]
+        ended = subprocess.run(call, capture_output=True, text=True, timeout=120, check=False)
+        assert received(udp_socket) == 3 and "without a reply: stopped" in ended.stderr, ended
 
 
 def test_a_report_that_cannot_be_written_is_no_difference() -> None:

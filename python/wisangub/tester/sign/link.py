@@ -51,17 +51,23 @@ def unheard() -> Iterator[None]:
             raise
 
 
-class UdpLink:
-    """A UDP socket that hears one address alone, of IPv4 where a name has both. Raises Refusal where there is no such
+def resolved(host: str, port: int) -> tuple[socket.AddressFamily, tuple[str | int, ...]]:
+    """The family and the address of a host, of IPv4 where a name has both. Raises Refusal where there is no such
     host."""
+    try:
+        found = socket.getaddrinfo(host, port, type=socket.SOCK_DGRAM)
+    except (OSError, UnicodeError) as fault:
+        raise Refusal(f"{host}: {getattr(fault, 'strerror', None) or 'no such host'}") from None
+    family, _, _, _, address = min(found, key=lambda one: one[0] != socket.AF_INET)
+    return family, address
+
+
+class UdpLink:
+    """A UDP socket that hears one address alone. Raises Refusal where there is no such host."""
 
     def __init__(self, host: str, port: int, clock: Clock) -> None:
-        try:
-            found = socket.getaddrinfo(host, port, type=socket.SOCK_DGRAM)
-        except (OSError, UnicodeError) as fault:
-            raise Refusal(f"{host}: {getattr(fault, 'strerror', None) or 'no such host'}") from None
-        family, kind, protocol, _, address = min(found, key=lambda one: one[0] != socket.AF_INET)
-        self.socket = socket.socket(family, kind, protocol)
+        family, address = resolved(host, port)
+        self.socket = socket.socket(family, socket.SOCK_DGRAM)
         self.socket.connect(address)
         self.clock, self._behind = clock, 0
 

@@ -20,9 +20,11 @@ from wisangub import junit
 from wisangub.process.places import TOP, add_version, called
 from wisangub.refusal import Refusal, reason
 from wisangub.tester.options import above_nothing, address
+from wisangub.tester.sign.link import resolved
 from wisangub.whole import WholeFile
 
 _MOST_SILENT = 3
+Address = tuple[str | int, ...]  # of either family, as a socket has it
 
 
 @contextlib.contextmanager
@@ -47,7 +49,7 @@ def _listened(udp_socket: socket.socket) -> None:
             udp_socket.recvfrom(65535)
 
 
-def _asked(udp_socket: socket.socket, to: tuple[str, int], request: str, earlier: set[str]) -> str | None:
+def _asked(udp_socket: socket.socket, to: Address, request: str, earlier: set[str]) -> str | None:
     """The reply to a request, in hexadecimal digits; None where none comes. One of earlier requests may come late or
     twice: it is taken where no other comes. Of what comes from elsewhere, which is not taken, the first is said.
     Neither gives the sign more time."""
@@ -70,9 +72,7 @@ def _asked(udp_socket: socket.socket, to: tuple[str, int], request: str, earlier
         return late
 
 
-def _compare(
-    udp_socket: socket.socket, to: tuple[str, int], wanted: list[dict[str, Any]]
-) -> tuple[list[junit.Case], bool]:
+def _compare(udp_socket: socket.socket, to: Address, wanted: list[dict[str, Any]]) -> tuple[list[junit.Case], bool]:
     """What came of each request; the last is whether the sign is silent, so that the rest was not asked."""
     tried, silent, earlier = [], 0, set[str]()
     for case in wanted:
@@ -92,14 +92,6 @@ def _compare(
     return tried, False
 
 
-def _resolved(host: str, port: int) -> tuple[str, int]:
-    """The address of a host. Raises Refusal where there is none."""
-    try:
-        return socket.gethostbyname(host), port
-    except (OSError, UnicodeError) as fault:
-        raise Refusal(f"{host}: {getattr(fault, 'strerror', None) or 'no such host'}") from None
-
-
 def main() -> int:
     """Asks for the vectors and prints what is otherwise; 2 where the sign is silent."""
     parser = argparse.ArgumentParser(
@@ -112,13 +104,13 @@ def main() -> int:
     parser.add_argument("--wait", type=above_nothing, default=0.5, metavar="SECONDS", help="how long a reply may take")
     parser.add_argument("--junit", type=pathlib.Path, metavar="FILE", help="a report as JUnit has it is written here")
     options = parser.parse_args()
-    to = _resolved(*address(options.to))
+    family, to = resolved(*address(options.to))
     with _written():
         report = WholeFile(options.junit) if options.junit else None
     every = _cases(TOP / "vectors/requests.jsonl")
     wanted = [case for case in every if not case["changes"]]
     try:
-        with socket.socket(socket.AF_INET, socket.SOCK_DGRAM) as udp_socket:
+        with socket.socket(family, socket.SOCK_DGRAM) as udp_socket:
             udp_socket.settimeout(options.wait)
             tried, is_silent = _compare(udp_socket, to, wanted)
     except OSError as fault:  # no way there, say
