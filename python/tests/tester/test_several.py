@@ -9,11 +9,13 @@ import subprocess
 import sys
 import tempfile
 import time
+from collections import Counter
 
 from model import text
 from wisangub.process.places import TOP, environment
 from wisangub.refusal import Refusal
-from wisangub.tester.several.listed import read
+from wisangub.tester.several.listed import Listed, read
+from wisangub.tester.several.program import Several
 
 from .endpoints import LONG, come, free_port, front_end, in_real_time, silence
 
@@ -25,7 +27,8 @@ def ports_of(captured: bytes) -> list[tuple[int, int]]:
     """From which port and to which each packet of a capture went."""
     found, at = list[tuple[int, int]](), 24
     while at < len(captured):
-        found.append(struct.unpack_from(">HH", captured, at + 16 + 20))
+        source, target = struct.unpack_from(">HH", captured, at + 16 + 20)
+        found.append((source, target))
         at += 16 + struct.unpack_from("<I", captured, at + 8)[0]
     return found
 
@@ -122,6 +125,28 @@ def test_two_runs_are_not_into_one_folder() -> None:
             first.terminate()
         said = b"%s: another run writes it" % bytes(report)
         assert ended.returncode == 2 and said in ended.stderr and not ended.stdout, ended
+
+
+class Counting(Several):
+    """It tests nothing, and counts how many tests of a sign there are at a time."""
+
+    def __init__(self) -> None:
+        super().__init__(pathlib.Path(), [])
+        self.counts, self.most = Counter[str](), Counter[str]()
+
+    def _test(self, held: Listed) -> None:
+        self.counts[held.to] += 1
+        self.most[held.to] = max(self.most[held.to], self.counts[held.to])
+        time.sleep(0.05)
+        self.counts[held.to] -= 1
+        self.ended[held.name] = (0, "")
+
+
+def test_a_sign_that_is_listed_twice_has_one_test_at_a_time() -> None:
+    signs = [Listed(f"sign{at}", f"127.0.0.1:{1 + at % 2}", pathlib.Path("bench.sign")) for at in range(8)]
+    counting = Counting()
+    counting.run(signs, 8)
+    assert counting.most == {"127.0.0.1:1": 1, "127.0.0.1:2": 1} and len(counting.ended) == 8
 
 
 def test_an_interrupt_ends_the_tests_that_run_and_begins_no_other() -> None:

@@ -43,10 +43,12 @@ class Several:
     running: list["subprocess.Popen[bytes]"] = field(default_factory=list)
     is_stopped: bool = False
     _lock: threading.Lock = field(default_factory=threading.Lock)
+    _alone: dict[str, threading.Lock] = field(default_factory=dict)  # by address: a sign has one test at a time
 
     def run(self, signs: list[Listed], jobs: int) -> None:
         """All of them, so many at a time."""
         for held in signs:
+            self._alone[held.to] = threading.Lock()
             self.waiting.put(held)
         threads = [threading.Thread(target=self._work) for _ in range(jobs)]
         for thread in threads:
@@ -67,7 +69,8 @@ class Several:
             except queue.Empty:
                 return
             try:
-                self._test(held)
+                with self._alone[held.to]:
+                    self._test(held)
             except OSError as fault:  # of its reports: the others are tested all the same
                 self._tell(held, STATUS, reason(fault))
             except Exception as fault:
@@ -75,6 +78,8 @@ class Several:
 
     def _test(self, held: Listed) -> None:
         """A sign's test, and its line."""
+        if self.is_stopped:
+            return
         path = self.folder / f"{held.name}.txt"
         call = [sys.executable, "-m", "wisangub.tester", *held.call(self.folder, self.options, self.kinds)]
         with path.open("wb") as out:
