@@ -77,6 +77,8 @@ def test_a_wrong_command_is_a_word() -> None:
             (["--texts", "some"], b"--texts: a whole number, or all, is wanted, and not 'some'"),
             (["--only", "nothing"], b"--only"),
             (["--repeat", ""], b"a sequence is octets"),
+            (["--repeat", "tick", "--json", "no.json"], b"--repeat is no test, and --json is of one"),
+            (["--requests", "9" * 400], b"--requests: a whole number from 0 is wanted"),
             (["--to", "no.such.host.invalid:161"], b"no.such.host.invalid"),
             (["--to", "no..host:161"], b"no..host: no such host"),
             (["--to", "127.0.0.1"], b"--to wants HOST:PORT"),

@@ -37,6 +37,8 @@ from .sign.pair import Pair
 from .sign.port import Port
 from .sign.ticks import Ticks
 
+_OF_A_TEST = ("html", "pdf", "junit", "json", "baseline", "resume", "rate")  # options that --repeat has no use for
+
 
 def arguments() -> argparse.ArgumentParser:
     """The options of a test."""
@@ -241,6 +243,13 @@ def _repeated(session: Session, sequence: str) -> int:
     return status
 
 
+def _check_repeat(asked: argparse.Namespace) -> None:
+    """Raises Refusal where a sequence alone is to have what a test has: it is no test, and prints what it shows."""
+    named = [name for name in _OF_A_TEST if getattr(asked, name) is not None]
+    if asked.repeat is not None and named:
+        raise Refusal(f"--repeat is no test, and --{named[0]} is of one: what it shows is printed")
+
+
 def _passed_over(_number: int, _frame: FrameType | None) -> None:
     """A signal after the first; SIG_IGN in its place would have Python complain of one that was on its way."""
 
@@ -260,6 +269,7 @@ def main() -> int:
     for number in (signal.SIGINT, signal.SIGTERM):
         signal.signal(number, _interrupted)
     try:
+        _check_repeat(asked)
         description = _described_with(asked.sign, asked.communities)
         oracle = made(asked.signtool, description)
         judge = SignJudge(asked.signtool, description)

@@ -29,26 +29,30 @@ def share(word: str) -> float:
     return number_of(word, "a number from 0 to 100", lambda number: 0 <= number <= 100)
 
 
+def _counted(word: str, wanted: str, least: int = 0, most: int = sys.maxsize) -> int:
+    """A whole number of an option, from the least to the most."""
+    number_of(word, wanted, lambda number: word.isdecimal() and least <= number <= most)
+    return int(word)
+
+
 def whole(word: str) -> int:
     """A whole number that is not below 0: the type of an option."""
-    return int(number_of(word, "a whole number from 0", lambda number: number >= 0 and word.isdecimal()))
+    return _counted(word, "a whole number from 0")
 
 
 def count(word: str) -> int:
     """A whole number above 0: the type of an option."""
-    return int(number_of(word, "a whole number above 0", lambda number: number > 0 and word.isdecimal()))
+    return _counted(word, "a whole number above 0", 1)
 
 
 def port(word: str) -> int:
     """A UDP port, or 0 for one that is free: the type of an option."""
-    return int(number_of(word, "a port from 0 to 65535", lambda number: number <= 65535 and word.isdecimal()))
+    return _counted(word, "a port from 0 to 65535", most=65535)
 
 
 def texts(word: str) -> int:
     """A whole number, or the word for more than there are: the type of an option."""
-    if word == "all":
-        return sys.maxsize
-    return int(number_of(word, "a whole number, or all,", lambda number: number >= 0 and word.isdecimal()))
+    return sys.maxsize if word == "all" else _counted(word, "a whole number, or all,")
 
 
 def address(to: str) -> tuple[str, int]:
