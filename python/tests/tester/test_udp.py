@@ -122,6 +122,26 @@ def test_interrupts_put_the_sign_back_and_write_the_report() -> None:
             assert held["verdict"] == "not judged" and not any("brought back" in line for line in held["way"]), held
 
 
+def test_a_terminal_that_is_gone_ends_the_test_as_an_interrupt_does() -> None:
+    with tempfile.TemporaryDirectory() as folder:
+        described, port, report = pathlib.Path(folder) / "bench.sign", free_port(), pathlib.Path(folder) / "report.json"
+        described.write_bytes(text.BENCH)
+        right = ("bin/wisangub-sign", "--signtool", str(TOP / "model/signtool"))
+        call = [sys.executable, "-m", "wisangub.tester", "--to", f"127.0.0.1:{port}", "--sign", str(described)]
+        call += ["--signtool", "model", "--json", str(report), "--wait", "5"]
+        with in_real_time(), front_end(*right, "--port", str(port), "--sign", str(described)):
+            with subprocess.Popen(call, cwd=TOP, stdout=subprocess.PIPE, stderr=subprocess.PIPE) as tester:
+                assert tester.stdout is not None and tester.stderr is not None
+                assert b"without --slow" in tester.stdout.readline() and b"BER forms" in tester.stdout.readline()
+                tester.stdout.close()
+                is_outlived = signal.getsignal(signal.SIGHUP) is signal.SIG_IGN  # as under nohup
+                tester.send_signal(signal.SIGTERM if is_outlived else signal.SIGHUP)
+                assert b"Broken pipe" in tester.stderr.read() and tester.wait(LONG) == 2
+            held = json.loads(report.read_text(encoding="utf-8"))
+            assert held["verdict"] == "not judged" and held["is_set_back"], held["way"]
+            assert any("interrupted" in line for line in held["not_judged"]), held["not_judged"]
+
+
 def test_a_test_that_is_killed_leaves_whole_reports_of_what_was_judged() -> None:
     with tempfile.TemporaryDirectory() as name:
         folder, port = pathlib.Path(name), free_port()

@@ -4,7 +4,6 @@ import argparse
 import datetime
 import hashlib
 import pathlib
-import signal
 import sys
 from types import FrameType
 
@@ -14,6 +13,7 @@ from wisangub.whole import alone
 
 from .chapters import ALL, ASKED, NAMES
 from .context import Context
+from .ends import on_end, passed_over
 from .findings.results import LOSSY, Quiet, Watcher
 from .options import above_nothing, address, count, share, texts, whole
 from .person.answers import Reader
@@ -224,10 +224,12 @@ def _tested(asked: argparse.Namespace, session: Session, watcher: terminal.Plain
             watcher.close()
         for difference in results.differences():
             difference.pictures = pictures(difference, context)
-        print("\n".join(terminal.ending(results, about, words.not_tested(context, results, ALL))), flush=True)
-        if baseline is not None:
-            print("\n".join(baseline.lines(results)), flush=True)
-        outputs.end(results)
+        try:
+            print("\n".join(terminal.ending(results, about, words.not_tested(context, results, ALL))), flush=True)
+            if baseline is not None:
+                print("\n".join(baseline.lines(results)), flush=True)
+        finally:
+            outputs.end(results)
         session.pair.port.link.close()
     finally:
         outputs.close()
@@ -250,14 +252,9 @@ def _check_repeat(asked: argparse.Namespace) -> None:
         raise Refusal(f"--repeat is no test, and --{named[0]} is of one: what it shows is printed")
 
 
-def _passed_over(_number: int, _frame: FrameType | None) -> None:
-    """A signal after the first; SIG_IGN in its place would have Python complain of one that was on its way."""
-
-
 def _interrupted(_number: int, _frame: FrameType | None) -> None:
     """The first signal ends the test; the sign is put back and the report written, whatever comes after it."""
-    for number in (signal.SIGINT, signal.SIGTERM):
-        signal.signal(number, _passed_over)
+    on_end(passed_over)
     raise KeyboardInterrupt
 
 
@@ -266,8 +263,7 @@ def main() -> int:
     asked = arguments().parse_args()
     oracle: Oracle | None = None
     judge: Judge | None = None
-    for number in (signal.SIGINT, signal.SIGTERM):
-        signal.signal(number, _interrupted)
+    on_end(_interrupted)
     try:
         _check_repeat(asked)
         description = _described_with(asked.sign, asked.communities)

@@ -13,7 +13,6 @@ import contextlib
 import json
 import pathlib
 import select
-import signal
 import socket
 import sys
 from types import FrameType
@@ -22,6 +21,7 @@ from typing import Callable, Protocol
 from wisangub.process.places import SIGNTOOL, add_version, called
 from wisangub.refusal import Refusal, reason
 from wisangub.snmp import wire
+from wisangub.tester.ends import on_end, passed_over
 from wisangub.tester.options import above_nothing, port
 from wisangub.tester.requests.messages import spelled
 from wisangub.tester.requests.objects import Column, Row
@@ -163,8 +163,7 @@ def main() -> int:
         where = f"{asked.sign}: {fault}{cause(asked.sign, fault)}" if isinstance(fault, Bad) else ""
         print(where or fault, file=sys.stderr)
         return 2
-    for number in (signal.SIGINT, signal.SIGTERM):
-        signal.signal(number, stop)
+    on_end(stop)
     family = socket.AF_INET6 if ":" in asked.host else socket.AF_INET
     try:
         with socket.socket(family, socket.SOCK_DGRAM) as udp_socket:
@@ -178,8 +177,7 @@ def main() -> int:
         print(fault, file=sys.stderr)
         return 2
     finally:
-        for number in (signal.SIGINT, signal.SIGTERM):
-            signal.signal(number, signal.SIG_IGN)
+        on_end(passed_over)
         sign.end()
     return _told(watch, report)
 

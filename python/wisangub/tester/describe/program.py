@@ -10,12 +10,12 @@ answering, the command was interrupted, or texts do not tell its fonts; then the
 
 import argparse
 import re
-import signal
 import sys
 from types import FrameType
 
 from wisangub.process.places import add_version, called
 from wisangub.refusal import Refusal, reason
+from wisangub.tester.ends import on_end, passed_over
 from wisangub.tester.options import address, number_of
 from wisangub.tester.sign.clock import RealClock
 from wisangub.tester.sign.link import UdpLink
@@ -90,8 +90,7 @@ def _say(words: str) -> None:
 
 def _interrupted(_number: int, _frame: FrameType | None) -> None:
     """The first signal ends it; the sign is put back, whatever comes after it."""
-    for number in (signal.SIGINT, signal.SIGTERM):
-        signal.signal(number, lambda _number, _frame: None)
+    on_end(passed_over)
     raise KeyboardInterrupt
 
 
@@ -141,8 +140,7 @@ def _put_back(made: Describing) -> int:
 def main() -> int:
     """Describes a sign; the exit status is as above."""
     asked = _arguments().parse_args()
-    for number in (signal.SIGINT, signal.SIGTERM):
-        signal.signal(number, _interrupted)
+    on_end(_interrupted)
     clock = RealClock()
     begun = clock.now()
     try:

@@ -1,5 +1,6 @@
 """The report on a terminal: with rich where it can be imported, in plain lines else."""
 
+import contextlib
 import sys
 import time
 from typing import Any, Callable, TextIO
@@ -86,7 +87,8 @@ class Plain:
         self._last = 0.0
 
     def _print(self, line: str) -> None:
-        print(line, file=self.out, flush=True)
+        with contextlib.suppress(OSError):  # nobody reads it, which ends no test
+            print(line, file=self.out, flush=True)
 
     def begun(self, chapter: Chapter, blocks: int) -> None:
         ...

@@ -19,6 +19,7 @@ from types import FrameType
 
 from wisangub.process.places import add_version, called, environment
 from wisangub.refusal import Refusal, reason
+from wisangub.tester.ends import on_end
 from wisangub.tester.findings.results import Verdict
 from wisangub.tester.options import count
 from wisangub.tester.trouble import STATUS, unforeseen
@@ -165,8 +166,7 @@ def main() -> int:
     def stopped(_number: int, _frame: FrameType | None) -> None:
         several.stop()
 
-    for number in (signal.SIGINT, signal.SIGTERM):
-        signal.signal(number, stopped)
+    on_end(stopped)
     several.run(signs, asked.jobs)
     return _summary(signs, several, report)
 
