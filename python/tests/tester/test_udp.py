@@ -70,6 +70,7 @@ def test_a_wrong_command_is_a_word() -> None:
         described.write_bytes(text.BENCH)
         table = [
             (["--wait", "0"], b"--wait: a number above 0 is wanted, and not '0'"),
+            (["--wait", "1e300"], b"--wait: a number up to 1000000000 is wanted, and not '1e300'"),
             (["--lossy", "101"], b"--lossy: a number from 0 to 100 is wanted, and not '101'"),
             (["--requests", "-1"], b"--requests: a whole number from 0 is wanted, and not '-1'"),
             (["--silent", "0"], b"--silent: a whole number above 0 is wanted, and not '0'"),

@@ -7,6 +7,8 @@ from typing import Callable
 
 from wisangub.refusal import Refusal
 
+_MOST = 10**9  # seconds, or minutes, or hours: a wait for more is none that a system has
+
 
 def number_of(word: str, wanted: str, is_wanted: Callable[[float], bool]) -> float:
     """A number of an option. Raises ArgumentTypeError, which says what is wanted, where it is another."""
@@ -21,7 +23,8 @@ def number_of(word: str, wanted: str, is_wanted: Callable[[float], bool]) -> flo
 
 def above_nothing(word: str) -> float:
     """A number above 0: the type of an option."""
-    return number_of(word, "a number above 0", lambda number: 0 < number < math.inf)
+    number_of(word, "a number above 0", lambda number: 0 < number < math.inf)
+    return number_of(word, f"a number up to {_MOST}", lambda number: number <= _MOST)
 
 
 def share(word: str) -> float:
