@@ -51,7 +51,7 @@ class Several:
         for held in signs:
             self._alone[held.to] = threading.Lock()
             self.waiting.put(held)
-        threads = [threading.Thread(target=self._work) for _ in range(jobs)]
+        threads = [threading.Thread(target=self._work) for _ in range(min(jobs, len(signs)))]
         for thread in threads:
             thread.start()
         for thread in threads:
