@@ -16,9 +16,10 @@ from typing import Callable
 from wisangub.process.places import TOP, environment
 from wisangub.refusal import Refusal, reason
 from wisangub.tester.chapters import ALL
+from wisangub.tester.cli import arguments
 from wisangub.tester.findings.results import ChapterResult, Results
 from wisangub.tester.report import pdf, words
-from wisangub.tester.report.outputs import Outputs
+from wisangub.tester.report.outputs import Outputs, check_apart
 from wisangub.tester.sign.capture import Capture, packet_of
 from wisangub.whole import WholeFile, alone
 
@@ -193,20 +194,26 @@ def test_a_file_is_of_one_run_at_a_time() -> None:
         WholeFile(path).close()
 
 
-def test_two_reports_are_no_one_file() -> None:
+def test_two_reports_are_no_one_file_and_none_is_what_is_read() -> None:
     with tempfile.TemporaryDirectory() as name:
-        path, about = pathlib.Path(name) / "report", words.About("127.0.0.1:1", "", "model", None, 1, 0, False, "today")
-        link = path.with_name("link")
+        path, sign = pathlib.Path(name) / "report", pathlib.Path(name) / "my.sign"
+        link, nowhere = path.with_name("link"), pathlib.Path(os.devnull)
         link.symlink_to(path)
-        asked = argparse.Namespace(html=path, junit=None, json=link, pdf=None)
-        try:
-            Outputs(asked, about, lambda _: [])
-        except Refusal as refused:
-            assert str(refused) == f"the report cannot be written: {path} is to be two reports"
-        else:
-            raise AssertionError
-        nowhere = pathlib.Path(os.devnull)
-        Outputs(argparse.Namespace(html=nowhere, junit=None, json=nowhere, pdf=None), about, lambda _: []).close()
+        sign.touch()
+        options = ["--to", "127.0.0.1:1", "--sign", str(sign)]
+        table = [
+            (["--html", str(path), "--json", str(link)], f"{path} is to be two reports"),
+            (["--json", str(path), "--pcap", str(path)], f"{path} is to be two reports"),
+            (["--pcap", str(sign)], f"{sign} is what the test reads"),
+        ]
+        for more, why in table:
+            try:
+                check_apart(arguments().parse_args([*options, *more]))
+            except Refusal as refused:
+                assert str(refused) == f"the report cannot be written: {why}"
+            else:
+                raise AssertionError(more)
+        check_apart(arguments().parse_args([*options, "--html", str(nowhere), "--json", str(nowhere)]))
 
 
 _WRITING = """

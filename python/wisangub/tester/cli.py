@@ -20,7 +20,7 @@ from .person.answers import Reader
 from .report import terminal, words
 from .report.baseline import Baseline
 from .report.earlier import Earlier
-from .report.outputs import Outputs
+from .report.outputs import Outputs, check_apart
 from .report.picture import pictures
 from .runs.repeat import repeat
 from .session import Session, chapters_of
@@ -266,6 +266,7 @@ def main() -> int:
     on_end(_interrupted)
     try:
         _check_repeat(asked)
+        check_apart(asked)
         description = _described_with(asked.sign, asked.communities)
         oracle = made(asked.signtool, description)
         judge = SignJudge(asked.signtool, description)

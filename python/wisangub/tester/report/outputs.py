@@ -12,6 +12,7 @@ from wisangub.whole import WholeFile
 from . import files, page, pdf
 from .words import About
 
+_WRITTEN, _READ = ("html", "junit", "json", "pdf", "pcap"), ("sign", "claims")  # options of files
 NotTested = Callable[[Results], list[str]]
 
 
@@ -23,7 +24,6 @@ class Outputs:
         self._about, self._not_tested = about, not_tested
         self._closing = ExitStack()
         paths = (asked.html, asked.junit, asked.json, asked.pdf)
-        _check_apart([path for path in paths if path is not None])
         self._html, self._junit, self._json, self._pdf = map(self._opened, paths)
         self._printer = pdf.printer() if asked.pdf else ""
 
@@ -64,12 +64,15 @@ class Outputs:
         self._closing.close()
 
 
-def _check_apart(paths: list[pathlib.Path]) -> None:
-    """Raises Refusal where two reports are to be one file."""
-    files = [path.resolve() for path in paths if path.is_file() or not path.exists()]
+def check_apart(asked: argparse.Namespace) -> None:
+    """Raises Refusal where two reports are to be one file, or one is to be written over what the test is of."""
+    written, read = ([path for word in words if (path := vars(asked)[word])] for words in (_WRITTEN, _READ))
+    files = [path.resolve() for path in written if path.is_file() or not path.exists()]
     for at, path in enumerate(files):
         if path in files[:at]:
             raise Refusal(f"the report cannot be written: {path} is to be two reports")
+        if path in [held.resolve() for held in read]:
+            raise Refusal(f"the report cannot be written: {path} is what the test reads")
 
 
 def _put(file: WholeFile, held: str | bytes) -> None:
