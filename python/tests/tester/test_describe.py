@@ -7,6 +7,7 @@ import signal
 import subprocess
 import sys
 import tempfile
+from unittest import mock
 
 from model import text
 from model.agent import Agent
@@ -163,6 +164,14 @@ def test_an_interrupt_puts_the_sign_back() -> None:
 
         held.describing.say = say
         assert ended(held) == (None, 3) and is_as_before(held), moment
+
+
+def test_an_interrupt_while_the_sign_is_put_back_leaves_nothing() -> None:
+    held = made(SMALL)
+    ways = [KeyboardInterrupt, mock.DEFAULT]
+    with mock.patch.object(held.describing, "put_back", side_effect=ways, wraps=held.describing.put_back):
+        found, status = ended(held)
+    assert found and status == 0 and is_as_before(held)
 
 
 def test_an_unlike_sign_is_not_described() -> None:

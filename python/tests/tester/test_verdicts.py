@@ -221,6 +221,19 @@ def test_an_interrupt_puts_the_sign_back() -> None:
     assert results.chapters[0].blocks == 4 < results.chapters[0].wanted
 
 
+def test_an_interrupt_while_the_sign_is_put_back_leaves_nothing() -> None:
+    sign = Sign(text.bench())
+    sign.state.defaults[7] = 99
+    session = bench.session(text.BENCH, sign, requests=0)
+    for part in ("reach", "put_back"):
+        session.prepare(chapters_of(SHORT, False))
+        assert session.preflight.begin(False) and sign.state.defaults[7] == 30
+        ways = [KeyboardInterrupt, mock.DEFAULT]
+        with mock.patch.object(session.reset, part, side_effect=ways, wraps=getattr(session.reset, part)):
+            session.put_back()
+        assert session.results.is_set_back and sign.state.defaults[7] == 99, part
+
+
 def test_an_interrupt_while_a_tick_is_looked_for_leaves_no_row() -> None:
     """Nothing was sent since the known state, and a row is validated for the moment at which that ends."""
     for step in ("watch_asked", "watch"):

@@ -221,6 +221,7 @@ def _tested(asked: argparse.Namespace, session: Session, watcher: terminal.Plain
         try:
             results = session.run(chapters)
         finally:
+            on_end(passed_over)  # the report is written, whatever comes now
             watcher.close()
         for difference in results.differences():
             difference.pictures = pictures(difference, context)

@@ -155,15 +155,24 @@ class Session:
             self.watcher.ended(result)
 
     def put_back(self) -> None:
-        """The sign in the known state, with its own settings as they were read first, where it answers."""
+        """The sign in the known state, with its own settings as they were read first, where it answers. An interrupt
+        that comes meanwhile has it begun once more."""
         if not self.reset.is_entered:
             return
+        try:
+            self.results.is_set_back = self.is_set_back()
+        except KeyboardInterrupt:
+            self.pair.is_dirty = True
+            self.results.is_set_back = self.is_set_back()
+
+    def is_set_back(self) -> bool:
+        """Whether the sign could be put back."""
         self.pair.port.way.begin_anew()
         try:
             unreached = self.reset.reach()
-            self.results.is_set_back = not self.reset.put_back(self.results.first) and not unreached
-        except (Stopped, Inconclusive, KeyboardInterrupt):
-            self.results.is_set_back = False
+            return not self.reset.put_back(self.results.first) and not unreached
+        except (Stopped, Inconclusive):
+            return False
 
     # --- chapters --------------------------------------------------------------------------------------------
 

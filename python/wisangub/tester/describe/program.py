@@ -121,13 +121,11 @@ def _put_back(made: Describing) -> int:
     """The sign as it was: 0, or 3 where it is not."""
     if made.client.written:
         _say("written to the sign: " + "; ".join(made.written()))
-    way = made.client.port.way
     try:
-        way.begin_anew()
-        left = made.put_back()
-    except (Stopped, Unlike, KeyboardInterrupt, OSError) as why:
-        left = [f"what was written ({why})"]
-    for line in way.words():
+        left = _left(made)
+    except KeyboardInterrupt:  # it is the first, and no other follows
+        left = _left(made)
+    for line in made.client.port.way.words():
         _say(line)
     if left:
         _say(f"not put back: {', '.join(left)}")
@@ -135,6 +133,15 @@ def _put_back(made: Describing) -> int:
     if made.client.written:
         _say("put back: all of it reads as before")
     return 0
+
+
+def _left(made: Describing) -> list[str]:
+    """What of the sign cannot be put back."""
+    try:
+        made.client.port.way.begin_anew()
+        return made.put_back()
+    except (Stopped, Unlike, OSError) as why:
+        return [f"what was written ({why})"]
 
 
 def main() -> int:
