@@ -66,15 +66,42 @@ def test_what_reads_change_is_found_behind_them() -> None:
 
 
 def test_what_is_wrong_on_the_way_alone_is_now_and_then() -> None:
-    for sign in (ReadsWrongOnTheWay(), DoesNotWriteOnTheWay()):
+    for sign, read in ((ReadsWrongOnTheWay(), "99"), (DoesNotWriteOnTheWay(), "")):
         results = tried(sign, "defaults", "durations")
         assert not results.differences() and results.verdict() is Verdict.DIFFERS, words.verdict(results)
         assert {name for held in results.once() for name in held.mismatch.names} == {PAGE_ON}
-        for report in (files.as_junit(results, ABOUT), "\n".join(terminal.ending(results, ABOUT, []))):
-            assert "now and then" in report, sign
-        assert "on the way to the known state" in "\n".join(terminal.ending(results, ABOUT, []))
+        said = "\n".join(terminal.ending(results, ABOUT, []))
+        assert "now and then" in files.as_junit(results, ABOUT) and "now and then" in said
+        assert f"defaultPageOnTime.0 read {read}" in said and "on the way to the known state" in said
+        assert "reads defaultPageOnTime.0 = 30" not in said, said
 
 
 def test_nothing_is_wrong_on_the_way_of_a_right_sign() -> None:
     results = tried(Around(text.BENCH), "getnext", "defaults", "durations", "priorities")
     assert results.verdict() is Verdict.CONFORMS and not results.once(), results.unjudged()
+
+
+class ReadsWrongAtFirst(Around):
+    """An object reads otherwise so many times."""
+
+    def __init__(self, name: Name, times: int) -> None:
+        super().__init__()
+        self.name, self.times = name, times
+
+    def answer(self, octets: bytes, message: wire.Message) -> bytes | None:
+        if message.kind != wire.GET or self.name not in [name for name, _ in message.bindings] or not self.times:
+            return self.right(octets)
+        self.times -= 1
+        return self.read(octets, lambda name, held: integer(19) if name == self.name else held)
+
+
+def test_what_is_wrong_once_before_the_chapters_is_told_with_what_it_read() -> None:
+    table = [
+        ("vmsSignHeightPixels", 2, "it read 19 first, and the replies shown are those when it was read again"),
+        ("dmsNumVolatileMsg", 1, "reads dmsNumVolatileMsg.0 = 19; expected: 0"),
+    ]
+    for word, times, told in table:
+        results = tried(ReadsWrongAtFirst(scalar(word), times), "getnext")
+        said = "\n".join(terminal.ending(results, ABOUT, []))
+        assert results.verdict() is Verdict.DIFFERS and not results.differences(), said
+        assert told in said and f"reads {word}.0 = 14" not in said, said

@@ -26,11 +26,9 @@ from .sign.pair import Exchange, Inconclusive, Pair
 from .sign.way import Stopped
 from .state.device import Learnt
 from .state.known_state import Unreachable
-from .state.preflight import Preflight
+from .state.preflight import READ_AGAIN, Preflight
 from .state.reset import Reset
 
-_ON_THE_WAY = "it was seen on the way to the known state, where it is written anew"
-_READ_AGAIN = "; the replies shown are those when it was read again"
 MOST_SHRUNK, MOST_TOLD = 4, 12  # differences of a chapter that are made small, and that are told
 MOST_HISTORY = 120  # steps since the known state, on a way that loses some
 # times that what could not be judged is begun again at the end of its chapter: a long sequence often meets a late
@@ -225,14 +223,14 @@ class Session:
         """Whether the sign was not as ours on its way from these steps to the known state. It is told by a read behind
         them where that differs too, and else, where it hangs on no seconds, as what was seen once."""
         unlike = self.reset.take_unlike()
-        for exchange in unlike:
+        for exchange, read in unlike:
             assert exchange.mismatch is not None
             block = Block("on the way to the known state", "", [exchange.step], is_fresh=True)
             run = None if exchange.is_slip else self.run_behind(history or [], exchange.step)
             if run is not None:
                 self.difference(result, block, run, run.steps[-1:])
             elif any(map(self.reset.objects.is_steady, exchange.mismatch.names)):
-                self.seen_on_the_way(result, exchange)
+                self.seen_on_the_way(result, exchange, read)
         return bool(unlike)
 
     def run_behind(self, history: list[Step], step: Step) -> Run | None:
@@ -243,12 +241,13 @@ class Session:
             self.pair.is_dirty = True
             return None
 
-    def seen_on_the_way(self, result: ChapterResult, exchange: Exchange) -> None:
+    def seen_on_the_way(self, result: ChapterResult, exchange: Exchange, read: str) -> None:
         """A setting that was not as ours on the way to the known state, and is not seen behind the steps before it."""
         assert exchange.mismatch is not None
         rule = classify.rule_of(exchange.octets, exchange.ours, exchange.theirs, exchange.mismatch)
         found = Difference.of(rule, result.chapter.name, exchange, [exchange.step], [exchange.octets])
-        found.is_repeated, found.note = False, _ON_THE_WAY + (_READ_AGAIN if exchange.is_slip else "")
+        again = f", {READ_AGAIN}" if exchange.is_slip else ""
+        found.is_repeated, found.note = False, f"{read} on the way to the known state, where it is written anew{again}"
         self.seen_once(result, found)
 
     def _claimed(self, chapter: Chapter) -> list[Block]:

@@ -28,6 +28,8 @@ def cause(difference: Difference) -> str:
         expected, read = dict(ours.bindings).get(name), dict(theirs.bindings).get(name)
         if expected is not None and read is not None:  # else the requests are to bring the object to a value
             verb = "repeats" if request.kind == wire.SET else "reads"
+            if read == expected:  # when it was read again, which is shown
+                return f"{verb} {spoken(name)} otherwise once; expected: {value_words(expected, name)}"
             return f"{verb} {_bound(name, read)}; expected: {value_words(expected, name)}"
     return difference.title
 

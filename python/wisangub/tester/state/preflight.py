@@ -29,6 +29,7 @@ _OTHER_SIGN = (
     "dmsMaxVolatileMsg.0",
 )
 _GAPS, _MOST_BESIDES = 20, 2000  # gaps that one GetNext asks for; instances that are listed
+READ_AGAIN = "and the replies shown are those when it was read again"
 _READS = (Kind.STATUS, Kind.BINDINGS, Kind.VALUE)
 
 
@@ -76,10 +77,12 @@ class Preflight:
     def configure(self) -> None:
         """What is described otherwise is told and left out; rows that are in use are listed."""
         for name, wanted, have in _differing(self.reset, _described(self.context)):
-            if self.reset.read([name])[name] == wanted:
-                self._wrong_once(get(name), Mismatch(Kind.VALUE, (name,)))
-                continue
             read = "nothing" if have is None else value_words(have, name)
+            exchange = self.on_both(get(name))
+            if self.reset.read([name])[name] == wanted:
+                exchange.mismatch = Mismatch(Kind.VALUE, (name,))
+                self._wrong_once(exchange, f"it read {read} first, {READ_AGAIN}")
+                continue
             self.results.configuration.append((spoken(name), value_words(wanted, name), read))
             self.add(self.configuration_difference(name))
             self.pair.masked.add(name)
@@ -145,12 +148,12 @@ class Preflight:
         told: set[str] = set()
         for look in looks(names):
             self.pair.pass_ticks()
-            whole = self.on_both(look).mismatch
-            if whole is None or whole.kind not in _READS:
+            whole = self.on_both(look)
+            if whole.mismatch is None or whole.mismatch.kind not in _READS:
                 continue
             found = [exchange for name, _ in look.bindings if (exchange := self._comes_again(get(name))) is not None]
             if not found:
-                self._wrong_once(look, whole)
+                self._wrong_once(whole)
             for exchange in found:
                 assert exchange.mismatch is not None
                 rule = classify.rule_of(exchange.octets, exchange.ours, exchange.theirs, exchange.mismatch)
@@ -166,15 +169,13 @@ class Preflight:
         again = self.on_both(ask)
         if again.mismatch == exchange.mismatch:
             return again
-        self._wrong_once(ask, exchange.mismatch)
+        self._wrong_once(exchange)
         return None
 
-    def _wrong_once(self, ask: Ask, mismatch: Mismatch) -> None:
+    def _wrong_once(self, exchange: Exchange, note: str = "") -> None:
         """A read had a wrong value, and the right one when it was read again."""
-        exchange = self.on_both(ask)
-        exchange.mismatch = mismatch
-        held = Difference.of(RULES["get"], "before", exchange, [ask], [exchange.octets])
-        held.is_repeated, held.note = False, "the replies shown are those when it was read again"
+        held = Difference.of(RULES["get"], "before", exchange, [exchange.step], [exchange.octets])
+        held.is_repeated, held.note = False, note
         self.results.once_before.append(held)
 
     def tell_unreached(self, unreached: list[Unreached]) -> None:

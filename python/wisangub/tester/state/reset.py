@@ -5,9 +5,9 @@ from dataclasses import dataclass, field
 from wisangub.snmp import wire
 from wisangub.snmp.names import RowStatus, scalar
 from wisangub.tester.context import Context, activate
-from wisangub.tester.findings.compare import Kind, Mismatch
+from wisangub.tester.findings.compare import Kind, Mismatch, value_words
 from wisangub.tester.requests.messages import spelled
-from wisangub.tester.requests.objects import Column, Name, Row, SourceMode, Value, integer
+from wisangub.tester.requests.objects import Column, Name, Row, SourceMode, Value, integer, spoken
 from wisangub.tester.requests.steps import Ask, get, looks, put
 from wisangub.tester.sign.pair import Exchange, Pair
 
@@ -33,7 +33,8 @@ class Reset:
     is_begun: bool = False  # whether the sign was in the known state before
     is_entered: bool = False  # whether anything was written to bring it there
     is_together: bool = False  # whether ours is handed what brings the sign under test there
-    unlike: list[Exchange] = field(default_factory=list)  # reads that were not as ours on the way there
+    # reads that were not as ours on the way there, asked again, and in words what the first of them read
+    unlike: list[tuple[Exchange, str]] = field(default_factory=list)
     is_sure: bool = True  # whether each SET on the way there had its reply
     looked: int = 0  # how often ticks were looked for once more
 
@@ -101,10 +102,11 @@ class Reset:
         if exchange.mismatch is None and slipped:
             exchange.is_slip, exchange.mismatch = True, Mismatch(Kind.VALUE, slipped)
         if exchange.mismatch is not None:
-            self.unlike.append(exchange)
+            first = exchange.mismatch.names[0] if exchange.mismatch.names else unlike[0]
+            self.unlike.append((exchange, _read_words(first, have.get(first))))
         return have
 
-    def take_unlike(self) -> list[Exchange]:
+    def take_unlike(self) -> list[tuple[Exchange, str]]:
         """The reads that were not as ours since this was asked last."""
         found, self.unlike = self.unlike, []
         return found
@@ -286,6 +288,11 @@ class Reset:
         unreached = self.reach(is_timed and self.pair.ticks.is_old(), is_alike)
         if unreached:
             raise Unreachable(unreached)
+
+
+def _read_words(name: Name, value: Value | None) -> str:
+    """What was read of an object, in words."""
+    return f"{spoken(name)} read {'nothing' if value is None else value_words(value, name)}"
 
 
 def _is_about(reply: wire.Message, look: Ask) -> bool:
