@@ -226,7 +226,7 @@ def test_an_earlier_report_says_what_is_new_and_what_is_gone() -> None:
         assert before.lines(results) == ["as on today (differs)"]
         gone = before.lines(Results())
         assert gone == ["as on today (differs), but for:", f"  gone: {cause(results.differences()[0])}"]
-        for words_of in ("", "[]", "{}"):
+        for words_of in ("", "[]", "{}", "[" * 100_000):
             path.write_text(words_of, encoding="utf-8")
             try:
                 Baseline.read(path)

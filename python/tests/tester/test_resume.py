@@ -201,11 +201,13 @@ def test_a_report_of_another_test_is_not_taken_up() -> None:
             assert "of a test of the sign at 127.0.0.1:1, and not at 127.0.0.1:2" in str(refused)
         else:
             raise AssertionError("the report of another sign")
-        for held in ("", "[]", '{"test": {}}'):
+        whole = json.loads(path.read_text(encoding="utf-8"))
+        whole["differences"][0]["steps"] = "tick"
+        for held in ("", "[]", '{"test": {}}', "[" * 100_000, json.dumps(whole)):
             path.write_text(held, encoding="utf-8")
             try:
                 Earlier.read(path, ABOUT, COMMUNITIES)
             except Refusal as refused:
                 assert "is no report" in str(refused) or "another test" in str(refused)
             else:
-                raise AssertionError(held)
+                raise AssertionError(held[:80])

@@ -27,7 +27,7 @@ class Baseline:
             return Baseline(held["when"], held["verdict"], found)
         except OSError as fault:
             raise Refusal(f"the earlier report cannot be read: {reason(fault)}") from None
-        except (ValueError, KeyError, TypeError):
+        except (ValueError, KeyError, TypeError, RecursionError):
             raise Refusal(f"{path} is no report that --json wrote") from None
 
     def lines(self, results: Results) -> list[str]:

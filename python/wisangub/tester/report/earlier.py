@@ -52,7 +52,7 @@ class Earlier:
             return _earlier(held, communities)
         except OSError as fault:
             raise Refusal(f"the earlier report cannot be read: {reason(fault)}") from None
-        except (ValueError, KeyError, TypeError, AttributeError):
+        except (ValueError, KeyError, TypeError, AttributeError, StopIteration, RecursionError):
             raise Refusal(f"{path} is no report that --json wrote") from None
 
     def put_into(self, results: Results, way: Way) -> None:
