@@ -206,6 +206,29 @@ def test_what_a_sign_shows(tmp_path: pathlib.Path) -> None:
     run(tmp_path, str(tmp_path / "database"), act)
 
 
+def test_readings_are_read_a_page_at_a_time(tmp_path: pathlib.Path, where: str) -> None:
+    """All that a sign ever showed can be had, also where its numbers are as great as they may be."""
+
+    async def act(bench: Bench, visitor: Visitors) -> None:
+        numbers = [1, 2, 3, 999_999_999, 1_000_000_000, 2**31 - 1, 2**31]
+        for number in numbers:
+            bench.read(bench.one, -number, text=f"{number}".encode().hex())
+        system, found, more = System(bench, visitor, "reader"), list[dict[str, Any]](), ""
+        for _ in range(len(numbers)):
+            status, page = await system.get(f"/signs/{bench.one}/readings?most=2{more}")
+            check("Readings", page)
+            assert status == 200 and len(page["readings"]) <= 2
+            found += page["readings"]
+            if not page["readings"]:
+                break
+            more = f"&before={found[-1]['id']}"
+        assert [(one["id"], one["text"]) for one in found] == [(one, str(one)) for one in reversed(numbers)]
+        for word in ("0", "-1", "x", str(2**31 + 1), "10000000000"):
+            assert (await system.get(f"/signs/{bench.one}/readings?before={word}"))[0] == 400, word
+
+    run(tmp_path, where, act)
+
+
 def test_a_text_is_published_once_for_a_key(tmp_path: pathlib.Path, where: str) -> None:
     async def act(bench: Bench, visitor: Visitors) -> None:
         system, signs = System(bench, visitor, "operator"), [bench.one, bench.gantry]

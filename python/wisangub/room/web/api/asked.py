@@ -8,7 +8,7 @@ from aiohttp import web
 from wisangub.room.web.service import rights_of, service_of
 
 from . import checks
-from .schemas import SCHEMAS, Schema, text, whole
+from .schemas import MOST_NUMBER, SCHEMAS, Schema, text, whole
 
 KEY = "Idempotency-Key"
 _MOST_KEY = 200
@@ -20,7 +20,7 @@ PARAMETERS: dict[str, Schema] = {
     "sign": {**_WHOLE, "description": "of this sign alone"},
     "who": text("asked for by this user", maxLength=64),
     "outcome": text("that ended so, or have not", enum=["accepted", "failed", "open"]),
-    "before": {**_WHOLE, "description": "with a number below this one: the next page"},
+    "before": whole("with a number below this one: the next page", 1, MOST_NUMBER),
     "most": whole("how many at most; 50 where it is not given", 1, 500),
     "signs": text("numbers of signs, with commas; all where it is not given", maxLength=8000),
 }
@@ -55,7 +55,7 @@ def parameters(request: web.Request, names: tuple[str, ...]) -> dict[str, Any]:
     found: dict[str, Any] = {}
     for name, word in request.query.items():
         is_whole = name in names and PARAMETERS[name]["type"] == "integer"
-        found[name] = int(word) if is_whole and word.isascii() and word.isdecimal() and len(word) < 10 else word
+        found[name] = int(word) if is_whole and word.isascii() and word.isdecimal() and len(word) < 11 else word
     schema = {"type": "object", "properties": {name: PARAMETERS[name] for name in names}}
     if wrong := [(at[1:], why) for at, why in checks.faults(schema, found)]:
         raise Wrong(400, "This is no query of this operation.", _told(wrong))

@@ -64,7 +64,7 @@ OPERATIONS = (
     Operation("GET", "/signs/{sign}/device", reading.device, "What a sign says of itself", "Device"),
     Operation("GET", "/signs/{sign}/brightness", reading.brightness_list, "What was asked for of it", "Settings"),
     Operation(
-        "GET", "/signs/{sign}/readings", reading.readings, "What a sign showed before", "Readings", query=("most",)
+        "GET", "/signs/{sign}/readings", reading.readings, "What a sign showed before", "Readings", query=reading.PAGE
     ),
     Operation("GET", "/events", stream.stream, "What signs show, as it changes", query=stream.NAMES, kind=EVENTS),
     Operation("GET", "/commands", reading.commands, "What was asked for", "Commands", query=reading.COMMANDS),

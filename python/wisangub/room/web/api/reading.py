@@ -89,11 +89,11 @@ async def brightness_list(request: web.Request) -> web.Response:
 
 
 async def readings(request: web.Request) -> web.Response:
-    sign_id = sign_of(request)
-    most = parameters(request, ("most",)).get("most", _MOST)
+    sign_id, asked = sign_of(request), parameters(request, PAGE)
+    most, after = asked.get("most", _MOST), -asked["before"] if "before" in asked else None
     return await _made(
         request,
-        lambda database: {"readings": list(map(views.reading, history.readings(database, sign_id, most)))},
+        lambda database: {"readings": list(map(views.reading, history.readings(database, sign_id, most, after)))},
     )
 
 

@@ -12,6 +12,7 @@ Schema = dict[str, Any]
 MEMORIES = ("permanent", "changeable", "volatile")
 OUTCOMES = ("accepted", "failed", "open")
 MOST_SIGNS, MOST_TEXT = 1000, 4096
+MOST_NUMBER = 2**31  # of a reading
 _NUMBER: Schema = {"type": "integer", "minimum": 1, "maximum": 999_999_999}
 _PRIORITY: Schema = {"type": "integer", "minimum": 1, "maximum": 255}
 
@@ -216,7 +217,11 @@ _PLAN = thing(
 )
 _READING = thing(
     "What a sign said, or that it said nothing, for a while",
-    {"from": time("since when"), "until": time("when it was heard so last")},
+    {
+        "id": whole("of later ones it is greater", 1, MOST_NUMBER),
+        "from": time("since when"),
+        "until": time("when it was heard so last"),
+    },
     {"text": text("in MULTI"), "plain": text("without tags"), "fault": text("why it said nothing")},
 )
 _ENTRY = thing(

@@ -201,10 +201,10 @@ def _read_back(found: Asked) -> Value | None:
 
 
 def reading(found: ReadingView) -> Value:
-    """What a sign said, for a while."""
+    """What a sign said, for a while. Numbers of readings are below 0, and stand here without their sign."""
     shown = found.shown
     return {
-        **{"from": time(found.at), "until": time(found.heard)},
+        **{"id": -found.number, "from": time(found.at), "until": time(found.heard)},
         **known(
             text=words.text_of(shown.text) if shown else None,
             plain=plain_of(shown.text) if shown else None,
