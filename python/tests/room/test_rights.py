@@ -12,7 +12,7 @@ from . import needs
 needs.modules("aiohttp", "jinja2")
 
 from wisangub.refusal import Refusal
-from wisangub.room.store import alarms, database, groups, history, library, rights, rules, tokens
+from wisangub.room.store import alarms, database, groups, history, library, plans, rights, rules, tokens
 from wisangub.room.store.library import Written
 from wisangub.room.store.messages import RowSaid
 from wisangub.room.store.rights import Level, Rights
@@ -220,6 +220,42 @@ def test_a_sign_that_is_not_one_s_own_is_nowhere(tmp_path: pathlib.Path, where: 
             status, page, _ = await one.post(path, {})
             assert status == 404 and "gantry" not in page and "GANTRY" not in page, path
         assert (await boss.get("/"))[1].count('<li class="card') == 3, "an administrator sees all"
+
+    run(tmp_path, where, act)
+
+
+def test_what_a_plan_asked_names_it_to_who_may_see_it_alone(tmp_path: pathlib.Path, where: str) -> None:
+    """Who sees some of its signs sees what was asked of these, and not the name, which may say what another is for."""
+
+    async def act(bench: Bench, visitor: Visitors) -> None:
+        held, secret = bench.store.database, "CONVOY by the gantry"
+        narrowed(bench, "reader", Level.SEE, bench.one)
+        number = plans.keep(held, secret, [(bench.one, publish(FOG)), (bench.gantry, publish(FOG))], "administrator")
+        begun = plans.begin(held, number, "administrator").batch
+        headers = {
+            name: {"Authorization": f"Bearer {tokens.add(held, 'map', name, True, 1, name)}"}
+            for name in ("reader", "operator")
+        }
+        narrow, wide = [await bench.logged_in(visitor, name) for name in headers]
+
+        async def titles(batch: object) -> list[str]:
+            pages = [(await one.get(f"/batches/{batch}"))[1] for one in (narrow, wide)]
+            for name in headers:
+                pages.append(await (await visitor().answered(f"/api/1/batches/{batch}", headers=headers[name])).text())
+            for page in (pages[0], pages[2]):
+                assert "CONVOY" not in page and "convoy" not in page and "gantry" not in page
+            return [page[page.index("<h1>") + 4 : page.index("</h1>")] for page in pages[:2]] + [
+                json.loads(page)["what"] for page in pages[2:]
+            ]
+
+        assert await titles(begun) == [
+            *("A plan begins", f"Plan {secret} begins"),
+            *("a plan begins", f"plan {secret} begins"),
+        ]
+        held.run("UPDATE commands SET line_number = 1, outcome = 'accepted' WHERE sign = ?", bench.one)
+        plans.end(held, number, "administrator")
+        (ended,) = held.run("SELECT max(id) FROM batches")[0]
+        assert (await titles(ended))[2] == "a plan ends", "though all that it asked for is of a sign that may be seen"
 
     run(tmp_path, where, act)
 

@@ -1,7 +1,8 @@
 """What the pages ask the database for: what was asked together, the ledger, earlier readings, the audit."""
 
+import re
 from dataclasses import dataclass, field, replace
-from typing import Sequence
+from typing import Callable, Sequence
 
 from .database import Database, Value
 from .queries import COMMANDS, CommandView, Shown, command_view, least, where_of, within
@@ -9,6 +10,7 @@ from .values import places, text_or_none, texts, time_of, whole
 
 Line = tuple[int, str, float]  # of a centre: its number, what it says, and when it was handed over
 Entry = tuple[int, float, str, str]  # of the audit: number, time, who, what
+_OF_PLAN = re.compile("plan (.*) (begins|ends)")
 
 
 @dataclass(frozen=True)
@@ -32,6 +34,21 @@ def batch(database: Database, number: int) -> Batch | None:
         number,
     )
     return Batch(whole(rows[0][0]), str(rows[0][1]), time_of(rows[0][2]), str(rows[0][3]), list(map(command_view, of)))
+
+
+def batch_seen(database: Database, number: int, may_see: Callable[[int], bool]) -> Batch | None:
+    """What was asked of the signs that may be seen; None where none of them may be. A plan is named to nobody who may
+    not see all its signs."""
+    found = batch(database, number)
+    seen = [one for one in found.commands if may_see(one.sign)] if found else []
+    if found is None or not seen:
+        return None
+    plan = _OF_PLAN.fullmatch(found.what)
+    if plan is None:
+        return replace(found, commands=seen)
+    rows = database.run("SELECT sign FROM plan_texts JOIN plans ON plans.id = plan WHERE name = ?", plan[1])
+    is_whole = len(seen) == len(found.commands) and all(may_see(whole(sign)) for (sign,) in rows)
+    return replace(found, commands=seen, what=found.what if is_whole else f"a plan {plan[2]}")
 
 
 def people(database: Database) -> list[str]:

@@ -120,15 +120,13 @@ def _parts_of(
     service: Service, database: Database, number: int, may_see: _Seen
 ) -> tuple[Batch | None, list[Part], float]:
     """What was asked for of the signs that may be seen; nothing, where none of them may be."""
-    found = history.batch(database, number)
+    found = history.batch_seen(database, number, may_see)
     made = []
     for command in found.commands if found else []:
-        if not may_see(command.sign):
-            continue
         line = asked(command.line)
         picture = service.picture(command.sign, line.text) if line.kind in ("publish", "blank") else None
         made.append(Part(command, picture))
-    return (found if made else None), made, queries.now(database)
+    return found, made, queries.now(database)
 
 
 async def batch(request: web.Request) -> web.Response:

@@ -166,7 +166,7 @@ async def _send(request: web.Request, draft: Draft, key: str, has_priority: bool
         asked = sorted(_content(one.sign, one.line, has_priority) for one in found.commands)
         if asked != sorted(_content(*one, has_priority) for one in lines):
             raise Wrong(409, "Nothing was done: this key was used for something else.")
-        return views.batch(found, found.commands)
+        return views.batch(found)
 
     try:
         return answered(await service.connections.run(done), 202)

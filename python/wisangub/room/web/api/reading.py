@@ -138,9 +138,8 @@ async def batch(request: web.Request) -> web.Response:
     number, may_see = int(request.match_info["batch"]), rights_of(request).may_see
 
     def made(database: Database) -> views.Value | None:
-        found = history.batch(database, number)
-        seen = [one for one in found.commands if may_see(one.sign)] if found else []
-        return views.batch(found, seen) if found and seen else None
+        found = history.batch_seen(database, number, may_see)
+        return views.batch(found) if found else None
 
     return await _made(request, made)
 

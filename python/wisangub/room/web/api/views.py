@@ -120,14 +120,14 @@ def command(found: CommandView) -> Value:
     )
 
 
-def batch(found: Batch, commands: list[CommandView]) -> Value:
-    """What was asked together, of these commands."""
+def batch(found: Batch) -> Value:
+    """What was asked together."""
     return {
         "batch": found.id,
         "who": found.who,
         "at": time(found.at),
         "what": found.what,
-        "commands": list(map(command, commands)),
+        "commands": list(map(command, found.commands)),
     }
 
 
