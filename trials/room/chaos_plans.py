@@ -109,13 +109,16 @@ def look_at_plans(found: Outcome, store: Store, held: Plans) -> str:
     found.holds("no sign was left out of a plan", not any(said for _, _, _, said in runs))
     begun = Counter(whole(plan) for plan, _, _, _ in runs)
     notes = Counter(str(what[0]) for what in store.database.run("SELECT what FROM audit WHERE what LIKE 'plan %'"))
+    again = Counter(note.partition(", as plan ")[0] for note in notes.elements())
     signs = {plan.id: plan.signs for plan in plans.listed(store.database)}
+    names = {whole(row): str(name) for row, name in store.database.run("SELECT id, name FROM signs")}
     for at, plan in enumerate(held.numbers):
         for word in ("begins", "ends"):
             found.holds(f"plan {at} {word} once each time", notes[f"plan plan {at} {word}"] == begun[plan])
         for sign in signs[plan]:
             lines = command_lines(store, sign)
-            found.holds(f"plan {at} put its text on sign {sign} once each time", lines[held.line(at)] == begun[plan])
+            times = begun[plan] + again[f"plan plan {at} goes on at {names[sign]}"]  # after each plan that hid it
+            found.holds(f"plan {at} put its text on sign {sign} once each time", lines[held.line(at)] == times)
             found.holds(f"plan {at} took it off once at most", lines[held.off(at)] <= begun[plan])
             rows = store.database.run(
                 "SELECT line, outcome FROM commands WHERE sign = ? ORDER BY id DESC LIMIT 1", sign

@@ -28,7 +28,7 @@ class Command:
     line: str
 
 
-def _priorities(line: str) -> tuple[int, int]:
+def priorities(line: str) -> tuple[int, int]:
     """The priority of a command's activation, and that of what it has shown; 255 where it says none."""
     words = line.split(" ")
     try:
@@ -46,7 +46,7 @@ def _priorities(line: str) -> tuple[int, int]:
 def is_above(line: str, other: str) -> bool:
     """Whether a command shows a text that is more urgent than another command: it takes that away whatever it is, as an
     accident's text those of a computer that writes anew each minute. A blank never is."""
-    return not line.startswith("blank ") and _priorities(line)[0] > _priorities(other)[1]
+    return not line.startswith("blank ") and priorities(line)[0] > priorities(other)[1]
 
 
 class Commands:
@@ -122,11 +122,15 @@ class Commands:
             who,
             what,
         )
-        batch, forbidden = whole(rows[0][0]), rules.words(self.database)
+        self.put_more(whole(rows[0][0]), lines, who)
+        return whole(rows[0][0])
+
+    def put_more(self, batch: int, lines: Sequence[tuple[int, str]], who: str) -> None:
+        """Commands that are a part of what was asked together, within such a transaction too."""
+        forbidden = rules.words(self.database)
         for sign, line in lines:
             command = self._put(sign, who, line, forbidden)
             self._run("INSERT INTO batch_commands (batch, command) VALUES (?, ?)", batch, command)
-        return batch
 
     def _put(self, sign: int, who: str, line: str, forbidden: list[str]) -> int:
         """A command with its line of the audit, within a transaction: its number."""

@@ -13,7 +13,7 @@ from wisangub.room.store import groups, library, plans, queries, rules
 from wisangub.room.store.commands import Commands
 from wisangub.room.store.database import Database
 from wisangub.room.store.library import Text
-from wisangub.room.store.plans import Plan
+from wisangub.room.store.plan_runs import Plan
 from wisangub.room.store.queries import CommandView, SignView
 from wisangub.room.store.rules import Purpose
 from wisangub.snmp.names import Memory, RowStatus

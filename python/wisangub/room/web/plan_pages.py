@@ -7,7 +7,7 @@ from aiohttp import web
 from wisangub.refusal import Refusal
 from wisangub.room.store import plans, queries
 from wisangub.room.store.database import Database
-from wisangub.room.store.plans import Plan
+from wisangub.room.store.plan_runs import Plan
 from wisangub.room.times import DAYS, Times
 
 from . import send
@@ -17,12 +17,13 @@ from .words import Asked, asked
 
 @dataclass(frozen=True)
 class Part:
-    """What a plan puts on a sign."""
+    """What a plan puts on a sign, and the other plans that put something there."""
 
     sign: int
     name: str
     asked: Asked
     picture: str | None
+    others: list[str]
 
 
 def _is_seen(request: web.Request, plan: Plan) -> bool:
@@ -79,20 +80,33 @@ def _number_of(request: web.Request) -> int:
     return int(request.match_info["plan"])
 
 
-def _parts(service: Service, plan: Plan, names: dict[int, str]) -> list[Part]:
+def _others(request: web.Request, plan: Plan, every: list[Plan]) -> dict[int, list[str]]:
+    """The names of other plans by the signs of this one; of one that may not be seen, that there is one."""
+    found: dict[int, list[str]] = {sign: [] for sign in plan.signs}
+    for other in every:
+        name = f"“{other.name}”" if _is_seen(request, other) else "one that you may not see"
+        for sign in set(other.signs) & set(plan.signs) if other.id != plan.id else ():
+            found[sign].append(name)
+    return found
+
+
+def _parts(service: Service, plan: Plan, names: dict[int, str], others: dict[int, list[str]]) -> list[Part]:
     found = [(sign, asked(line)) for sign, line in plan.lines]
-    return [Part(sign, names.get(sign, ""), line, service.picture(sign, line.text)) for sign, line in found]
+    return [
+        Part(sign, names.get(sign, ""), line, service.picture(sign, line.text), others[sign]) for sign, line in found
+    ]
 
 
 async def _page(request: web.Request, said: str = "", status: int = 200) -> web.Response:
     """A plan with its signs and its schedules."""
     service, number = service_of(request), _number_of(request)
 
-    def found(database: Database) -> tuple[Plan | None, dict[int, str], float]:
+    def found(database: Database) -> tuple[list[Plan], dict[int, str], float]:
         names = {sign.id: sign.name for sign in queries.signs(database)}
-        return plans.found(database, number), names, queries.now(database)
+        return plans.listed(database), names, queries.now(database)
 
-    held, names, now = await service.connections.run(found)
+    every, names, now = await service.connections.run(found)
+    held = next((one for one in every if one.id == number), None)
     if held is None or not _is_seen(request, held):
         raise web.HTTPNotFound(text="There is no such plan.")
     return service.page(
@@ -100,7 +114,7 @@ async def _page(request: web.Request, said: str = "", status: int = 200) -> web.
         "plan.html",
         status=status,
         plan=held,
-        parts=_parts(service, held, names),
+        parts=_parts(service, held, names, _others(request, held, every)),
         next=_next(held, now),
         may_change=_may_change(request, held),
         told=plans.told,

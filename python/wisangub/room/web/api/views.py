@@ -11,7 +11,7 @@ from wisangub.room.store.brightness import Asked
 from wisangub.room.store.devices import DeviceView
 from wisangub.room.store.history import Batch, ReadingView
 from wisangub.room.store.library import Text
-from wisangub.room.store.plans import Plan
+from wisangub.room.store.plan_runs import Plan
 from wisangub.room.store.queries import CommandView, RowView, Shown, SignView
 from wisangub.room.store.rules import Purpose
 from wisangub.room.web import device_words, words
