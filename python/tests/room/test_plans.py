@@ -24,6 +24,7 @@ from wisangub.room.store import database, groups, history, plans, queries, rules
 from wisangub.room.store.database import Database
 from wisangub.room.store.rights import Level
 from wisangub.room.store.sqlite import Sqlite
+from wisangub.room.store.steady import PATIENCE
 from wisangub.room.store.store import Store
 from wisangub.room.store.users import Role
 from wisangub.room.times import Times
@@ -155,6 +156,23 @@ def look(store: Store) -> None:
     store.plans.look()
 
 
+def set_to(store: Store, ahead: float, is_believed: bool = False) -> None:
+    """The database's clock is set so far ahead, and looked at; it is believed once it has gone on so for a while."""
+    jump(store.database, ahead)
+    look(store)
+    if is_believed:
+        wait(store, PATIENCE + 1, ahead)
+
+
+def wait(store: Store, seconds: float, ahead: float) -> None:
+    """Time passes by the worker's clock, and by the database's, which is so far ahead: each goes back at the end."""
+    store.plans.steady.monotonic = lambda: time.monotonic() + seconds
+    jump(store.database, ahead + seconds)
+    look(store)
+    store.plans.steady.monotonic = time.monotonic
+    jump(store.database, ahead)
+
+
 def planned(store: Store, *signs: int) -> int:
     """A plan of these signs, of a user: its number."""
     person(store.database, "me")
@@ -265,11 +283,10 @@ def test_a_schedule_s_plan_is_begun_and_ended_once(where: str) -> None:
     assert len(lines(held)) == 1 and plans.listed(held)[0].is_on, "once, whoever looks"
     held.run("UPDATE commands SET line_number = 1, outcome = 'accepted'")
     for hours in (-3, -1.5, 0, 0.5):
-        jump(held, hours * HOUR)
-        look(store)
-        assert len(lines(held)) == 1, "a clock that goes back begins nothing anew, and ends nothing"
-    jump(held, 1.5 * HOUR)
-    look(store)
+        for is_believed in (False, True):
+            set_to(store, hours * HOUR, is_believed)
+            assert len(lines(held)) == 1, "a clock that goes back begins nothing anew, and ends nothing"
+    set_to(store, 1.5 * HOUR, is_believed=True)
     assert lines(held)[1:] == [(sign, "me", OFF)] and not plans.listed(held)[0].is_on
     for hours in (0, 1.5, 3, -0.5):
         jump(held, hours * HOUR)
@@ -277,9 +294,8 @@ def test_a_schedule_s_plan_is_begun_and_ended_once(where: str) -> None:
         look(other)
         assert len(lines(held)) == 2, "what was over stays over, whatever the clock does"
     plans.remove_schedule(held, number, plans.listed(held)[0].schedules[0].id, "me")
-    jump(held, 0)
     plans.add_schedule(held, number, always(), "me")
-    look(store)
+    set_to(store, 0, is_believed=True)
     assert len(lines(held)) == 3, "another schedule is another"
 
 

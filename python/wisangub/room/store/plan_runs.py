@@ -117,9 +117,15 @@ def refused(database: Database, who: str, lines: Sequence[tuple[int, str]]) -> d
     return found
 
 
-def begin(database: Database, plan: Plan, occurrence: str, who: str, until: float | None) -> Run:
-    """Puts the plan's texts on its signs, within a transaction; signs where that is refused are left out."""
+def begin(
+    database: Database, plan: Plan, occurrence: str, who: str, until: float | None, newest: int | None = None
+) -> Run:
+    """Puts the plan's texts on its signs, within a transaction; signs where that is refused are left out, and those of
+    which somebody asked for something since the plan's command `newest`, where it had one before."""
     left_out = refused(database, who, plan.lines)
+    for sign in plan.signs if newest is not None else ():
+        if database.run(_BY_OTHERS, sign, newest):
+            left_out.setdefault(sign, f"{_name_of(database, sign)}: somebody asked for something else meanwhile")
     lines = [(sign, line) for sign, line in plan.lines if sign not in left_out]
     note(database, who, f"plan {plan.name} begins")
     for words in left_out.values():

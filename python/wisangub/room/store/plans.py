@@ -11,13 +11,15 @@ from wisangub.refusal import Refusal
 from wisangub.room.output import LOG
 from wisangub.room.times import DAYS, Span, Times, machine_zone
 
-from . import plan_runs, rights, rules
+from . import plan_runs, queries, rights, rules
 from .audit import note
 from .connection import Database, Row
 from .plan_runs import RUNS, Plan, Run, Schedule, asked_by, run_of
+from .steady import PATIENCE, SLACK, Steady
 from .values import texts, time_of, whole
 
 EVERY = 5.0  # seconds from one look for what is due to the next, of all workers together
+_ON_ALREADY = "it was on already"
 _SCHEDULES = "SELECT id, code, plan, author, first_day, last_day, days, begins, ends, zone FROM schedules"
 # of each plan the run that stands, or else the newest
 _LAST = (
@@ -169,10 +171,13 @@ def end(database: Database, number: int, who: str) -> None:
 
 
 class Plans:
-    """Looks for what is due."""
+    """Looks for what is due. While the database's clock is doubted nothing is: one that is set ahead for a while ends no
+    plan of weeks."""
 
     def __init__(self, database: Database) -> None:
         self.database = database
+        self.steady = Steady()
+        self._was_doubted = False
         self._said: set[str] = set()
 
     def look(self) -> None:
@@ -181,6 +186,13 @@ class Plans:
             "SELECT 1 FROM schedules UNION ALL"
             " SELECT 1 FROM plan_runs WHERE ended IS NULL AND until IS NOT NULL LIMIT 1"
         ):
+            return
+        self.steady.look(lambda: queries.now(self.database))
+        if self.steady.is_doubted and not self._was_doubted:
+            words = "the database's clock was set: no plan begins or ends by it"
+            LOG.warning(f"{words} for {PATIENCE / 60:.0f} minutes, or until it is back")
+        self._was_doubted = self.steady.is_doubted
+        if self.steady.is_doubted:
             return
         with self.database.transaction(is_alone=True):
             due = "at + ? <= {clock} OR at > {clock}"  # at a time to come: the clock jumped
@@ -194,8 +206,32 @@ class Plans:
         for row in self.database.run(f"{RUNS} WHERE ended IS NULL AND until <= ? ORDER BY id", now):
             run = run_of(row)
             plan_runs.end(self.database, plans[run.plan].name, run, run.who)
+        again = self._over_too_early(plans, now) if self.steady.is_trusted else {}
         for span, number, _, schedule in sorted(self._on(plans, now), key=lambda one: (one[0][0], *one[1:3])):
-            self._begin_once(plans[number], schedule, span)
+            self._begin_once(plans[number], schedule, span, again.get(number))
+
+    def _over_too_early(self, plans: dict[int, Plan], now: float) -> dict[int, int]:
+        """Lets plans begin again that a clock ended which was ahead, as their time is not over yet: the newest command
+        of each. One that somebody ended stays over."""
+        found: dict[int, int] = {}
+        for plan in plans.values():
+            if plan.last is None or plan.is_on or (plan.last.until or 0.0) <= now + SLACK:
+                continue
+            rows = self.database.run(f"{RUNS} WHERE plan = ? AND until > ?", plan.id, now + SLACK)
+            early = [run for run in map(run_of, rows) if run.until is not None and (run.ended or 0.0) >= run.until]
+            for run in early:
+                asked = [whole(command) for command, _, _ in asked_by(self.database, run)]
+                found[plan.id] = max([found.get(plan.id, 0), *asked])
+            if early:
+                note(self.database, early[-1].who, f"plan {plan.name} was ended by a clock that was ahead")
+                self.database.run(
+                    "UPDATE plan_runs SET occurrence = occurrence || ' ended too early ' || id"
+                    " WHERE plan = ? AND until > ? AND (ended >= until OR said = ?)",
+                    plan.id,
+                    now + SLACK,
+                    _ON_ALREADY,
+                )
+        return found
 
     def _on(self, plans: dict[int, Plan], now: float) -> Iterator[tuple[Span, int, int, Schedule]]:
         """The schedules that are on: since when, of which plan, and its number. What was to begin first begins first,
@@ -218,25 +254,27 @@ class Plans:
             LOG.warning(f"plan {plan.name}: {words}")
         self._said.add(words)
 
-    def _begin_once(self, plan: Plan, schedule: Schedule, span: Span) -> None:
-        """Begins a plan for a time of a schedule, once; one that is on goes on, as long as the longer of both."""
+    def _begin_once(self, plan: Plan, schedule: Schedule, span: Span, newest: int | None) -> None:
+        """Begins a plan for a time of a schedule, once; one that is on goes on, as long as the longer of both. One that
+        begins again leaves the signs out of which somebody asked for something since its newest command."""
         occurrence = f"{schedule.code} {span[0]:.0f}"
         if self.database.run("SELECT 1 FROM plan_runs WHERE occurrence = ?", occurrence):
             return
         standing = self.database.run(f"{RUNS} WHERE plan = ? AND ended IS NULL", plan.id)
         if not standing:
-            plan_runs.begin(self.database, plan, occurrence, schedule.author, span[1])
+            plan_runs.begin(self.database, plan, occurrence, schedule.author, span[1], newest)
             return
         self.database.run(
             "UPDATE plan_runs SET until = ? WHERE plan = ? AND ended IS NULL AND until < ?", span[1], plan.id, span[1]
         )
         self.database.run(
             "INSERT INTO plan_runs (plan, occurrence, who, begun, until, ended, said)"
-            " VALUES (?, ?, ?, {clock}, ?, {clock}, 'it was on already')",
+            " VALUES (?, ?, ?, {clock}, ?, {clock}, ?)",
             plan.id,
             occurrence,
             schedule.author,
             span[1],
+            _ON_ALREADY,
         )
 
 
