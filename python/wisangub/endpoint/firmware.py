@@ -10,13 +10,14 @@ from typing import Any
 
 from wisangub.objects.lines import Object, dotted
 from wisangub.objects.listed import Listed, at_line, read, refused_by
-from wisangub.output import LOG, print_line
+from wisangub.output import LOG
 from wisangub.process.coprocess import CoProcess
 from wisangub.refusal import Refusal
 from wisangub.snmp import wire
 
 from .clock import running
 from .log import Log
+from .printing import PRINTED
 from .states import Sets, set_lines
 
 _NO_LINE = "the program has no line `%s`, which --objects needs"
@@ -108,7 +109,7 @@ class Firmware:
             name, _, value = answer.removeprefix(_SET).partition(b" ")
             self.sets[name] = value
             if not self.is_quiet:
-                print_line(answer.decode())
+                PRINTED.print(answer.decode())
             self.event("set", {"object": name.decode(), "value": value.decode()})
 
     def event(self, event: str, fields: dict[str, object]) -> None:

@@ -12,13 +12,13 @@ shortened to the state of the sign, and so it is at a SIGHUP; --archive FOLDER k
 damaged is refused; with --accept-damage the sign goes on from what is whole of it. Where the disk cannot be written it
 goes on from what is there, answers no SET, and says each minute and by its exit status 1 what the next start will not
 know; with --need-journal it does not start. Of the writing community --most-recorded N datagrams a second are recorded,
-50 where nothing is said. With --lose N every N-th datagram to the sign is lost. What the sign accepts is printed. With
---objects there are objects beside the sign's, such as sysDescr.0 or a photocell, as the file has them, which is read
-again at a SIGHUP; what managers set there is printed as lines `set NAME VALUE`. With --page a browser of this machine
-shows the lamps and the last datagrams at http://127.0.0.1:8161/, and has buttons that take the power, let seconds pass
-and lose a datagram. With --fast the same front end in C goes on, examples/signd.c, where it is built and has all that
-is asked for; else it says what it lacks. It ends at an interrupt or a SIGTERM, and at a second one or before it is
-announced at once.
+50 where nothing is said. With --lose N every N-th datagram to the sign is lost. What the sign accepts is printed; lines
+that nobody takes wait, 1 MB of them, and hold no datagram up. With --objects there are objects beside the sign's, such
+as sysDescr.0 or a photocell, as the file has them, which is read again at a SIGHUP; what managers set there is printed
+as lines `set NAME VALUE`. With --page a browser of this machine shows the lamps and the last datagrams at
+http://127.0.0.1:8161/, and has buttons that take the power, let seconds pass and lose a datagram. With --fast the same
+front end in C goes on, examples/signd.c, where it is built and has all that is asked for; else it says what it lacks.
+It ends at an interrupt or a SIGTERM, and at a second one or before it is announced at once.
 """
 
 from __future__ import annotations
@@ -29,7 +29,6 @@ import argparse
 import sys
 from typing import TYPE_CHECKING
 
-from wisangub.output import print_line
 from wisangub.process import description
 from wisangub.process.coprocess import CoProcess
 from wisangub.process.stands import signd
@@ -39,6 +38,7 @@ from .clock import Moment, running
 from .keeper import Keeper
 from .limit import MOST_RECORDED, Limit
 from .page.start import copy_of, page_of, watched
+from .printing import PRINTED
 from .records import Head
 from .setting import MOST_NUMBER, begun, checked, journal_of, log_of, new, options, shortening_of
 from .sign_front_end import Heard, SignFrontEnd
@@ -123,9 +123,9 @@ def main() -> int:
         who, limit = description.communities_of(text), Limit[Heard](asked.most_recorded)
         with watched(asked, text, sign, copy, lines, browsers) as (watcher, page):
             if not asked.quiet:
-                print_line(f"a sign at {named(at if ':' in at[0] else (asked.host, at[1]))}")
+                PRINTED.print(f"a sign at {named(at if ':' in at[0] else (asked.host, at[1]))}")
             if page and not asked.quiet:
-                print_line(f"a page at {page}")
+                PRINTED.print(f"a page at {page}")
             if firmware:
                 firmware.tell(sign)
             served = SignFrontEnd(
@@ -139,7 +139,10 @@ def main() -> int:
 
 
 def run() -> int:
-    return status_of(main)
+    try:
+        return status_of(main)
+    finally:
+        PRINTED.end()
 
 
 if __name__ == "__main__":

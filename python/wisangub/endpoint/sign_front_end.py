@@ -6,7 +6,7 @@ import socket
 from binascii import hexlify, unhexlify
 from typing import TYPE_CHECKING
 
-from wisangub.output import LOG, print_line
+from wisangub.output import LOG
 from wisangub.process.coprocess import CoProcess
 from wisangub.refusal import Refusal, reason
 from wisangub.snmp.gets import MOST_DATAGRAM
@@ -15,6 +15,7 @@ from .clock import running
 from .keeper import Keeper
 from .limit import Limit
 from .near import Near
+from .printing import AGAIN, PRINTED
 from .shortening import Shortening
 from .sockets import Address, Waiting, received, wait_at_most
 from .sorts import CHANGING, HEARD, UNANSWERED, Sort, sort_of
@@ -87,6 +88,7 @@ class SignFrontEnd:
             if heard or self.limit.wait(now) == 0.0:
                 self.answer(heard)
             self.watcher.turn(self)
+            PRINTED.turn()
         if has_ticks:
             self.tick()
         return self.keeper is None or self.keeper.end(self.up if has_ticks else running())
@@ -94,7 +96,7 @@ class SignFrontEnd:
     def pause(self, now: float, has_ticks: bool) -> float | None:
         """The seconds until something is to be done though no datagram comes; None where nothing is."""
         left = self.up + 1 - now if has_ticks else None
-        for wait in (self.limit.wait(now), self.watcher.wait(now)):
+        for wait in (self.limit.wait(now), self.watcher.wait(now), AGAIN if PRINTED.is_waiting else None):
             if wait is not None and (left is None or wait < left):
                 left = wait
         return left
@@ -214,6 +216,6 @@ class SignFrontEnd:
     def accepted(self, code: str, sender: Address) -> None:
         """Tells of an activation."""
         if not self.is_quiet:
-            print_line(f"accepted {code}")
+            PRINTED.print(f"accepted {code}")
         if self.log:
             self.log.event("accepted", sender, {"code": code})
