@@ -26,14 +26,14 @@ from wisangub.room import demo
 
 from .visits import PROGRAM, Visitor
 
-PATIENCE = 60.0  # seconds that a busy machine takes
+LIMIT = 600.0  # seconds after which something hangs: a machine whose disk is busy takes minutes for a start
 NAMES = ("north", "south")
 
 
 def until_said(process: subprocess.Popen[bytes], words: str) -> str:
     """What it printed, up to these words."""
     assert process.stdout is not None
-    said, ends = b"", time.monotonic() + PATIENCE
+    said, ends = b"", time.monotonic() + LIMIT
     while words.encode() not in said:
         assert time.monotonic() < ends and process.poll() is None, said
         if select.select([process.stdout], [], [], 0.2)[0]:
@@ -41,16 +41,17 @@ def until_said(process: subprocess.Popen[bytes], words: str) -> str:
     return said.decode()
 
 
-async def seen(url: str, password: str) -> None:
-    """A reader with the printed password sees both signs, as they were heard."""
+async def seen(url: str, password: str, process: subprocess.Popen[bytes]) -> None:
+    """A reader with the printed password sees both signs, as they were heard, while the demonstration stands."""
     async with aiohttp.ClientSession(url, cookie_jar=aiohttp.CookieJar(unsafe=True)) as session:
         one = Visitor(session)
         assert await one.log_in("reader", password) == (303, "/")
-        ends = time.monotonic() + PATIENCE
-        while (page := (await one.get("/"))[1]).count("heard <time") < len(NAMES):
-            assert time.monotonic() < ends, "both were heard"
+        page = ""
+        while page.count("heard <time") < len(NAMES) or "2 signs, 0 lit, 0 silent" not in page:
+            assert process.poll() is None, "it stands"
             await asyncio.sleep(0.2)
-        assert all(name in page for name in NAMES) and "2 signs, 0 lit, 0 silent" in page
+            page = (await one.get("/"))[1]
+        assert all(name in page for name in NAMES)
 
 
 def fleet_at(folder: pathlib.Path, ports: list[int]) -> str:
@@ -68,7 +69,7 @@ def refused(fleet: str) -> str:
     """What it says of a fleet whose signs do not all stand."""
     words = ["--fleet", fleet, "--listen", f"127.0.0.1:{free_port()}", "--signtool", PROGRAM]
     command = [sys.executable, "-m", "wisangub.room.demo", *words]
-    ran = subprocess.run(command, cwd=TOP, stdin=subprocess.DEVNULL, capture_output=True, timeout=2 * PATIENCE)
+    ran = subprocess.run(command, cwd=TOP, stdin=subprocess.DEVNULL, capture_output=True, timeout=LIMIT)
     assert ran.returncode == 1 and b"log in" not in ran.stdout
     return ran.stderr.decode()
 
@@ -105,14 +106,14 @@ def test_the_whole_with_one_command(tmp_path: pathlib.Path) -> None:
             said = until_said(process, "the control room of 2 signs is at")
             found = re.search(r"log in as reader with (\S+)", said)
             assert found is not None and said.count("log in as") == 3
-            asyncio.run(asyncio.wait_for(seen(f"http://127.0.0.1:{listen}", found[1]), PATIENCE))
+            asyncio.run(asyncio.wait_for(seen(f"http://127.0.0.1:{listen}", found[1], process), LIMIT))
             process.send_signal(signal.SIGINT)
-            assert process.wait(PATIENCE + 3 * 20) == 0  # it gives each of its three programs 20 s to end
+            assert process.wait(LIMIT) == 0  # it gives each of its three programs 20 s to end
         finally:
             if process.poll() is None:
                 process.terminate()
                 with contextlib.suppress(subprocess.TimeoutExpired):
-                    process.wait(PATIENCE)
+                    process.wait(LIMIT)
                 process.kill()
     for port in ports:
         with socket.socket(socket.AF_INET, socket.SOCK_DGRAM) as free:
