@@ -2,6 +2,7 @@
 
 import datetime
 import pathlib
+from dataclasses import replace
 
 import pytest
 
@@ -9,14 +10,15 @@ from . import needs
 
 needs.modules("aiohttp", "jinja2")
 
-from wisangub.room.store import history, plans, queries
+from wisangub.room.store import database, history, plans, queries
 from wisangub.room.store.database import Database
 from wisangub.room.store.rights import Level
+from wisangub.room.store.sqlite import Sqlite
 from wisangub.room.store.store import Store
 from wisangub.room.times import Times
 
 from .people import person
-from .test_database import BLANK, two_stores
+from .test_database import BLANK, SIGN, two_stores
 from .test_plans import lines, look
 from .test_rights import narrowed
 from .visits import Bench, Visitors, run
@@ -176,6 +178,24 @@ def test_what_waits_and_is_less_urgent_leaves_no_text_up(where: str) -> None:
     store.commands.ask(sign, "you", text("B"))
     plans.end(held, number, "me")
     assert asked(held) == [text("A", 150), text("B"), off(150)]
+
+
+def test_plans_of_many_signs_end_soon(tmp_path: pathlib.Path) -> None:
+    """A transaction of its own keeps all others out: what is hidden is looked for once, and not at each sign."""
+    store = Store(database.opened(str(tmp_path / "database")))
+    held = store.database
+    assert isinstance(held, Sqlite)
+    person(held, "me")
+    signs = list(store.signs.enter([replace(SIGN, name=f"{at}", port=2000 + at) for at in range(200)]))
+    for name in "ABCDE":
+        number = plans.keep(held, name, [(sign, text(name)) for sign in signs], "me")
+        plans.begin(held, number, "me")
+        done(held)
+    did: list[int] = []
+    held.connection.set_progress_handler(lambda: did.append(1), 1000)  # instructions of SQLite
+    plans.end(held, number, "me")
+    assert asked(held)[1000:] == [*[off()] * 200, *[text("D")] * 200]
+    assert len(did) < 500, len(did)
 
 
 def test_the_page_of_a_plan_says_which_others_have_its_signs(tmp_path: pathlib.Path, where: str) -> None:

@@ -7,7 +7,7 @@ ones that which was begun last. Where it is taken off, the other plan's is put u
 import hashlib
 import secrets
 from dataclasses import dataclass
-from typing import Sequence
+from typing import Container, Sequence
 
 from wisangub.endpoint.endings import failed
 from wisangub.refusal import Refusal
@@ -30,14 +30,14 @@ _BY_OTHERS = (
     " AND NOT EXISTS (SELECT 1 FROM batch_commands JOIN batches ON batches.id = batch_commands.batch"
     f" WHERE batch_commands.command = commands.id AND substr(batches.confirmation, 1, 5) = '{OF_PLANS}') LIMIT 1"
 )
-# of the plans that are on, what each has asked of a sign that is still in it, the oldest first
+# of the plans that are on, what each has asked of signs that are still in it, the oldest first
 _STANDING = (
-    "SELECT plan_runs.id, plans.name, plan_runs.who, plan_runs.batch, commands.id, commands.line, commands.outcome"
-    " FROM plan_runs JOIN plans ON plans.id = plan_runs.plan"
-    " JOIN plan_texts ON plan_texts.plan = plan_runs.plan"
+    "SELECT commands.sign, plan_runs.id, plans.name, plan_runs.who, plan_runs.batch, commands.id, commands.line,"
+    " commands.outcome FROM plan_runs JOIN plans ON plans.id = plan_runs.plan"
     " JOIN batch_commands ON batch_commands.batch = plan_runs.batch"
-    " JOIN commands ON commands.id = batch_commands.command AND commands.sign = plan_texts.sign"
-    " WHERE plan_runs.ended IS NULL AND plan_texts.sign = ? ORDER BY commands.id"
+    " JOIN commands ON commands.id = batch_commands.command"
+    " JOIN plan_texts ON plan_texts.plan = plan_runs.plan AND plan_texts.sign = commands.sign"
+    " WHERE plan_runs.ended IS NULL ORDER BY commands.id"
 )
 
 
@@ -89,6 +89,23 @@ class Plan:
     def shown(self) -> str:
         """A digest of what it puts on which signs, by which a page says what it showed."""
         return hashlib.sha256(repr(self.lines).encode()).hexdigest()
+
+
+@dataclass(frozen=True)
+class Hidden:
+    """A plan's command at a sign where another plan's text was shown."""
+
+    sign: int
+    command: int
+    line: str
+    plan: str
+    who: str
+    outcome: str
+    batch: int
+
+    @property
+    def rank(self) -> tuple[int, int]:
+        return priorities(self.line)[0], self.command
 
 
 def run_of(row: Row) -> Run:
@@ -161,8 +178,8 @@ def end(database: Database, name: str, run: Run, who: str) -> None:
     if lines:
         confirmation = f"{OF_PLANS}{run.occurrence} ends {run.id}"
         Commands(database).put_all(list(lines.items()), who, f"plan {name} ends", confirmation)
-    for one in lines:
-        _put_up_again(database, one, name)
+    for hidden in _hidden(database, lines) if lines else ():
+        _put_up_again(database, hidden, name)
 
 
 def asked_by(database: Database, run: Run) -> list[Row]:
@@ -193,24 +210,34 @@ def _is_to_take_off(database: Database, command: int, sign: int, line: str, who:
     return all(how is None and priorities(str(later))[0] < while_shown for later, how in since)
 
 
-def _put_up_again(database: Database, sign: int, ended: str) -> None:
-    """Has a sign show the text of another plan that is on, where one was taken off: that of the greatest priority, of
-    equal ones the newest. Not one that was withdrawn, nor where somebody asked for something else since it was put up.
-    It is done in the name of who began that plan, with his rights now."""
-    newest = {}
-    for run, name, who, batch, command, line, outcome in database.run(_STANDING, sign):
-        newest[run] = (priorities(str(line))[0], whole(command), str(line), str(name), str(who), whole(batch), outcome)
-    hidden = [one for one in newest.values() if not str(one[-1] or "").startswith(_NOT_SENT)]
-    if not hidden:
+def _hidden(database: Database, signs: Container[int]) -> list[Hidden]:
+    """Of each sign what a plan that is on would show: the text of the greatest priority, of equal ones the newest, but
+    for those that were withdrawn. All signs are looked at together, since a plan may have a thousand."""
+    newest: dict[tuple[int, int], Hidden] = {}
+    for sign, run, name, who, batch, command, line, outcome in database.run(_STANDING):
+        if whole(sign) in signs:
+            words = str(line), str(name), str(who), str(outcome or "")
+            newest[whole(sign), whole(run)] = Hidden(whole(sign), whole(command), *words, whole(batch))
+    found: dict[int, Hidden] = {}
+    for one in newest.values():
+        before = found.get(one.sign)
+        if not one.outcome.startswith(_NOT_SENT) and (before is None or one.rank > before.rank):
+            found[one.sign] = one
+    return list(found.values())
+
+
+def _put_up_again(database: Database, hidden: Hidden, ended: str) -> None:
+    """Has a sign show the text of another plan that is on, where one was taken off: not where somebody asked for
+    something else since it was put up. It is done in the name of who began that plan, with his rights now."""
+    if database.run(_BY_OTHERS, hidden.sign, hidden.command):
         return
-    _, command, line, name, who, batch, _ = max(hidden, key=lambda one: one[:2])
-    if database.run(_BY_OTHERS, sign, command):
+    line = hidden.sign, hidden.line
+    for words in refused(database, hidden.who, [line]).values():
+        note(database, hidden.who, f"plan {hidden.plan} leaves out {words}")
         return
-    for words in refused(database, who, [(sign, line)]).values():
-        note(database, who, f"plan {name} leaves out {words}")
-        return
-    note(database, who, f"plan {name} goes on at {_name_of(database, sign)}, as plan {ended} has ended")
-    Commands(database).put_more(batch, [(sign, line)], who)
+    name = _name_of(database, hidden.sign)
+    note(database, hidden.who, f"plan {hidden.plan} goes on at {name}, as plan {ended} has ended")
+    Commands(database).put_more(hidden.batch, [line], hidden.who)
 
 
 def _name_of(database: Database, sign: int) -> str:
