@@ -20,6 +20,7 @@ from wisangub.room.store import archives, database, plans, queries, retention
 from wisangub.room.store.connection import Database
 from wisangub.room.store.lines import Line
 from wisangub.room.store.readings import Said
+from wisangub.room.store.sqlite import Sqlite
 from wisangub.room.store.store import Store
 
 from .bench import HELLO, bench
@@ -338,3 +339,17 @@ def test_the_history_is_by_an_index(tmp_path: pathlib.Path, wanted: dict[str, An
     assert "SEARCH commands" in plan or "SCAN commands USING INDEX" in plan, plan
     assert "TEMP B-TREE" not in plan, "nothing is sorted"
     held.close()
+
+
+def test_commands_that_were_asked_for_together_are_soon_out(tmp_path: pathlib.Path) -> None:
+    """What each was asked with is found by an index: of many, the table is not read through for each."""
+    room = Room(tmp_path, str(tmp_path / "database"))
+    assert isinstance(room.held, Sqlite)
+    for batch in range(10):
+        room.store.commands.ask_all([(room.one, BLANK)] * 200, "ann", "what", f"{batch}")
+    room.held.run("UPDATE commands SET line_number = id, outcome = 'accepted' WHERE outcome IS NULL")
+    room.held.run("UPDATE commands SET ended = {clock} WHERE ended IS NULL")
+    room.age(500)
+    done: list[int] = []
+    room.held.connection.set_progress_handler(lambda: done.append(1), 1000)  # instructions of SQLite
+    assert room.archive().counts[archives.COMMAND] > 2000 and len(done) < 2000, len(done)
