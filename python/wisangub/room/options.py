@@ -33,7 +33,7 @@ def add_database(parser: argparse.ArgumentParser, default: str | None = None, ma
 
 
 def add_fleet(parser: argparse.ArgumentParser) -> None:
-    """--fleet, --signtool, and of a worker --alarms and --give-up."""
+    """--fleet, --signtool, and what is a worker's alone: --alarms and --give-up."""
     parser.add_argument("--fleet", required=True, metavar="FILE", help="the signs, as in signs/fleet.toml")
     parser.add_argument(
         "--signtool",
@@ -54,6 +54,13 @@ def add_fleet(parser: argparse.ArgumentParser) -> None:
 def need(program: str, where: str, *modules: str) -> None:
     """Goes on where this Python sees the modules, and psycopg where the database is PostgreSQL's."""
     start.needed(program, *modules, *(["psycopg"] if database.is_url(where) else []))
+
+
+def check_without_worker(asked: argparse.Namespace) -> None:
+    """Refuses what pages alone do nothing with: nobody would be told of an alarm, and nothing given up sooner."""
+    for word, is_given in (("--alarms", asked.alarms is not None), ("--give-up", asked.give_up != GIVE_UP)):
+        if is_given:
+            raise Refusal(f"{word} is a worker's, and --no-worker begins none: give it to each wisangub-control worker")
 
 
 @contextlib.contextmanager

@@ -69,6 +69,8 @@ def main() -> int:
             f"{asked.listen}: other machines reach it, and passwords would go there in the clear: --behind-tls where a"
             " proxy on this machine ends TLS, or --plain-http"
         )
+    if asked.no_worker and asked.beside is None:
+        options.check_without_worker(asked)
     signs, waiting = fleet.read(asked.fleet), Waiting()
     return _pages(asked, signs, waiting) if asked.no_worker else _both(asked, signs, waiting)
 
