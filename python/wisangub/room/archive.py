@@ -12,7 +12,6 @@ or line. A time is a number of days (d), hours (h), minutes (min) or seconds (s)
 """
 
 import argparse
-import getpass
 import json
 import pathlib
 import re
@@ -87,7 +86,7 @@ def main() -> int:
         parser.error("write wants --older-than TIME and --to FILE, the others --from FILE")
     if (asked.what in ("write", "finish")) != bool(asked.database):
         parser.error("write and finish want --database WHERE, and no other does")
-    who = f"{getpass.getuser()} at the machine"
+    who = f"{options.user()} at the machine"
     if is_new:
         _write(asked, who)
     elif asked.what == "finish":

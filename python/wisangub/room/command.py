@@ -7,7 +7,6 @@ ended accepted.
 """
 
 import contextlib
-import getpass
 import sys
 import time
 
@@ -59,7 +58,7 @@ def explain(store: Store, command: int, how: str) -> None:
 def main() -> int:
     parser = options.command_options(__doc__, "wisangub-control command")
     options.add_database(parser)
-    parser.add_argument("--who", default=getpass.getuser(), metavar="NAME", help="who asks; else the user")
+    parser.add_argument("--who", default=options.user(), metavar="NAME", help="who asks; else the user")
     parser.add_argument(
         "--wait", type=options.seconds, default=120.0, metavar="SECONDS", help="how long its end is waited for"
     )

@@ -2,6 +2,8 @@
 
 import argparse
 import contextlib
+import getpass
+import os
 from typing import Iterator
 
 from wisangub.process.places import SIGNTOOL, add_version, called
@@ -74,6 +76,14 @@ def over(program: str, where: str, may_create: bool = False) -> Iterator[Databas
         raise Refusal(f"the database: {fault}", 1) from fault
     finally:
         held.close()
+
+
+def user() -> str:
+    """Who this is at the machine; by a number, where that has no name for it, as in a container."""
+    try:
+        return getpass.getuser()
+    except (KeyError, OSError, ImportError):
+        return f"uid {os.getuid()}"
 
 
 def seconds(word: str) -> float:

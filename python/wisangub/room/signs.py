@@ -9,7 +9,6 @@ Workers that go on meanwhile drive the sign under the name that they began with.
 """
 
 import argparse
-import getpass
 import sys
 
 from wisangub.refusal import status_of
@@ -35,7 +34,7 @@ def main() -> int:
     with options.over("wisangub.room.signs", asked.database) as held:
         signs = Store(held).signs
         if asked.call == "rename":
-            signs.rename(asked.old, asked.new, f"{getpass.getuser()} at the machine")
+            signs.rename(asked.old, asked.new, f"{options.user()} at the machine")
         else:
             for name, address in signs.all():
                 print_line(f"{name} {address}")

@@ -9,7 +9,6 @@ A token is ended too by another password, role or state of its user. A change st
 
 import argparse
 import datetime
-import getpass
 import sys
 
 from wisangub.refusal import Refusal, status_of
@@ -50,7 +49,7 @@ def _line(token: Token) -> str:
 
 def main() -> int:
     asked = _arguments().parse_args()
-    who = f"{getpass.getuser()} at the machine"
+    who = f"{options.user()} at the machine"
     with options.over("wisangub.room.tokens", asked.database) as held:
         if asked.call == "add":
             print_line(tokens.add(held, asked.name, asked.user, asked.reads_only, asked.days, who))

@@ -57,7 +57,7 @@ def _arguments() -> argparse.ArgumentParser:
 
 def _done(asked: argparse.Namespace, database: Database) -> None:
     """Does what was asked for."""
-    who = f"{getpass.getuser()} at the machine"
+    who = f"{options.user()} at the machine"
     if asked.call == "list":
         for user in users.users(database):
             print_line(

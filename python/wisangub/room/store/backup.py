@@ -12,7 +12,6 @@ or a standby. No worker of the database before may run any more.
 
 import argparse
 import contextlib
-import getpass
 import os
 import pathlib
 import sqlite3
@@ -181,7 +180,7 @@ def _arguments() -> argparse.ArgumentParser:
     parser.add_argument("--to", type=pathlib.Path, metavar="FILE", help="where the copy goes")
     parser.add_argument("--from", type=pathlib.Path, metavar="FILE", dest="source", help="the copy")
     parser.add_argument("--first", type=int, metavar="NUMBER", help="the number of each centre's next request")
-    parser.add_argument("--who", default=getpass.getuser(), metavar="NAME", help="for the audit; else the user")
+    parser.add_argument("--who", default=options.user(), metavar="NAME", help="for the audit; else the user")
     return parser
 
 
