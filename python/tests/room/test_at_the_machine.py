@@ -2,6 +2,7 @@
 
 import os
 import pathlib
+import pty
 import subprocess
 import sys
 
@@ -9,8 +10,10 @@ import pytest
 
 from wisangub.process.places import TOP, environment
 from wisangub.room.store import database, history
+from wisangub.room.store.store import Store
 
 from . import needs
+from .test_database import BLANK, SIGN
 
 CONTROL = str(TOP / "bin/wisangub-control")
 PASSWORD = b"a long password\n"
@@ -34,6 +37,47 @@ def refused(*words: str | bytes, said: bytes = b"") -> str:
     lines = ended.stderr.decode().splitlines()
     assert ended.returncode in (1, 2) and len(lines) == 1, ended.stderr
     return lines[0]
+
+
+def test_a_word_that_is_no_utf8_is_refused_in_words(where: str) -> None:
+    Store(database.opened(where)).signs.enter([SIGN])
+    at = ("--database", where)
+    calls: list[tuple[str | bytes, ...]] = [
+        ("command", *at, b"\xff", BLANK),
+        ("command", *at, "--who", b"\xff", SIGN.name, BLANK),
+        ("signs", *at, "rename", b"\xff", SIGN.name),
+        ("users", *at, "disable", b"\xff"),
+        ("tokens", *at, "add", "map", b"\xff"),
+    ]
+    for words in calls:
+        assert "'\\udcff' is no UTF-8" in refused(*words), words
+    assert "a password is written in UTF-8" in refused("users", *at, "add", "bob", "reader", said=b"\xff" + PASSWORD)
+    held = database.opened(where)
+    assert held.run("SELECT count(*) FROM commands") == [(0,)] and history.audit(held, None) == []
+
+
+def test_a_password_that_is_not_given_is_refused_in_words(tmp_path: pathlib.Path) -> None:
+    """The terminal says that there is no more of it."""
+    where = str(tmp_path / "database")
+    pid, terminal = pty.fork()
+    if not pid:
+        os.execve(
+            sys.executable,
+            [sys.executable, CONTROL, "users", "--database", where, "--create", "add", "ann", "reader"],
+            environment(),
+        )
+    said = b""
+    while b"Password: " not in said:
+        said += os.read(terminal, 4096)
+    os.write(terminal, b"\x04")
+    try:
+        while more := os.read(terminal, 4096):
+            said += more
+    except OSError:  # it has ended
+        pass
+    assert os.waitstatus_to_exitcode(os.waitpid(pid, 0)[1]) == 2
+    os.close(terminal)
+    assert b"no password was given" in said and b"Traceback" not in said
 
 
 NOBODY = 54321

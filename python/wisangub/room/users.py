@@ -27,9 +27,12 @@ def asked_password() -> str:
     """Twice from the terminal, or the line of standard input."""
     if not sys.stdin.isatty():
         return sys.stdin.readline().rstrip("\r\n")
-    first = getpass.getpass("Password: ")
-    if getpass.getpass("Again: ") != first:
-        raise Refusal("these are two passwords")
+    try:
+        first = getpass.getpass("Password: ")
+        if getpass.getpass("Again: ") != first:
+            raise Refusal("these are two passwords")
+    except (EOFError, UnicodeError):
+        raise Refusal("no password was given") from None
     return first
 
 

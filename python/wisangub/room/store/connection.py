@@ -104,12 +104,16 @@ class Database:
 
     @contextlib.contextmanager
     def watched(self) -> Iterator[None]:
-        """A transaction in which a statement failed comes to nothing."""
+        """A transaction in which a statement failed comes to nothing. A word of a command line may be no UTF-8: none is
+        in a database."""
         try:
             yield
         except (Taken, Failed):
             self.is_spoilt = True
             raise
+        except UnicodeEncodeError as fault:
+            self.is_spoilt = True
+            raise Refusal(f"{ascii(fault.object)} is no UTF-8") from None
 
     def rows(self, sql: str, values: Row) -> list[Row]:
         """The rows of a statement of this database."""

@@ -42,4 +42,6 @@ def fault_of(password: str) -> str | None:
         return f"a password has {_LEAST} to {_MOST} characters"
     if len(set(password)) < 4:
         return "a password has at least four different characters"
+    if any("\ud800" <= one <= "\udfff" for one in password):
+        return "a password is written in UTF-8"
     return None
