@@ -11,7 +11,7 @@ from . import needs
 needs.modules("aiohttp", "jinja2")
 
 from wisangub.room import users as program
-from wisangub.room.store import factors, logins, queries, totp
+from wisangub.room.store import factors, history, logins, queries, totp
 from wisangub.room.store.database import Database
 
 from .visits import PASSWORD, Bench, Visitor, Visitors, run
@@ -68,6 +68,7 @@ def test_who_has_a_second_factor_gives_its_code(tmp_path: pathlib.Path, where: s
     async def act(bench: Bench, visitor: Visitors) -> None:
         held, one = bench.store.database, await bench.logged_in(visitor, "operator")
         offered = await shown(one)
+        offered["old"] = PASSWORD
         wrong = {**offered, "do": "begin", "code": "000000", "secret": totp.new_secret()}
         assert (await one.post("/account/factor", wrong))[0] == 403, "another secret than was shown"
         begun = {**offered, "do": "begin", "code": code_of(held, offered["secret"])}
@@ -84,6 +85,25 @@ def test_who_has_a_second_factor_gives_its_code(tmp_path: pathlib.Path, where: s
         ended = {"do": "end", "code": code_of(held, offered["secret"])}
         assert (await one.post("/account/factor", ended))[0] == 303 and (await one.get("/"))[0] == 303
         assert await log_in(visitor(), "") == 303
+
+    run(tmp_path, where, act)
+
+
+def test_whoever_finds_a_log_in_open_begins_no_second_factor(tmp_path: pathlib.Path, where: str) -> None:
+    """With a secret of his own he would keep its user out, who could not even change the password."""
+
+    async def act(bench: Bench, visitor: Visitors) -> None:
+        held, one = bench.store.database, await bench.logged_in(visitor, "operator")
+        offered = await shown(one)
+        for old in (None, "", "another password"):
+            begun = {**offered, "do": "begin", "code": code_of(held, offered["secret"])}
+            begun |= {} if old is None else {"old": old}
+            status, page, _ = await one.post("/account/factor", begun)
+            assert status == 403 and "the present password is another one" in page
+            logins.forgive(held, "operator")
+        assert factors.since(held, "operator") is None and await log_in(visitor(), "") == 303
+        said = [what for _, _, who, what in history.audit(held, None) if who == "operator"]
+        assert said.count("a wrong present password was given, from 127.0.0.1") == 3
 
     run(tmp_path, where, act)
 

@@ -5,6 +5,7 @@ from wisangub.refusal import Refusal
 from . import totp
 from .audit import note
 from .connection import Database
+from .users import check_secret
 from .values import time_of, whole
 
 
@@ -26,10 +27,11 @@ def is_code(database: Database, name: str, word: str) -> bool:
         return step is not None
 
 
-def enter(database: Database, name: str, secret: str, word: str) -> None:
-    """The user has a second factor from now on, which stands in the audit. Refused where the word is not its code, or
-    where he has one."""
+def enter(database: Database, name: str, secret: str, word: str, held: str | None = None) -> None:
+    """The user has a second factor from now on, which stands in the audit. Refused where the word is not its code,
+    where he has one, or no longer has what was kept of the password by which he asked."""
     with database.transaction(is_alone=True):
+        check_secret(database, name, held)
         if since(database, name) is not None:
             raise Refusal("there is a second factor already")
         step = totp.step_of(secret, word, time_of(database.run("SELECT {clock}")[0][0]), 0)

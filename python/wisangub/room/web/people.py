@@ -103,17 +103,22 @@ async def account(request: web.Request) -> web.Response:
 
 
 async def second_factor(request: web.Request) -> web.StreamResponse:
-    """Begins a second factor by the first code of the secret that the page showed, or ends it by a code of now."""
+    """Begins a second factor by the present password and the first code of the secret that the page showed, or ends it
+    by a code of now. Whoever finds somebody's log-in open shuts nobody out by a secret of his own."""
     service, visitor = service_of(request), visitor_of(request)
     fields = await request.post()
     do, secret, shown, code = (str(fields.get(key, "")) for key in ("do", "secret", "shown", "code"))
+    found = await _present(request, str(fields.get("old", ""))) if do == "begin" else None
+    if isinstance(found, web.Response):
+        return found
+    kept = found
     of = address_of(request, service.settings.is_behind_tls)
     if seconds := await sign_in.to_wait(service, visitor.name, of):
         return await _account_page(request, f"Nothing was changed: please try again in {seconds} s.", 429)
 
     def done(database: Database) -> None:
         if do == "begin" and service.seal.is_confirmation(shown, visitor.login, secret):
-            factors.enter(database, visitor.name, secret, code)
+            factors.enter(database, visitor.name, secret, code, kept)
         elif do != "end" or not factors.is_code(database, visitor.name, code):
             raise Refusal("this is not the code of now")
         else:
