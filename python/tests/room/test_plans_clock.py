@@ -103,6 +103,18 @@ def test_a_clock_that_is_set_again_and_again_is_not_believed(where: str) -> None
     assert asked(held) == [LINE]
 
 
+def test_a_clock_that_was_set_while_there_was_no_schedule_is_believed(where: str) -> None:
+    clocks, held, _ = begun(where)
+    (plan,) = plans.listed(held)
+    plans.end(held, plan.id, "me")
+    plans.remove_schedule(held, plan.id, plan.schedules[0].id, "me")
+    clocks.go(MINUTE, 2 * HOUR)
+    clocks.go(PATIENCE + 1)
+    plans.add_schedule(held, plan.id, around(queries.now(held)), "me")
+    clocks.go(5.0)
+    assert asked(held) == [LINE, OFF, LINE]
+
+
 def over_too_early(where: str) -> tuple[Clocks, Database, int]:
     """A plan that was ended by a clock which was ahead for long; it is back for some minutes."""
     clocks, held, sign = begun(where)

@@ -181,13 +181,14 @@ class Plans:
         self._said: set[str] = set()
 
     def look(self) -> None:
-        """Ends and begins plans, where none of the workers has looked just before."""
+        """Ends and begins plans, where none of the workers has looked just before. The clock is looked at each time, so
+        that one which was set long ago is believed where a schedule is made."""
+        self.steady.look(lambda: queries.now(self.database))
         if not self.database.run(
             "SELECT 1 FROM schedules UNION ALL"
             " SELECT 1 FROM plan_runs WHERE ended IS NULL AND until IS NOT NULL LIMIT 1"
         ):
             return
-        self.steady.look(lambda: queries.now(self.database))
         if self.steady.is_doubted and not self._was_doubted:
             words = "the database's clock was set: no plan begins or ends by it"
             LOG.warning(f"{words} for {PATIENCE / 60:.0f} minutes, or until it is back")
