@@ -1,5 +1,6 @@
 """Readings by a worker over a sign on loopback: what is shown, the table, and by which socket and numbers."""
 
+import contextlib
 import json
 import pathlib
 import threading
@@ -49,6 +50,27 @@ def test_a_fault_of_one_thing_ends_no_other(tmp_path: pathlib.Path, capfd: pytes
         reader.gets.close()
         assert is_looked and not thread.is_alive()
     assert capfd.readouterr().err.count("readings: ValueError: 'nobody thought of it'") == 1
+
+
+@pytest.mark.parametrize("part", ("readings", "tables", "devices", "brightness", "verdicts"))
+@pytest.mark.parametrize("does", ("keep", "begin"))
+def test_a_fault_that_stays_ends_no_other(
+    tmp_path: pathlib.Path, part: str, does: str, capfd: pytest.CaptureFixture[str]
+) -> None:
+    """As over what one sign says, at each look: alarms and plans are looked at all the same, and signs are read."""
+    with bench(tmp_path, str(tmp_path / "room.sqlite")) as at:
+        reader, looked = at.worker().reader, [threading.Semaphore(0) for _ in range(3)]
+        reader.next_alarms = 0.0
+        looks = reader.store.alarms, reader.store.plans, reader.gets
+        with contextlib.ExitStack() as stack:
+            stack.enter_context(mock.patch.object(getattr(reader, part), does, side_effect=ValueError("nobody knew")))
+            for held, name, one in zip(looks, ("look", "look", "again"), looked):
+                stack.enter_context(mock.patch.object(held, name, side_effect=one.release))
+            reader.start()
+            found = [one.acquire(timeout=60) for one in looked]
+            reader.stop()
+        assert found == [True] * 3
+    assert capfd.readouterr().err.count("readings: ValueError: 'nobody knew'") == 1
 
 
 def test_a_reading_has_a_socket_of_its_own(tmp_path: pathlib.Path, where: str) -> None:

@@ -8,6 +8,7 @@ its work between two rounds.
 import select
 import threading
 import time
+from typing import Callable
 
 from wisangub.room.fleet import Sign
 from wisangub.room.output import LOG
@@ -24,6 +25,7 @@ from .readings import Readings
 from .tables import Tables
 from .verdicts import Verdicts
 
+_MOST_SAID = 100  # faults that are known to be said
 _LONG = 15.0  # seconds that it fails before that is said: the worker itself says at once that a database is away
 
 
@@ -41,7 +43,7 @@ class Reader:
         self.next_look, self.next_alarms, self.next_plans = 0.0, time.monotonic() + EVERY, 0.0
         self.next_months = time.monotonic() + months.EVERY  # who opened the database has made those of now
         self.failing: float | None = None  # since when
-        self.said = ""  # of a fault of the program
+        self.said: set[str] = set()  # of faults of the program
         self.is_stopped = threading.Event()
         self.thread: threading.Thread | None = None
 
@@ -60,14 +62,15 @@ class Reader:
                 self._tell(fault)
                 self.is_stopped.wait(self.every)
             except Exception as fault:  # of one sign, or of one plan: all else is done all the same
-                self._say(f"{type(fault).__name__}: {str(fault)[:200]!r}")
+                self._say(fault)
                 self.is_stopped.wait(self.every)
 
-    def _say(self, words: str) -> None:
+    def _say(self, fault: Exception) -> None:
         """Says a fault of the program, once."""
-        if words != self.said:
+        words = f"{type(fault).__name__}: {str(fault)[:200]!r}"
+        if words not in self.said:
             LOG.error(f"readings: {words}")
-        self.said = words
+        self.said = {*(self.said if len(self.said) < _MOST_SAID else ()), words}
 
     def _tell(self, fault: Exception) -> None:
         """Says a fault that stays, once."""
@@ -95,27 +98,35 @@ class Reader:
         return [file for file, _ in ready.poll(1000 * wait)]
 
     def look(self) -> None:
-        """Keeps what was said, and asks for what is due."""
-        self.readings.keep()
-        self.tables.keep()
-        self.devices.keep()
-        self.brightness.keep()
-        self.verdicts.keep()
-        self.readings.begin()
-        self.tables.begin()
-        self.devices.begin()
-        self.brightness.begin()
-        self.verdicts.begin()
-        self.gets.again()
-        if time.monotonic() >= self.next_alarms:
-            self.next_alarms = time.monotonic() + EVERY
-            self.store.alarms.look()
-        if time.monotonic() >= self.next_plans:
-            self.next_plans = time.monotonic() + plans.EVERY
-            self.store.plans.look()
-        if time.monotonic() >= self.next_months:
-            self.next_months = time.monotonic() + months.EVERY
-            months.make(self.store.database)
+        """Keeps what was said, and asks for what is due; alarms, plans and months have their times."""
+        for act in (
+            *(self.readings.keep, self.tables.keep, self.devices.keep, self.brightness.keep, self.verdicts.keep),
+            *(self.readings.begin, self.tables.begin, self.devices.begin, self.brightness.begin, self.verdicts.begin),
+            self.gets.again,
+        ):
+            self._do(act)
+        now = time.monotonic()
+        if now >= self.next_alarms:
+            self.next_alarms = now + EVERY
+            self._do(self.store.alarms.look)
+        if now >= self.next_plans:
+            self.next_plans = now + plans.EVERY
+            self._do(self.store.plans.look)
+        if now >= self.next_months:
+            self.next_months = now + months.EVERY
+            self._do(lambda: months.make(self.store.database))
+
+    def _do(self, act: Callable[[], object]) -> None:
+        """In a thread a fault of the program, as over what one sign says, keeps nothing else from being done: no plan
+        from its end, and no alarm."""
+        try:
+            act()
+        except (Failed, Taken):
+            raise
+        except Exception as fault:
+            if self.thread is None:
+                raise
+            self._say(fault)
 
     def stop(self) -> None:
         """Ends the thread, and lets all Gets go."""
