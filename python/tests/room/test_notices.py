@@ -2,6 +2,7 @@
 
 import contextlib
 import datetime
+import errno
 import http.server
 import json
 import pathlib
@@ -18,7 +19,7 @@ import pytest
 from wisangub.refusal import Refusal
 from wisangub.room import notices
 from wisangub.room.notices import Mail, Notices, Quiet, Settings, Webhook
-from wisangub.room.store import alarms
+from wisangub.room.store import alarms, database
 from wisangub.room.store.alarms import Alarm
 from wisangub.room.store.readings import Said
 
@@ -315,6 +316,31 @@ def test_a_thread_tells(where: str) -> None:
         teller.stop()
         teller.thread.join(30)
         assert len(web.heard) == 1 and not teller.thread.is_alive()
+
+
+def test_a_thread_goes_on_to_tell_whatever_went_wrong(where: str, monkeypatch: pytest.MonkeyPatch) -> None:
+    """As a machine that has no file left: a thread that ended would tell nobody of anything, and nothing would say so."""
+    monkeypatch.setattr(notices, "EVERY", 0.05)
+    faults, opened = [OSError(errno.EMFILE, "too many open files"), MemoryError()], database.opened
+
+    def failing(*words: Any, **more: Any) -> Any:
+        if faults:
+            raise faults.pop()
+        return opened(*words, **more)
+
+    store, _, sign = two_stores(where)
+    store.readings.keep([Said(sign, -1, fault="no reply")])
+    store.alarms.look()
+    monkeypatch.setattr(database, "opened", failing)
+    with standing(Hook) as web:
+        teller = Notices(where, Settings((hook(web),)))
+        teller.start()
+        ends = time.monotonic() + 30
+        while not web.heard and time.monotonic() < ends:
+            time.sleep(0.05)
+        teller.stop()
+        teller.thread.join(30)
+        assert len(web.heard) == 1 and not faults
 
 
 def test_the_file_of_who_is_told(tmp_path: pathlib.Path) -> None:

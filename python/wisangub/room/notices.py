@@ -39,7 +39,7 @@ from wisangub.refusal import Refusal, reason
 from .output import LOG
 from .store import alarms, database
 from .store.alarms import EVERY, KINDS, Alarm
-from .store.database import Database, Failed, Taken
+from .store.database import Database
 
 _PATIENCE = 10.0  # seconds that a server is waited for
 _LIMIT = 20.0  # seconds that telling one takes at most, whatever its server does
@@ -260,8 +260,8 @@ class Notices:
                     self.tell(held)
                 finally:
                     held.close()
-            except (Failed, Taken, Refusal) as fault:
-                self._say("database", str(fault))
+            except Exception as fault:  # whatever it is, the next alarm is told
+                self._say("database", str(fault) or type(fault).__name__)
 
     def tell(self, database: Database) -> None:
         """Tells each target of what it was not told of."""
