@@ -92,7 +92,9 @@ def test_who_has_no_name_at_the_machine_is_told_by_his_number(tmp_path: pathlib.
     """As in a container that runs under any number."""
     where = str(tmp_path / "database")
     words = "import os, sys; os.setuid(int(sys.argv[1])); os.execv(sys.executable, [sys.executable, *sys.argv[2:]])"
-    path = {name: value for name, value in environment().items() if name not in ("LOGNAME", "USER", "LNAME", "USERNAME")}
+    path = {
+        name: value for name, value in environment().items() if name not in ("LOGNAME", "USER", "LNAME", "USERNAME")
+    }
     os.chown(tmp_path, NOBODY, NOBODY)
     for folder in (tmp_path.parent, tmp_path.parent.parent):
         folder.chmod(0o711)

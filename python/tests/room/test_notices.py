@@ -319,7 +319,7 @@ def test_a_thread_tells(where: str) -> None:
 
 
 def test_a_thread_goes_on_to_tell_whatever_went_wrong(where: str, monkeypatch: pytest.MonkeyPatch) -> None:
-    """As a machine that has no file left: a thread that ended would tell nobody of anything, and nothing would say so."""
+    """As a machine that has no file left: of a thread that ended nobody would hear, and nothing would say so."""
     monkeypatch.setattr(notices, "EVERY", 0.05)
     faults, opened = [OSError(errno.EMFILE, "too many open files"), MemoryError()], database.opened
 

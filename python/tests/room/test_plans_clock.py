@@ -15,7 +15,6 @@ from wisangub.room.store.steady import PATIENCE, SLACK, Steady
 from wisangub.room.store.store import Store
 from wisangub.room.times import Times
 
-from .people import person
 from .test_clock import jump
 from .test_database import BLANK, OTHER, SIGN, two_stores
 from .test_plans import HOUR, LINE, OFF, lines, look, planned

@@ -210,7 +210,8 @@ class Commands:
         return bool(rows)
 
     def waiting(self, seconds: float | None = None) -> set[int]:
-        """The commands whose turn has not come: all, or those that were asked for so long ago by the database's clock."""
+        """The commands whose turn has not come: all, or those that were asked for so long ago by the database's
+        clock."""
         late = "" if seconds is None else " AND asked_at + ? < {clock}"
         rows = self._run(f"SELECT id FROM commands WHERE {_WAITS}{late}", *([] if seconds is None else [seconds]))
         return {whole(row[0]) for row in rows}

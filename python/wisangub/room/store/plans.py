@@ -171,8 +171,8 @@ def end(database: Database, number: int, who: str) -> None:
 
 
 class Plans:
-    """Looks for what is due. While the database's clock is doubted nothing is: one that is set ahead for a while ends no
-    plan of weeks."""
+    """Looks for what is due. While the database's clock is doubted nothing is: one that is set ahead for a while ends
+    no plan of weeks."""
 
     def __init__(self, database: Database) -> None:
         self.database = database
