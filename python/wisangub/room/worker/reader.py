@@ -117,8 +117,8 @@ class Reader:
             self._do(lambda: months.make(self.store.database))
 
     def _do(self, act: Callable[[], object]) -> None:
-        """In a thread a fault of the program, as over what one sign says, keeps nothing else from being done: plans end,
-        and alarms are told."""
+        """In a thread a fault of the program, as over what one sign says, keeps nothing else from being done: plans
+        end, and alarms are told."""
         try:
             act()
         except (Failed, Taken):
