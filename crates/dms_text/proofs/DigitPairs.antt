@@ -1,17 +1,13 @@
 -- A word spells octets where it is one pair of digits or more.
-use Rattle.std.proofs.Common.{◌≡◌, ℕ, ◌*◌, ◌%◌, ◌==◌, ◌<◌, ◌&&◌, Bool, true, false, List, [], ◌∷◌, length, Option, Some, None, is_some, Result, Ok, Err, refl, sym, ap, ◌∙◌, arith}
+use Rattle.std.proofs.Common.{◌≡◌, ℕ, ◌*◌, ◌%◌, ◌==◌, ◌<◌, ◌&&◌, Bool, true, false, cond, List, [], ◌∷◌, length, Option, Some, None, is_some, Result, Ok, Err, refl, sym, ap, ◌∙◌, arith}
 use Rattle.std.specs.Prelude.{nat_lt}
 use Rattle.std.specs.List.{list_all, AllPass}
-use Rattle.std.specs.Char.{is_ascii_hexdigit}
 use Rattle.std.proofs.lemmas.Bool.{and_parts, ltb-true, lt-ltb, eqb-true, eq-eqb}
 use Rattle.std.proofs.lemmas.List.Elements.{All-cons, All-head, All-nil, All-tail}
 use Rattle.hex.specs.Hex.{decode_of, is_hex_digit}
 use Rattle.hex.specs.declared.error.FromHexError.{FromHexError}
 use Rattle.hex.proofs.HexLemmas.{decode_of-ok, decode_of-digits}
-use Rattle.dms_text.specs.Reading.{octets_decoded, are_pairs}
-
-pub digit_test : (c : ℕ) → is_ascii_hexdigit c ≡ is_hex_digit c
-digit_test c = grind arith
+use Rattle.dms_text.specs.Reading.{is_dash, octets_of, octets_decoded, are_pairs}
 
 abbrev IsDigit : ℕ → Type 0
 IsDigit c = is_hex_digit c ≡ true
@@ -68,3 +64,22 @@ spelled word are = sym (pairs word) ∙ are
 
 pub not_spelled : (word : List ℕ) → are_pairs word ≡ false → None ≡ octets_decoded (decode_of word)
 not_spelled word not = none_of _ (sym (pairs word) ∙ not)
+
+pub not_digits : (word : List ℕ) → list_all is_hex_digit word ≡ false → None ≡ octets_decoded (decode_of word)
+not_digits word not = not_spelled word (none (nat_lt 0 (length word)) (length word % 2 == 0) (list_all is_hex_digit word) not)
+  where
+    none : (some even digits : Bool) → digits ≡ false → (some && (even && digits)) ≡ false
+    none true true digits e = e
+    none true false digits e = refl
+    none false even digits e = refl
+
+pub not_even : (word : List ℕ) → is_dash word ≡ false → (nat_lt 0 (length word) && length word % 2 == 0) ≡ false → None ≡ octets_of word
+unfolding octets_of
+not_even word dash odd =
+    not_spelled word (none (nat_lt 0 (length word)) (length word % 2 == 0) (list_all is_hex_digit word) odd)
+    ∙ sym (ap (λ b. cond b (Some []) (octets_decoded (decode_of word))) dash)
+  where
+    none : (some even digits : Bool) → (some && even) ≡ false → (some && (even && digits)) ≡ false
+    none true true digits e = absurd cc
+    none true false digits e = refl
+    none false even digits e = refl

@@ -1,4 +1,5 @@
 pub mod DigitPairs
+pub mod ValueTable
 pub mod Splits
 mod Newlines
 pub mod LineLaws

@@ -1,5 +1,5 @@
 -- Reading a line from its beginning: a value and the words after it (this profile).
-use Rattle.std.specs.Prelude.{ℕ, ◌%◌, ◌==◌, ◌&&◌, Bool, true, false, if◌then◌else◌, List, [], ◌∷◌}
+use Rattle.std.specs.Prelude.{ℕ, ◌+◌, ◌-◌, ◌%◌, ◌==◌, ◌&&◌, Bool, true, false, if◌then◌else◌, List, [], ◌∷◌}
 use Rattle.std.specs.Prelude.{length, nat_lt, nat_le, Option, Some, None, Result, Ok, Err}
 use Rattle.std.specs.Char.{is_digit}
 use Rattle.std.specs.List.{list_all}
@@ -7,6 +7,16 @@ use Rattle.std.specs.Str.{byte}
 use Rattle.std.specs.Str.Parse.{digits_value}
 use Rattle.hex.specs.Hex.{decode_of, is_hex_digit}
 use Rattle.hex.specs.declared.error.FromHexError.{FromHexError}
+
+-- ---- digits
+
+-- the value of a hexadecimal digit: 256 more of a capital one, and 8192 of what is none
+abbrev pub digit_value : ℕ → ℕ
+digit_value octet =
+    if nat_le 48 octet && nat_le octet 57 then octet - 48
+    else if nat_le 97 octet && nat_le octet 102 then octet - 87
+    else if nat_le 65 octet && nat_le octet 70 then octet + 201
+    else 8192
 
 -- ---- what a word spells
 

@@ -1,12 +1,12 @@
 //! Octets as pairs of hexadecimal digits.
 
-ghost use Rattle.std.specs.Prelude.{◌≡◌, IfOk, OnErr, IsSome};
+ghost use Rattle.std.specs.Prelude.{◌≡◌, ◌<◌, ◌%◌, ◌==◌, ◌&&◌, IfOk, OnErr, IsSome, length, nat_lt};
 ghost use Rattle.std.specs.List.{list_all};
 ghost use Rattle.hex.specs.Hex.{decode_of, is_hex_digit};
 ghost use Rattle.dms_text.specs.Reading.{octets_of, octets_decoded, is_dash, are_pairs};
 ghost use Rattle.dms_text.specs.Views.{octets_found};
 
-use hex::FromHexError;
+use crate::digit_values::{is_digit, put_pairs};
 use std::alloc::{AllocError, Global};
 
 /// The octets that a word spells as pairs of hexadecimal digits, or no octets as `-`. Where it spells none, `Ok(None)`:
@@ -17,13 +17,29 @@ pub fn octets(alloc: Global, word: &[u8]) -> Result<Option<Vec<u8>>, AllocError>
     ensures memory { OnErr result (IsSome (octets_of word.now)) }
 {
     if is_dash(word) {
-        return Ok(Some(Vec::new(alloc)));
+        Ok(Some(Vec::new(alloc)))
+    } else if are_even(word) {
+        octets_of_pairs(alloc, word)
+    } else {
+        Ok(None)
     }
-    match hex::decode(alloc, word) {
-        Ok(octets) if octets.is_empty() => Ok(None),
-        Ok(octets) => Ok(Some(octets)),
-        Err(FromHexError::OutOfMemory) => unless_at_fault(word),
-        Err(_) => Ok(None),
+}
+
+/// The octets of one pair of digits or more.
+fn octets_of_pairs(alloc: Global, word: &[u8]) -> Result<Option<Vec<u8>>, AllocError>
+    requires some { 0 < length word.now }
+    requires even { length word.now % 2 ≡ 0 }
+    ensures octets { IfOk result (λ found. octets_found found ≡ octets_decoded (decode_of word.now)) }
+    ensures memory { OnErr result (IsSome (octets_decoded (decode_of word.now))) }
+{
+    let mut octets = match vec![in alloc; 0; word.len() / 2] {
+        Ok(octets) => octets,
+        Err(_) => return unless_at_fault(word),
+    };
+    if put_pairs(word, octets.as_mut_slice()) {
+        Ok(Some(octets))
+    } else {
+        Ok(None)
     }
 }
 
@@ -50,14 +66,21 @@ fn unless_at_fault(word: &[u8]) -> Result<Option<Vec<u8>>, AllocError>
 pub fn are_pairs(word: &[u8]) -> bool
     ensures { result ≡ are_pairs word.now }
 {
-    !word.is_empty() && word.len() % 2 == 0 && are_digits(word)
+    are_even(word) && are_digits(word)
+}
+
+/// Whether a word has as many octets as pairs have, one pair or more.
+fn are_even(word: &[u8]) -> bool
+    ensures { result ≡ (nat_lt 0 (length word.now) && length word.now % 2 == 0) }
+{
+    !word.is_empty() && word.len() % 2 == 0
 }
 
 fn are_digits(word: &[u8]) -> bool
     ensures { result ≡ list_all is_hex_digit word.now }
 {
     for octet in word {
-        if !octet.is_ascii_hexdigit() {
+        if !is_digit(*octet) {
             return false;
         }
     }

@@ -15,12 +15,14 @@
 #![tactic(auto)]
 
 mod digit_pairs;
+mod digit_values;
 mod lines;
 mod numbers;
 mod parts;
 mod words;
 
 pub use digit_pairs::{are_pairs, is_dash, octets};
+pub use digit_values::digit_value;
 pub use lines::{Line, Lines};
 pub use numbers::{hexadecimal, number, version};
 pub use parts::{index_of, split_once};

@@ -1,4 +1,4 @@
--- Pairs of small digits are looked up, and decode to what they spell.
+-- Words of pairs of small digits decode to what they spell.
 use Rattle.std.proofs.Common.{◌≡◌, ℕ, zero, suc, ◌+◌, ◌-◌, ◌*◌, ◌/◌, ◌%◌, ◌<◌, ◌≤◌, ◌&&◌, Bool, true, false, T, eqb, get_or, inl, inr, arith, eq-zero-or-pos, eqb→eq, List, [], ◌∷◌, length, take, slice_index, is_some, cond, ◌||◌, Option, Some, None, refl, sym, ap, ◌∙◌}
 use Rattle.std.specs.List.{list_all}
 use Rattle.std.proofs.lemmas.Bool.{and_parts, and_from, le-leb, lt-ltb, eq-eqb, cases_Bool}
@@ -8,45 +8,8 @@ use lib.Ieee.Fits.{and_l, and_r}
 use Rattle.hex.specs.Hex.{decode_of}
 use Rattle.dms_text.specs.Reading.{is_dash, octets_of, octets_decoded}
 use Rattle.dms_text.proofs.DigitPairs.{pairs}
-use Rattle.dms_text_exact.specs.ExactWords.{is_small_digit, small_value, are_written, octets_in, small_decoded}
-use Rattle.dms_text_exact.specs.declared.pairs.TheConstants.{VALUES}
+use Rattle.dms_text_exact.specs.ExactWords.{is_small_digit, are_written, octets_in, small_decoded}
 use Rattle.dms_text_exact.proofs.DigitLaws.{are_even, small_is_hex, whole_of, not_written}
-
--- ---- the table
-
--- the values of the octets below a number are theirs
-abbrev are_values : ℕ → Bool
-are_values zero = true
-are_values (suc n) = eqb (get_or VALUES n 0) (small_value n) && are_values n
-
-below : (n octet : ℕ) → T (are_values n) → octet < n → get_or VALUES octet 0 ≡ small_value octet
-below zero octet t h = absurd (omega arith)
-below (suc n) octet t h =
-    elim (eq-zero-or-pos (n - octet)) [
-      | inl z ↦ let e : octet ≡ n = omega arith in rw e (eqb→eq _ _ (and_l _ (are_values n) t))
-      | inr g ↦ below n octet (and_r _ (are_values n) t) (omega arith)
-    ]
-
-pub value_at : (octet from : ℕ) → octet < 256 → from ≡ octet → get_or VALUES from 0 ≡ small_value octet
-value_at octet from h is = ap (λ n. get_or VALUES n 0) is ∙ below 256 octet tt h
-
-value_most : (octet : ℕ) → octet < 256 → small_value octet ≤ 256
-value_most octet h = grind (arith, nat_tests)
-
-pub most_at : (octet from : ℕ) → octet < 256 → from ≡ octet → get_or VALUES from 0 ≤ 256
-most_at octet from h is = omega (arith, value_at octet from h is, value_most octet h)
-
--- ---- pairs
-
-pub small_more : (word : List ℕ) (index : ℕ) → 2 * index + 1 < length word
-    → true ≡ (is_small_digit (slice_index word (2 * index)) && is_small_digit (slice_index word (2 * index + 1)))
-    → list_all is_small_digit (take (2 * index) word) ≡ true → list_all is_small_digit (take (2 * (index + 1)) word) ≡ true
-small_more word index fits pair all =
-    let both = and_parts _ _ (sym pair) in
-    let one = list_all_more is_small_digit word (2 * index) 0 (omega arith) ∙ and_from _ _ all both.0 in
-    let two = list_all_more is_small_digit word (2 * index + 1) 0 fits ∙ and_from _ _ one both.1 in
-    let at : 2 * (index + 1) ≡ 2 * index + 1 + 1 = omega arith in
-    ap (λ n. list_all is_small_digit (take n word)) at ∙ two
 
 -- ---- the words of pairs
 

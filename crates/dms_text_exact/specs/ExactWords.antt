@@ -1,6 +1,6 @@
 -- Words in their only spelling (this profile): of the spellings that a word of a description may have, a state's text
 -- takes the one that is written. No number has a needless zero, and octets have small digits.
-use Rattle.std.specs.Prelude.{ℕ, ℤ, ◌-◌, ◌/◌, ◌==◌, ◌&&◌, ◌||◌, Bool, false, if◌then◌else◌, List, [], ◌∷◌, length}
+use Rattle.std.specs.Prelude.{ℕ, ℤ, ◌/◌, ◌==◌, ◌&&◌, ◌||◌, Bool, false, if◌then◌else◌, List, [], ◌∷◌, length}
 use Rattle.std.specs.Prelude.{nat_le, Option, Some, None, Result, Ok, Err}
 use Rattle.std.specs.List.{list_all, list_any}
 use Rattle.std.specs.Str.{byte}
@@ -36,13 +36,6 @@ address_in word = if list_any has_needless_zero (parts_of (byte ".") word) then 
 
 abbrev pub is_small_digit : ℕ → Bool
 is_small_digit octet = (nat_le 48 octet && nat_le octet 57) || (nat_le 97 octet && nat_le octet 102)
-
--- the value of a small digit, and 256 of what is none
-abbrev pub small_value : ℕ → ℕ
-small_value octet =
-    if nat_le 48 octet && nat_le octet 57 then octet - 48
-    else if nat_le 97 octet && nat_le octet 102 then octet - 87
-    else 256
 
 -- the length of at most so many octets, and small digits or a dash
 abbrev pub are_written : ℕ → List ℕ → Bool

@@ -1,37 +1,11 @@
-//! Pairs of small hexadecimal digits, looked up in a table.
+//! Pairs of small hexadecimal digits.
 
-ghost use Rattle.std.specs.Prelude.{◌≡◌, ◌≤◌, ◌*◌, ◌&&◌, ℕ, true, length, Ok, IfSome, is_some};
+ghost use Rattle.std.specs.Prelude.{◌≡◌, ◌*◌, ◌&&◌, ℕ, true, length, Ok, IfSome, is_some};
 ghost use Rattle.std.specs.List.{list_all};
 ghost use Rattle.hex.specs.Hex.{decode_of, pair_value};
-ghost use Rattle.dms_text_exact.specs.ExactWords.{is_small_digit, small_value};
+ghost use Rattle.dms_text_exact.specs.ExactWords.{is_small_digit};
 
-/// For each octet the value of the small digit that it is, and 256 where it is none: two digits of which one is none
-/// have no value of one octet.
-const VALUES: [u16; 256] = [
-    256, 256, 256, 256, 256, 256, 256, 256, 256, 256, 256, 256, 256, 256, 256, 256, 256, 256, 256,
-    256, 256, 256, 256, 256, 256, 256, 256, 256, 256, 256, 256, 256, 256, 256, 256, 256, 256, 256,
-    256, 256, 256, 256, 256, 256, 256, 256, 256, 256, 0, 1, 2, 3, 4, 5, 6, 7, 8, 9, 256, 256, 256,
-    256, 256, 256, 256, 256, 256, 256, 256, 256, 256, 256, 256, 256, 256, 256, 256, 256, 256, 256,
-    256, 256, 256, 256, 256, 256, 256, 256, 256, 256, 256, 256, 256, 256, 256, 256, 256, 10, 11,
-    12, 13, 14, 15, 256, 256, 256, 256, 256, 256, 256, 256, 256, 256, 256, 256, 256, 256, 256, 256,
-    256, 256, 256, 256, 256, 256, 256, 256, 256, 256, 256, 256, 256, 256, 256, 256, 256, 256, 256,
-    256, 256, 256, 256, 256, 256, 256, 256, 256, 256, 256, 256, 256, 256, 256, 256, 256, 256, 256,
-    256, 256, 256, 256, 256, 256, 256, 256, 256, 256, 256, 256, 256, 256, 256, 256, 256, 256, 256,
-    256, 256, 256, 256, 256, 256, 256, 256, 256, 256, 256, 256, 256, 256, 256, 256, 256, 256, 256,
-    256, 256, 256, 256, 256, 256, 256, 256, 256, 256, 256, 256, 256, 256, 256, 256, 256, 256, 256,
-    256, 256, 256, 256, 256, 256, 256, 256, 256, 256, 256, 256, 256, 256, 256, 256, 256, 256, 256,
-    256, 256, 256, 256, 256, 256, 256, 256, 256, 256, 256, 256, 256, 256, 256, 256, 256, 256, 256,
-    256, 256, 256, 256,
-];
-
-/// The value of a small digit, and 256 of what is none.
-#[inline(always)]
-fn small_value(octet: u8) -> u16
-    ensures value { result ≡ small_value octet }
-    ensures most { result ≤ 256 }
-{
-    VALUES[usize::from(octet)]
-}
+use dms_text::digit_value;
 
 /// The octet that two small digits spell.
 #[inline(always)]
@@ -39,7 +13,7 @@ fn octet_of(high: u8, low: u8) -> Option<u8>
     ensures small { is_some result ≡ (is_small_digit high && is_small_digit low) }
     ensures octet { IfSome result (λ octet. (index : ℕ) → pair_value high low index ≡ Ok octet) }
 {
-    let number = small_value(high) * 16 + small_value(low);
+    let number = digit_value(high) * 16 + digit_value(low);
     if number <= 255 {
         Some(number as u8)
     } else {

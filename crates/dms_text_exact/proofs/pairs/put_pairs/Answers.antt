@@ -1,12 +1,13 @@
 use Rattle.std.proofs.Common.{◌*◌, arith, ◌∙◌}
 use Rattle.hex.proofs.HexLemmas.{decode_of-even}
 use Rattle.hex.proofs.Pairs.{decode_step, decode_done}
-use Rattle.dms_text_exact.proofs.PairLaws.{small_more}
+use Rattle.dms_text.proofs.ValueTable.{pairs_more}
+use Rattle.dms_text_exact.specs.ExactWords.{is_small_digit}
 use Rattle.dms_text_exact.proofs.pairs.put_pairs.Goals as goal
 
 pub pairs-preserved : goal.pairs-preserved
 pairs-preserved c = (
-  small_more c.args.word.now c.pairs.index (omega arith) c.in-Some.ensures.small c.pairs.invariant.0,
+  pairs_more is_small_digit c.args.word.now c.pairs.index (omega arith) c.in-Some.ensures.small c.pairs.invariant.0,
   decode_step _ _ c.pairs.index _ (omega arith) (omega arith) (c.in-Some.ensures.octet (2 * c.pairs.index)) c.pairs.invariant.1,
 )
 
