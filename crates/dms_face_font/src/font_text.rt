@@ -4,8 +4,8 @@
 ghost use Rattle.std.specs.Prelude.{◌≡◌, ◌+◌, ◌*◌, ◌/◌, ◌≤◌, ◌⊎◌, length, option_map, IfSome, IfOk, IfErr, OnOk, OnErr};
 ghost use Rattle.dms_text.specs.Lines.{lines_left};
 ghost use Rattle.dms_text.specs.Words.{words_of};
-ghost use Rattle.dms_face_font.specs.Glyph.{GlyphModel};
-ghost use Rattle.dms_face_font.specs.Font.{FontModel, IsGlyph};
+ghost use Rattle.dms_face_font.specs.Glyph.{glyph_from, IsPicture};
+ghost use Rattle.dms_face_font.specs.Font.{FontModel};
 ghost use Rattle.dms_face_font.specs.FontText.{SpellsFont};
 ghost use Rattle.dms_face_font.specs.FontReading.{labelled_at, version_at, header_of, glyph_words, are_enough};
 ghost use Rattle.dms_face_font.specs.FontReading.{bitmap_read};
@@ -85,19 +85,20 @@ fn are_enough(width: u8, height: u8, bits: &[u8]) -> bool
     bits.len() == (width as usize * height as usize + 7) / 8
 }
 
-/// The character of a line, in a font of this height.
+/// What the line of a character says in a font of this height, and the octets of its picture.
 #[tactic(auto, unfolding(crate::specs::FontReading::glyph_read))]
-fn glyph(alloc: Global, height: u8, line: &[u8]) -> Result<Glyph, FontFaultKind>
+fn glyph(alloc: Global, height: u8, line: &[u8]) -> Result<(GlyphLine<'_>, Vec<u8>), FontFaultKind>
     requires least { 1 ≤ height }
     requires greatest { height ≤ 32 }
-    ensures read { GivesOrMemory (λ (glyph : GlyphModel). glyph) result (glyph_read height line.now) }
-    ensures limits { IfOk result (IsGlyph height) }
+    ensures read { GivesOrMemory (λ x. glyph_from x.0.character x.0.width height x.1.items) result
+        (glyph_read height line.now) }
+    ensures picture { IfOk result (λ x. IsPicture x.0.character x.0.width height x.1.items) }
 {
     let Some(said) = glyph_line(line) else {
         return Err(FontFaultKind::Glyph);
     };
     let bits = bitmap(alloc, said.width, height, said.bits)?;
-    Ok(Glyph::new(said.character, said.width, height, bits))
+    Ok((said, bits))
 }
 
 fn fault_at(kind: FontFaultKind, line: usize) -> FontFault
@@ -154,16 +155,20 @@ impl Font {
             ⊎ (glyph_added self.old line.now ≡ Err kind)) }
         ensures same { OnErr result (self.new ≡ self.old) }
     {
-        let glyph = glyph(alloc, self.height, line)?;
-        let character = glyph.character();
+        let (said, bits) = glyph(alloc, self.height, line)?;
+        let GlyphLine {
+            character,
+            width,
+            ..
+        } = said;
         if self.has(character) {
             return Err(FontFaultKind::Twice);
         }
         if self.glyphs.len() >= MAX_GLYPHS {
             return Err(FontFaultKind::TooMany);
         }
-        let width = glyph.width();
         let place = self.glyphs.len() as u8;
+        let glyph = Glyph::new(character, width, self.height, bits);
         match self.glyphs.push(glyph) {
             Ok(()) => {
                 set_place(&mut self.places, character, place);

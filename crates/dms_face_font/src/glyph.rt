@@ -45,7 +45,8 @@ impl Glyph {
         ensures value { result ≡ glyph_from character width height bits.items }
         ensures limits { IsGlyph height result }
     {
-        let rows = rows(width, height, bits.as_slice());
+        let mut rows = [0; MAX_HEIGHT];
+        put_rows(width, height, bits.as_slice(), &mut rows);
         let count = usize::from(width) * usize::from(height);
         Glyph {
             character,
@@ -214,12 +215,12 @@ fn take_row(bits: &mut HeldBits<'_>, width: u32) -> u32
     row as u32
 }
 
-/// The rows of a picture whose bits these octets are, as numbers.
-fn rows(width: u8, height: u8, bits: &[u8]) -> [u32; MAX_HEIGHT]
+/// Puts the rows of a picture whose bits these octets are, as numbers.
+fn put_rows(width: u8, height: u8, bits: &[u8], rows: &mut [u32; MAX_HEIGHT])
     requires width { width ≤ 32 }
     requires height { height ≤ 32 }
     requires room { width * height ≤ 8 * length bits.now }
-    ensures { take height result ≡ map row_number (rows_of width height (bits_of bits.now)) }
+    ensures { take height rows.new ≡ map row_number (rows_of width height (bits_of bits.now)) }
 {
     let width = u32::from(width);
     let mut left = HeldBits {
@@ -227,9 +228,7 @@ fn rows(width: u8, height: u8, bits: &[u8]) -> [u32; MAX_HEIGHT]
         count: 0,
         octets: bits,
     };
-    let mut rows = [0; MAX_HEIGHT];
     for row in 0..usize::from(height) {
         rows[row] = take_row(&mut left, width);
     }
-    rows
 }

@@ -4,12 +4,12 @@ use Rattle.dms_face_font.specs.Glyph.{bits_of, rows_of, row_number}
 use Rattle.dms_face_font.specs.Held.{left_of}
 use Rattle.dms_face_font.proofs.RowNumbers.{one_row_more, all_rows}
 use Rattle.dms_face_font.proofs.HeldLaws.{row_inside}
-use Rattle.dms_face_font.proofs.glyph.rows.Goals as goal
+use Rattle.dms_face_font.proofs.glyph.put_rows.Goals as goal
 
 pub loop-row-init : goal.loop-row-init
 loop-row-init c = record {
   front = refl;
-  long = refl;
+  long = omega arith;
   left = ap (λ k. drop k (bits_of c.args.bits.now)) (let e : 0 ≡ 0 * c.from-width.result = omega arith in e);
   held = record { few = omega arith; small = omega arith };
 }

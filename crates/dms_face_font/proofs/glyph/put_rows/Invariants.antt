@@ -1,7 +1,7 @@
 use Rattle.std.proofs.Common.{◌≡◌, ◌*◌, length, map, take, drop}
 use Rattle.dms_face_font.specs.Glyph.{row_number, rows_of, bits_of}
 use Rattle.dms_face_font.specs.Held.{left_of, AreHeld}
-use Rattle.dms_face_font.proofs.glyph.rows.Given as goal
+use Rattle.dms_face_font.proofs.glyph.put_rows.Given as goal
 
 abbrev pub invariant-loop-row : goal.invariant-loop-row
 invariant-loop-row l = record {
