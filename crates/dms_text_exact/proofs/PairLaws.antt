@@ -1,10 +1,8 @@
 -- Words of pairs of small digits decode to what they spell.
-use Rattle.std.proofs.Common.{◌≡◌, ℕ, zero, suc, ◌+◌, ◌-◌, ◌*◌, ◌/◌, ◌%◌, ◌<◌, ◌≤◌, ◌&&◌, Bool, true, false, T, eqb, get_or, inl, inr, arith, eq-zero-or-pos, eqb→eq, List, [], ◌∷◌, length, take, slice_index, is_some, cond, ◌||◌, Option, Some, None, refl, sym, ap, ◌∙◌}
+use Rattle.std.proofs.Common.{◌≡◌, ℕ, ◌/◌, ◌%◌, ◌<◌, ◌≤◌, ◌&&◌, true, false, inl, inr, arith, List, [], ◌∷◌, length, is_some, cond, ◌||◌, Option, Some, None, refl, sym, ap, ◌∙◌}
 use Rattle.std.specs.List.{list_all}
-use Rattle.std.proofs.lemmas.Bool.{and_parts, and_from, le-leb, lt-ltb, eq-eqb, cases_Bool}
+use Rattle.std.proofs.lemmas.Bool.{and_from, le-leb, lt-ltb, eq-eqb, cases_Bool}
 use Rattle.std.proofs.lemmas.Bool.Decides.{nat_tests}
-use Rattle.std.proofs.lemmas.List.Folds.{list_all_more}
-use lib.Ieee.Fits.{and_l, and_r}
 use Rattle.hex.specs.Hex.{decode_of}
 use Rattle.dms_text.specs.Reading.{is_dash, octets_of, octets_decoded}
 use Rattle.dms_text.proofs.DigitPairs.{pairs}
