@@ -9,7 +9,7 @@ use Rattle.hex.specs.Hex.{decode_of, IsBytes}
 use Rattle.hex.specs.declared.error.FromHexError.{FromHexError}
 use Rattle.hex.proofs.HexLemmas.{decode_of-ok}
 use Rattle.dms_text.specs.Words.{words_of}
-use Rattle.dms_text.proofs.WordLaws.{begun, goes_on, word_found, word_only, decimal_found, decimal_only}
+use Rattle.dms_text.proofs.WordLaws.{begun_as, goes_on, word_found, word_only, decimal_found, decimal_only}
 use Rattle.dms_codes.specs.declared.codes.Order.{Order}
 use Rattle.dms_codes.specs.declared.codes.Order.TheVariants.{High, Swapped}
 use Rattle.dms_codes.specs.declared.codes.Activation.{Activation}
@@ -117,25 +117,24 @@ record FoundCode (order : Order) (words : List (List ℕ)) (found : Activation �
 next_code_found : (order : Order) (words : List (List ℕ)) (found : Activation × List (List ℕ)) → code_at order words ≡ Some found → FoundCode order words found
 unfolding code_at
 next_code_found order words found e =
-    let read = begun _ _ _ e in
-    let code = begun _ _ _ read.2 in
+    let read = begun_as _ _ _ (word_found words) e in
+    let code = begun_as _ _ _ (code_found order read.0.0) read.2 in
     subst (FoundCode order words) (same_Some _ _ code.2) (record {
       word = read.0.0;
-      words_are = (word_found words read.0 read.1).0;
-      spelled = code_found order read.0.0 code.0 code.1;
+      words_are = read.1.0;
+      spelled = code.1;
     })
 
 last_code_found : (order : Order) (keyword : List ℕ) (words : List (List ℕ)) (code : Activation) → last_code_at order words ≡ Some code
     → SpellsOne keyword (SpellsCode order code) (keyword ∷ words)
 unfolding last_code_at
 last_code_found order keyword words code e =
-    let read = begun _ _ _ e in
-    let at_code = next_code_found order words read.0 read.1 in
+    let read = begun_as _ _ _ (next_code_found order words) e in
     let end = last_found read.0.0 read.0.1 code read.2 in
     record {
-      word = at_code.word;
-      words_are = ap (λ rest. keyword ∷ rest) (at_code.words_are ∙ ap (λ rest. at_code.word ∷ rest) end.0);
-      spelled = subst (λ c. SpellsCode order c at_code.word) end.1 at_code.spelled;
+      word = read.1.word;
+      words_are = ap (λ rest. keyword ∷ rest) (read.1.words_are ∙ ap (λ rest. read.1.word ∷ rest) end.0);
+      spelled = subst (λ c. SpellsCode order c read.1.word) end.1 read.1.spelled;
     }
 
 last_code_only : (order : Order) (word : List ℕ) (code : Activation) → SpellsCode order code word → last_code_at order (word ∷ []) ≡ Some code
@@ -157,16 +156,14 @@ record FoundRow (words : List (List ℕ)) (found : RowId × List (List ℕ)) : T
 row_found : (words : List (List ℕ)) (found : RowId × List (List ℕ)) → row_at words ≡ Some found → FoundRow words found
 unfolding row_at
 row_found words found e =
-    let memory = begun _ _ _ e in
-    let number = begun _ _ _ memory.2 in
-    let at_memory = decimal_found 0 255 words memory.0 memory.1 in
-    let at_number = decimal_found 0 65535 memory.0.1 number.0 number.1 in
+    let memory = begun_as _ _ _ (decimal_found 0 255 words) e in
+    let number = begun_as _ _ _ (decimal_found 0 65535 memory.0.1) memory.2 in
     subst (FoundRow words) (same_Some _ _ number.2) (record {
-      memory_word = at_memory.word;
-      number_word = at_number.word;
-      words_are = at_memory.words_are ∙ ap (λ rest. at_memory.word ∷ rest) at_number.words_are;
-      memory = at_memory.spelled;
-      number = at_number.spelled;
+      memory_word = memory.1.word;
+      number_word = number.1.word;
+      words_are = memory.1.words_are ∙ ap (λ rest. memory.1.word ∷ rest) number.1.words_are;
+      memory = memory.1.spelled;
+      number = number.1.spelled;
     })
 
 row_only : (memory number : ℕ) (memory_word number_word : List ℕ) (rest : List (List ℕ)) → SpellsOctet memory memory_word
@@ -189,21 +186,18 @@ record FoundAttributes (words : List (List ℕ)) (found : Attributes × List (Li
 attributes_found : (words : List (List ℕ)) (found : Attributes × List (List ℕ)) → attributes_at words ≡ Some found → FoundAttributes words found
 unfolding attributes_at
 attributes_found words found e =
-    let beacon = begun _ _ _ e in
-    let pixel = begun _ _ _ beacon.2 in
-    let run = begun _ _ _ pixel.2 in
-    let at_beacon = decimal_found 0 255 words beacon.0 beacon.1 in
-    let at_pixel = decimal_found 0 255 beacon.0.1 pixel.0 pixel.1 in
-    let at_run = decimal_found 0 255 pixel.0.1 run.0 run.1 in
+    let beacon = begun_as _ _ _ (decimal_found 0 255 words) e in
+    let pixel = begun_as _ _ _ (decimal_found 0 255 beacon.0.1) beacon.2 in
+    let run = begun_as _ _ _ (decimal_found 0 255 pixel.0.1) pixel.2 in
     subst (FoundAttributes words) (same_Some _ _ run.2) (record {
-      beacon_word = at_beacon.word;
-      pixel_word = at_pixel.word;
-      run_word = at_run.word;
-      words_are = at_beacon.words_are ∙ ap (λ rest. at_beacon.word ∷ rest) (at_pixel.words_are
-          ∙ ap (λ rest. at_pixel.word ∷ rest) at_run.words_are);
-      beacon = at_beacon.spelled;
-      pixel = at_pixel.spelled;
-      run_priority = at_run.spelled;
+      beacon_word = beacon.1.word;
+      pixel_word = pixel.1.word;
+      run_word = run.1.word;
+      words_are = beacon.1.words_are ∙ ap (λ rest. beacon.1.word ∷ rest) (pixel.1.words_are
+          ∙ ap (λ rest. pixel.1.word ∷ rest) run.1.words_are);
+      beacon = beacon.1.spelled;
+      pixel = pixel.1.spelled;
+      run_priority = run.1.spelled;
     })
 
 attributes_only : (beacon pixel run_priority : ℕ) (beacon_word pixel_word run_word : List ℕ) (rest : List (List ℕ))
@@ -224,12 +218,12 @@ record FoundAddress (words : List (List ℕ)) (found : List ℕ × List (List �
 next_address_found : (words : List (List ℕ)) (found : List ℕ × List (List ℕ)) → next_address_at words ≡ Some found → FoundAddress words found
 unfolding next_address_at
 next_address_found words found e =
-    let read = begun _ _ _ e in
-    let address = begun _ _ _ read.2 in
+    let read = begun_as _ _ _ (word_found words) e in
+    let address = begun_as _ _ _ (address_found read.0.0) read.2 in
     subst (FoundAddress words) (same_Some _ _ address.2) (record {
       word = read.0.0;
-      words_are = (word_found words read.0 read.1).0;
-      spelled = address_found read.0.0 address.0 address.1;
+      words_are = read.1.0;
+      spelled = address.1;
     })
 
 record FoundTerms (words : List (List ℕ)) (terms : Terms) : Type 0 where
@@ -244,22 +238,19 @@ record FoundTerms (words : List (List ℕ)) (terms : Terms) : Type 0 where
 terms_found : (words : List (List ℕ)) (terms : Terms) → last_terms_at words ≡ Some terms → FoundTerms words terms
 unfolding last_terms_at
 terms_found words terms e =
-    let minutes = begun _ _ _ e in
-    let priority = begun _ _ _ minutes.2 in
-    let address = begun _ _ _ priority.2 in
-    let at_minutes = decimal_found 0 65535 words minutes.0 minutes.1 in
-    let at_priority = decimal_found 0 255 minutes.0.1 priority.0 priority.1 in
-    let at_address = next_address_found priority.0.1 address.0 address.1 in
+    let minutes = begun_as _ _ _ (decimal_found 0 65535 words) e in
+    let priority = begun_as _ _ _ (decimal_found 0 255 minutes.0.1) minutes.2 in
+    let address = begun_as _ _ _ (next_address_found priority.0.1) priority.2 in
     let end = last_found _ address.0.1 terms address.2 in
     subst (FoundTerms words) end.1 (record {
-      minutes_word = at_minutes.word;
-      priority_word = at_priority.word;
-      address_word = at_address.word;
-      words_are = at_minutes.words_are ∙ ap (λ rest. at_minutes.word ∷ rest) (at_priority.words_are ∙ ap (λ rest. at_priority.word ∷ rest)
-          (at_address.words_are ∙ ap (λ rest. at_address.word ∷ rest) end.0));
-      minutes = at_minutes.spelled;
-      priority = at_priority.spelled;
-      address = at_address.spelled;
+      minutes_word = minutes.1.word;
+      priority_word = priority.1.word;
+      address_word = address.1.word;
+      words_are = minutes.1.words_are ∙ ap (λ rest. minutes.1.word ∷ rest) (priority.1.words_are ∙ ap (λ rest. priority.1.word ∷ rest)
+          (address.1.words_are ∙ ap (λ rest. address.1.word ∷ rest) end.0));
+      minutes = minutes.1.spelled;
+      priority = priority.1.spelled;
+      address = address.1.spelled;
     })
 
 terms_only : (minutes priority : ℕ) (address minutes_word priority_word address_word : List ℕ) → SpellsTwoOctets minutes minutes_word
@@ -277,41 +268,36 @@ publish_found : (order : Order) (words : List (List ℕ)) (asked : CommandModel)
     → SpellsCommand order asked (codes "publish" ∷ words)
 unfolding publish_at
 publish_found order words asked e =
-    let row = begun _ _ _ e in
-    let text = begun _ _ _ row.2 in
-    let owner = begun _ _ _ text.2 in
-    let attributes = begun _ _ _ owner.2 in
-    let terms = begun _ _ _ attributes.2 in
-    let at_row = row_found words row.0 row.1 in
-    let at_text = next_octets_found row.0.1 text.0 text.1 in
-    let at_owner = next_octets_found text.0.1 owner.0 owner.1 in
-    let at_attributes = attributes_found owner.0.1 attributes.0 attributes.1 in
-    let at_terms = terms_found attributes.0.1 terms.0 terms.1 in
+    let row = begun_as _ _ _ (row_found words) e in
+    let text = begun_as _ _ _ (next_octets_found row.0.1) row.2 in
+    let owner = begun_as _ _ _ (next_octets_found text.0.1) text.2 in
+    let attributes = begun_as _ _ _ (attributes_found owner.0.1) owner.2 in
+    let terms = begun_as _ _ _ (terms_found attributes.0.1) attributes.2 in
     subst (λ asked. SpellsCommand order asked (codes "publish" ∷ words)) (same_Some _ _ terms.2) (record {
-      memory_word = at_row.memory_word;
-      number_word = at_row.number_word;
-      text_word = at_text.word;
-      owner_word = at_owner.word;
-      beacon_word = at_attributes.beacon_word;
-      pixel_word = at_attributes.pixel_word;
-      run_word = at_attributes.run_word;
-      minutes_word = at_terms.minutes_word;
-      priority_word = at_terms.priority_word;
-      address_word = at_terms.address_word;
-      words_are = ap (λ rest. codes "publish" ∷ rest) (at_row.words_are ∙ ap (λ rest. at_row.memory_word ∷ at_row.number_word ∷ rest)
-          (at_text.words_are ∙ ap (λ rest. at_text.word ∷ rest) (at_owner.words_are ∙ ap (λ rest. at_owner.word ∷ rest)
-          (at_attributes.words_are ∙ ap (λ rest. at_attributes.beacon_word ∷ at_attributes.pixel_word ∷ at_attributes.run_word ∷ rest)
-          at_terms.words_are))));
-      memory = at_row.memory;
-      number = at_row.number;
-      text = at_text.spelled;
-      owner = at_owner.spelled;
-      beacon = at_attributes.beacon;
-      pixel = at_attributes.pixel;
-      run_priority = at_attributes.run_priority;
-      minutes = at_terms.minutes;
-      priority = at_terms.priority;
-      address = at_terms.address;
+      memory_word = row.1.memory_word;
+      number_word = row.1.number_word;
+      text_word = text.1.word;
+      owner_word = owner.1.word;
+      beacon_word = attributes.1.beacon_word;
+      pixel_word = attributes.1.pixel_word;
+      run_word = attributes.1.run_word;
+      minutes_word = terms.1.minutes_word;
+      priority_word = terms.1.priority_word;
+      address_word = terms.1.address_word;
+      words_are = ap (λ rest. codes "publish" ∷ rest) (row.1.words_are ∙ ap (λ rest. row.1.memory_word ∷ row.1.number_word ∷ rest)
+          (text.1.words_are ∙ ap (λ rest. text.1.word ∷ rest) (owner.1.words_are ∙ ap (λ rest. owner.1.word ∷ rest)
+          (attributes.1.words_are ∙ ap (λ rest. attributes.1.beacon_word ∷ attributes.1.pixel_word ∷ attributes.1.run_word ∷ rest)
+          terms.1.words_are))));
+      memory = row.1.memory;
+      number = row.1.number;
+      text = text.1.spelled;
+      owner = owner.1.spelled;
+      beacon = attributes.1.beacon;
+      pixel = attributes.1.pixel;
+      run_priority = attributes.1.run_priority;
+      minutes = terms.1.minutes;
+      priority = terms.1.priority;
+      address = terms.1.address;
     })
 
 publish_only : (publication : PublicationModel) (words : List (List ℕ)) → SpellsPublication publication (codes "publish" ∷ words)
@@ -330,20 +316,18 @@ publish_only publication words spelled =
 blank_found : (order : Order) (words : List (List ℕ)) (asked : CommandModel) → blank_at words ≡ Some asked → SpellsCommand order asked (codes "blank" ∷ words)
 unfolding blank_at
 blank_found order words asked e =
-    let number = begun _ _ _ e in
-    let terms = begun _ _ _ number.2 in
-    let at_number = decimal_found 0 65535 words number.0 number.1 in
-    let at_terms = terms_found number.0.1 terms.0 terms.1 in
+    let number = begun_as _ _ _ (decimal_found 0 65535 words) e in
+    let terms = begun_as _ _ _ (terms_found number.0.1) number.2 in
     subst (λ asked. SpellsCommand order asked (codes "blank" ∷ words)) (same_Some _ _ terms.2) (record {
-      number_word = at_number.word;
-      minutes_word = at_terms.minutes_word;
-      priority_word = at_terms.priority_word;
-      address_word = at_terms.address_word;
-      words_are = ap (λ rest. codes "blank" ∷ rest) (at_number.words_are ∙ ap (λ rest. at_number.word ∷ rest) at_terms.words_are);
-      has_number = at_number.spelled;
-      has_minutes = at_terms.minutes;
-      has_priority = at_terms.priority;
-      has_address = at_terms.address;
+      number_word = number.1.word;
+      minutes_word = terms.1.minutes_word;
+      priority_word = terms.1.priority_word;
+      address_word = terms.1.address_word;
+      words_are = ap (λ rest. codes "blank" ∷ rest) (number.1.words_are ∙ ap (λ rest. number.1.word ∷ rest) terms.1.words_are);
+      has_number = number.1.spelled;
+      has_minutes = terms.1.minutes;
+      has_priority = terms.1.priority;
+      has_address = terms.1.address;
     })
 
 blank_only : (number minutes priority : ℕ) (address : List ℕ) (words : List (List ℕ)) → SpellsBlank number minutes priority address (codes "blank" ∷ words)

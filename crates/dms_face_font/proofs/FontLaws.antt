@@ -19,7 +19,7 @@ use Rattle.dms_face_font.specs.FontReading.{labelled_at, version_at, header_of, 
 use Rattle.dms_face_font.specs.declared.fault.FontFaultKind.{FontFaultKind}
 use Rattle.dms_face_font.specs.declared.fault.FontFaultKind.TheVariants.{Header, Glyph, Bitmap, Twice, TooMany}
 use Rattle.dms_face_font.specs.declared.fault.FontFault.{FontFault}
-use Rattle.dms_text.proofs.WordLaws.{begun, goes_on, word_found, word_only, keyword_found, keyword_only, decimal_found, decimal_only, octets_found, octets_only, octets_some}
+use Rattle.dms_text.proofs.WordLaws.{begun, begun_as, goes_on, word_found, word_only, keyword_found, keyword_only, decimal_found, decimal_only, octets_found, octets_only, octets_some}
 use Rattle.dms_text.proofs.NumberLaws.{version_found, version_only}
 use Rattle.dms_face_font.proofs.RowLaws.{rows_found, rows_only}
 use Rattle.dms_text.proofs.LineFilter.{octets_of_lines, octets-numbered}
@@ -34,9 +34,9 @@ record FoundLabelled (label : List ℕ) (low high : ℕ) (words : List (List ℕ
 labelled_found : (label : List ℕ) (low high : ℕ) (words : List (List ℕ)) (found : ℕ × List (List ℕ)) → labelled_at label low high words ≡ Some found → FoundLabelled label low high words found
 unfolding labelled_at
 labelled_found label low high words found e =
-    let read = begun _ _ _ e in
+    let read = begun_as _ _ _ (keyword_found label words) e in
     let number = decimal_found low high read.0 found read.2 in
-    record { word = number.word; words_are = keyword_found label words read.0 read.1 ∙ ap (λ rest. label ∷ rest) number.words_are; spelled = number.spelled }
+    record { word = number.word; words_are = read.1 ∙ ap (λ rest. label ∷ rest) number.words_are; spelled = number.spelled }
 
 labelled_only : (label : List ℕ) (low high number : ℕ) (word : List ℕ) (rest : List (List ℕ)) → 0 < length label → SpellsDecimal low high number word
     → labelled_at label low high (label ∷ word ∷ rest) ≡ Some (number, rest)
@@ -66,33 +66,28 @@ last_version_only number word spelled = grind (arith, goes_on, keyword_only, wor
 pub header_found : (words : List (List ℕ)) (font : FontModel) → header_of words ≡ Some font → SpellsHeader font words × (font.glyphs ≡ [])
 unfolding header_of
 header_found words font e =
-    let number = begun _ _ _ e in
-    let height = begun _ _ _ number.2 in
-    let character = begun _ _ _ height.2 in
-    let line = begun _ _ _ character.2 in
-    let version = begun _ _ _ line.2 in
-    let at_number = labelled_found (codes "font") 1 255 words number.0 number.1 in
-    let at_height = labelled_found (codes "height") 1 32 number.0.1 height.0 height.1 in
-    let at_character = labelled_found (codes "space") 0 32 height.0.1 character.0 character.1 in
-    let at_line = labelled_found (codes "line") 0 32 character.0.1 line.0 line.1 in
-    let at_version = last_version_found line.0.1 version.0 version.1 in
+    let number = begun_as _ _ _ (labelled_found (codes "font") 1 255 words) e in
+    let height = begun_as _ _ _ (labelled_found (codes "height") 1 32 number.0.1) number.2 in
+    let character = begun_as _ _ _ (labelled_found (codes "space") 0 32 height.0.1) height.2 in
+    let line = begun_as _ _ _ (labelled_found (codes "line") 0 32 character.0.1) character.2 in
+    let version = begun_as _ _ _ (last_version_found line.0.1) line.2 in
     subst (λ (read : FontModel). SpellsHeader read words × (read.glyphs ≡ [])) (same_Some _ _ version.2) (
       record {
-        number_word = at_number.word;
-        height_word = at_height.word;
-        character_word = at_character.word;
-        line_word = at_line.word;
-        version_word = at_version.word;
-        words_are = at_number.words_are
-            ∙ ap (λ rest. codes "font" ∷ at_number.word ∷ rest) (at_height.words_are
-            ∙ ap (λ rest. codes "height" ∷ at_height.word ∷ rest) (at_character.words_are
-            ∙ ap (λ rest. codes "space" ∷ at_character.word ∷ rest) (at_line.words_are
-            ∙ ap (λ rest. codes "line" ∷ at_line.word ∷ rest) at_version.words_are)));
-        number = at_number.spelled;
-        height = at_height.spelled;
-        character_spacing = at_character.spelled;
-        line_spacing = at_line.spelled;
-        version = at_version.spelled;
+        number_word = number.1.word;
+        height_word = height.1.word;
+        character_word = character.1.word;
+        line_word = line.1.word;
+        version_word = version.1.word;
+        words_are = number.1.words_are
+            ∙ ap (λ rest. codes "font" ∷ number.1.word ∷ rest) (height.1.words_are
+            ∙ ap (λ rest. codes "height" ∷ height.1.word ∷ rest) (character.1.words_are
+            ∙ ap (λ rest. codes "space" ∷ character.1.word ∷ rest) (line.1.words_are
+            ∙ ap (λ rest. codes "line" ∷ line.1.word ∷ rest) version.1.words_are)));
+        number = number.1.spelled;
+        height = height.1.spelled;
+        character_spacing = character.1.spelled;
+        line_spacing = line.1.spelled;
+        version = version.1.spelled;
       },
       refl,
     )
@@ -113,22 +108,20 @@ record FoundWords (words : List (List ℕ)) (found : GlyphWords) : Type 0 where
 words_found : (words : List (List ℕ)) (found : GlyphWords) → glyph_words words ≡ Some found → FoundWords words found
 unfolding glyph_words
 words_found words found e =
-    let read = begun _ _ _ e in
-    let character = begun _ _ _ read.2 in
-    let width = begun _ _ _ character.2 in
-    let bits = begun _ _ _ width.2 in
+    let read = begun_as _ _ _ (keyword_found (codes "glyph") words) e in
+    let character = begun_as _ _ _ (decimal_found 1 65535 read.0) read.2 in
+    let width = begun_as _ _ _ (decimal_found 1 32 character.0.1) character.2 in
+    let bits = begun_as _ _ _ (word_found width.0.1) width.2 in
     let tests = cond_some _ _ _ bits.2 in
-    let at_character = decimal_found 1 65535 read.0 character.0 character.1 in
-    let at_width = decimal_found 1 32 character.0.1 width.0 width.1 in
     subst (λ (line : GlyphWords). FoundWords words line) tests.1 (record {
-      character_word = at_character.word;
-      width_word = at_width.word;
-      words_are = keyword_found (codes "glyph") words read.0 read.1
-          ∙ ap (λ rest. codes "glyph" ∷ rest) (at_character.words_are
-          ∙ ap (λ rest. at_character.word ∷ rest) (at_width.words_are
-          ∙ ap (λ rest. at_width.word ∷ rest) ((word_found width.0.1 bits.0 bits.1).0 ∙ ap (λ rest. bits.0.0 ∷ rest) (ended bits.0.1 tests.0))));
-      character = at_character.spelled;
-      width = at_width.spelled;
+      character_word = character.1.word;
+      width_word = width.1.word;
+      words_are = read.1
+          ∙ ap (λ rest. codes "glyph" ∷ rest) (character.1.words_are
+          ∙ ap (λ rest. character.1.word ∷ rest) (width.1.words_are
+          ∙ ap (λ rest. width.1.word ∷ rest) (bits.1.0 ∙ ap (λ rest. bits.0.0 ∷ rest) (ended bits.0.1 tests.0))));
+      character = character.1.spelled;
+      width = width.1.spelled;
     })
 
 bitmap_found : (width height : ℕ) (word octets : List ℕ) → bitmap_of width height word ≡ Some octets → SpellsOctets octets word × (are_enough width height octets ≡ true)

@@ -121,14 +121,8 @@ rows_are_rows character width height octets rows bitmap is are holds =
     let cut = rows_of width height bits in
     let count : length rows ≡ height = ap length are ∙ length-map cut row_number ∙ length-rows_of width height bits in
     let area : width * height ≡ height * width = omega arith in
-    record {
-      least_character = is.least_character;
-      least_width = is.least_width;
-      greatest_width = is.greatest_width;
-      least_height = is.least_height;
-      greatest_height = is.greatest_height;
-      height_is = count;
-      within = λ row. subst (λ numbers. get_or numbers row 0 < 2 ^ width) (sym are) (numbers_within width cut (all_wide character width height octets is) row);
-      bitmap_is = holds ∙ ap (λ n. octets_holding (take n bits)) area ∙ ap octets_holding (sym (joined_rows width height bits))
-          ∙ sym (ap bitmap_octets (rows_are_picture character width height octets rows is are));
-    }
+    let within : (row : ℕ) → get_or rows row 0 < 2 ^ width = λ row. subst (λ numbers. get_or numbers row 0 < 2 ^ width) (sym are) (numbers_within width cut (all_wide character width height octets is) row) in
+    let bitmap_is : bitmap ≡ bitmap_octets (glyph_of_rows character width rows) =
+    holds ∙ ap (λ n. octets_holding (take n bits)) area ∙ ap octets_holding (sym (joined_rows width height bits))
+    ∙ sym (ap bitmap_octets (rows_are_picture character width height octets rows is are)) in
+    grind (arith, count, within, bitmap_is)

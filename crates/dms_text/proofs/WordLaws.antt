@@ -16,6 +16,11 @@ pub begun : {A B : Type 0} (first : Option A) (next : A → Option B) (y : B) �
 begun None next y e = absurd (let none : None ≡ Some y = e in cc)
 begun (Some x) next y e = (x, refl, e)
 
+-- the same, with what holds of all that the first one reads
+pub begun_as : {A B : Type 0} {P : A → Type 0} (first : Option A) (next : A → Option B) (y : B) → ((x : A) → first ≡ Some x → P x) → (first >>= next) ≡ Some y
+    → (x : A) × P x × (next x ≡ Some y)
+begun_as first next y found e = let start = begun first next y e in (start.0, found start.0 start.1, start.2)
+
 pub goes_on : {A B : Type 0} (first : Option A) (next : A → Option B) (x : A) → first ≡ Some x → (first >>= next) ≡ next x
 goes_on first next x e = ap (λ o. o >>= next) e
 

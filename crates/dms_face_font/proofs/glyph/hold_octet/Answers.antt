@@ -5,21 +5,8 @@ use Rattle.dms_face_font.proofs.RowOctets.{reversed_is}
 use Rattle.dms_face_font.proofs.HeldLaws.{octet_held, octet_small, bits_of_first, digit_small}
 use Rattle.dms_face_font.proofs.glyph.hold_octet.Goals as goal
 
-pub returns-clause-left : goal.returns-clause-left
-returns-clause-left c =
-    let octets = c.args.bits.now.octets.now in
-    let count = c.args.bits.now.count in
-    let held = c.args.bits.now.held in
-    let octet : ℕ = get_or octets 0 0 in
-    let digit : c.from-2.result ≡ row_number (octet_bits octet) = c.from-2.ensures ∙ reversed_is octet c.from.result (omega arith) c.from.ensures in
-    let small : c.from-2.result < 2 ^ 8 = subst (λ n. n < 2 ^ 8) (sym digit) (digit_small octet) in
-    let sum : held + c.from-2.result * 2 ^ count % 2 ^ 64 ≡ held + c.from-2.result * 2 ^ count =
-    ap (λ n. held + n) (shl_whole c.from-2.result 8 count 64 small (omega (arith, c.requires.few))) in
-    octet_held count held c.from-2.result octet (held + c.from-2.result * 2 ^ count % 2 ^ 64) _ c.requires.held.small digit sum
-    ∙ ap (λ bits. row_bits count held ++ bits) (bits_of_first octets (length octets - 1) c.requires.some refl)
-
-pub returns-clause-held : goal.returns-clause-held
-returns-clause-held c =
+pub returns : goal.returns
+returns c =
     let octets = c.args.bits.now.octets.now in
     let count = c.args.bits.now.count in
     let held = c.args.bits.now.held in
@@ -29,6 +16,11 @@ returns-clause-held c =
     let sum : held + c.from-2.result * 2 ^ count % 2 ^ 64 ≡ held + c.from-2.result * 2 ^ count =
     ap (λ n. held + n) (shl_whole c.from-2.result 8 count 64 small (omega (arith, c.requires.few))) in
     record {
-      few = omega (arith, c.requires.few);
-      small = octet_small count held c.from-2.result octet (held + c.from-2.result * 2 ^ count % 2 ^ 64) c.requires.held.small digit sum;
+      left = octet_held count held c.from-2.result octet (held + c.from-2.result * 2 ^ count % 2 ^ 64) _ c.requires.held.small digit sum
+          ∙ ap (λ bits. row_bits count held ++ bits) (bits_of_first octets (length octets - 1) c.requires.some refl);
+      held = record {
+        few = omega (arith, c.requires.few);
+        small = octet_small count held c.from-2.result octet (held + c.from-2.result * 2 ^ count % 2 ^ 64) c.requires.held.small digit sum;
+      };
+      more = refl;
     }
