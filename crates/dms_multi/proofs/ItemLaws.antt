@@ -50,13 +50,18 @@ tag_found : (text : List ℕ) (x : Item × List ℕ) → tag_at text ≡ Ok x �
 unfolding tag_at
 tag_found text x e = tag_found_in text (cut 93 text) x (λ body rest. cut_found 93 text body rest) e
 
+-- a bracket that is written twice
+doubled_found : (bracket c : ℕ) (cs : List ℕ) (x : Item × List ℕ) → c ≡ bracket → ItemSpells (Char bracket) (bracket ∷ bracket ∷ []) → ◌≡◌ {A = Result (Item × List ℕ) FaultCode} (Ok (Char bracket, cs)) (Ok x)
+    → IsFront (bracket ∷ c ∷ cs) x
+doubled_found bracket c cs x is spelled e =
+    let same : (Char bracket, cs) ≡ x = cc in
+    front_is (bracket ∷ c ∷ cs) _ x (record { piece = bracket ∷ bracket ∷ []; spelled = spelled; parts = ap (λ d. bracket ∷ d ∷ cs) is }) same
+
 opened_found : (text : List ℕ) (x : Item × List ℕ) → item_after_opening text ≡ Ok x → IsFront (91 ∷ text) x
 unfolding item_after_opening
 opened_found [] x e = absurd cc
 opened_found (c ∷ cs) x e = elim (chosen (c == 91) e) [
-  | inl bracket ↦ (
-      let same : (Char 91, cs) ≡ x = let equal : Ok (Char 91, cs) ≡ Ok x = bracket.1 in cc in
-      front_is (91 ∷ c ∷ cs) _ x (record { piece = 91 ∷ c ∷ []; spelled = inl (ap (λ d. 91 ∷ d ∷ []) (eqb-true c 91 bracket.0)); parts = refl }) same)
+  | inl bracket ↦ doubled_found 91 c cs x (eqb-true c 91 bracket.0) (inl refl) bracket.1
   | inr tag ↦ tag_found (c ∷ cs) x tag.1
 ]
 
@@ -64,9 +69,7 @@ closed_found : (text : List ℕ) (x : Item × List ℕ) → item_after_closing t
 unfolding item_after_closing
 closed_found [] x e = absurd cc
 closed_found (c ∷ cs) x e = elim (chosen (c == 93) e) [
-  | inl bracket ↦ (
-      let same : (Char 93, cs) ≡ x = let equal : Ok (Char 93, cs) ≡ Ok x = bracket.1 in cc in
-      front_is (93 ∷ c ∷ cs) _ x (record { piece = 93 ∷ c ∷ []; spelled = inl (ap (λ d. 93 ∷ d ∷ []) (eqb-true c 93 bracket.0)); parts = refl }) same)
+  | inl bracket ↦ doubled_found 93 c cs x (eqb-true c 93 bracket.0) (inl refl) bracket.1
   | inr single ↦ absurd (let never : Err UnsupportedTag ≡ Ok x = single.1 in cc)
 ]
 
