@@ -199,18 +199,18 @@ kept_place memory (Some place) changeable volatile more number change frees chan
 
 -- ---- asking
 
-put_place : (memory : Writable) (changeable volatile more : List RowModel) (number index : ℕ) (ask : Ask) → is_validate ask ≡ true → index + 1 ≡ number
-    → changed_in (of_type memory changeable volatile) number (asked_row ask) ≡ Some more → count changeable + count volatile ≡ 0
+-- a change that validates its row makes it the only one
+pub put_there : (memory : Writable) (changeable volatile more : List RowModel) (number index extra : ℕ) (change : RowModel → Option RowModel)
+    → ((row new : RowModel) → change row ≡ Some new → row_is_validating new ≡ true) → ((row new : RowModel) → change row ≡ Some new → weight new ≡ weight row + extra)
+    → extra ≡ 1 → index + 1 ≡ number → changed_in (of_type memory changeable volatile) number change ≡ Some more → count changeable + count volatile ≡ 0
     → IsOnlyOfAll (record { memory = memory; index = index }) (of_type memory more changeable) (of_type memory volatile more)
-put_place memory changeable volatile more number index ask asks numbered changed none =
+put_there memory changeable volatile more number index extra change validates grows one numbered changed none =
     let rows : List RowModel = of_type memory changeable volatile in
     let here : number - 1 ≡ index = omega (arith, numbered) in
-    let extra : extra_of ask ≡ 1 = ap (λ b. cond {A = ℕ} b 1 0) asks in
     record {
       there = subst (λ (rows : List RowModel). IsValidatingAt rows index) (sym (changed_rows memory changeable volatile more))
-          (subst (IsValidatingAt more) here
-          (put_by (number == 0) (slice_get rows (number - 1)) rows more (number - 1) (asked_row ask) (λ row new e. asked_now ask row new asks e) refl changed));
-      one = omega (arith, extra, none, changed_count memory changeable volatile more, changed_one_row rows more number (extra_of ask) (asked_row ask) (asked_weight ask) changed);
+          (subst (IsValidatingAt more) here (put_by (number == 0) (slice_get rows (number - 1)) rows more (number - 1) change validates refl changed));
+      one = omega (arith, one, none, changed_count memory changeable volatile more, changed_one_row rows more number extra change grows changed);
     }
 
 asked_by : (asks : Bool) (memory : Writable) (validating : Option RowPlace) (ask : Ask) (changeable volatile more : List RowModel) (number index : ℕ) → is_validate ask ≡ asks
@@ -219,7 +219,8 @@ asked_by : (asks : Bool) (memory : Writable) (validating : Option RowPlace) (ask
     → IsPlaced (cond asks (Some (record { memory = memory; index = index })) validating) (of_type memory more changeable) (of_type memory volatile more)
 asked_by true memory (Some other) ask changeable volatile more number index asks free numbered changed is = absurd (cc)
 asked_by true memory None ask changeable volatile more number index asks free numbered changed is =
-    put_place memory changeable volatile more number index ask asks numbered changed is
+    put_there memory changeable volatile more number index (extra_of ask) (asked_row ask) (λ row new e. asked_now ask row new asks e) (asked_weight ask)
+    (ap (λ b. cond {A = ℕ} b 1 0) asks) numbered changed is
 asked_by false memory validating ask changeable volatile more number index asks free numbered changed is =
     let none : extra_of ask ≡ 0 = ap (λ b. cond {A = ℕ} b 1 0) asks in
     let same : count more ≡ count (of_type memory changeable volatile) =

@@ -16,7 +16,7 @@ use Rattle.dms_table.specs.Rows.{RowModel, TableModel, row_is_validating, number
 use Rattle.dms_table.specs.PlaceView.{writable_by, writable, of_type, validating_if, IsOnlyOfAll, IsPlaced}
 use Rattle.dms_table.specs.SavedRows.{put_over, place_fault, writable_rows_by, row_there, may_put, value_fault}
 use Rattle.dms_table.proofs.OneRow.{count, weight, changed_one_row}
-use Rattle.dms_table.proofs.Places.{Frees, IsValidatingAt, kept_place, put_by, changed_rows, changed_count, placed_settling}
+use Rattle.dms_table.proofs.Places.{Frees, IsValidatingAt, kept_place, put_there, placed_settling}
 
 -- ---- the row that is there
 
@@ -63,27 +63,13 @@ put_weight put row new e =
 put_now : (put : RowModel) → row_is_validating put ≡ true → (row new : RowModel) → put_over put row ≡ Some new → row_is_validating new ≡ true
 put_now put is row new e = sym (ap row_is_validating (put_is (is_not_used row.status) put new e).1) ∙ is
 
-there_put : (memory : Writable) (put : RowModel) (changeable volatile more : List RowModel) (number index : ℕ) → row_is_validating put ≡ true → index + 1 ≡ number
-    → changed_in (of_type memory changeable volatile) number (put_over put) ≡ Some more → count changeable + count volatile ≡ 0
-    → IsOnlyOfAll (record { memory = memory; index = index }) (of_type memory more changeable) (of_type memory volatile more)
-there_put memory put changeable volatile more number index is numbered changed none =
-    let rows : List RowModel = of_type memory changeable volatile in
-    let here : number - 1 ≡ index = omega (arith, numbered) in
-    let one : weight put ≡ 1 = ap (λ b. cond {A = ℕ} b 1 0) is in
-    record {
-      there = subst (λ (rows : List RowModel). IsValidatingAt rows index) (sym (changed_rows memory changeable volatile more))
-          (subst (IsValidatingAt more) here
-          (put_by (number == 0) (slice_get rows (number - 1)) rows more (number - 1) (put_over put) (put_now put is) refl changed));
-      one = omega (arith, one, none, changed_count memory changeable volatile more, changed_one_row rows more number (weight put) (put_over put) (put_weight put) changed);
-    }
-
 put_at : (validates : Bool) (memory : Writable) (validating : Option RowPlace) (put : RowModel) (changeable volatile more : List RowModel) (number index : ℕ)
     → row_is_validating put ≡ validates → (validates && is_some validating) ≡ false → index + 1 ≡ number
     → changed_in (of_type memory changeable volatile) number (put_over put) ≡ Some more → IsPlaced validating changeable volatile
     → IsPlaced (cond validates (Some (record { memory = memory; index = index })) validating) (of_type memory more changeable) (of_type memory volatile more)
 put_at true memory (Some other) put changeable volatile more number index is free numbered changed placed = absurd (cc)
 put_at true memory None put changeable volatile more number index is free numbered changed placed =
-    there_put memory put changeable volatile more number index is numbered changed placed
+    put_there memory changeable volatile more number index (weight put) (put_over put) (put_now put is) (put_weight put) (ap (λ b. cond {A = ℕ} b 1 0) is) numbered changed placed
 put_at false memory validating put changeable volatile more number index is free numbered changed placed =
     let none : weight put ≡ 0 = ap (λ b. cond {A = ℕ} b 1 0) is in
     let same : count more ≡ count (of_type memory changeable volatile) =

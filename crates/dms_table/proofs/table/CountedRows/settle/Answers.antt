@@ -10,34 +10,22 @@ use Rattle.dms_table.proofs.Places.{only_there, only_settled, only_found, only_a
 use Rattle.dms_table.proofs.CountsOfRows.{counted_set, settled_is_where, validating_is_not}
 use Rattle.dms_table.proofs.table.CountedRows.settle.Goals as goal
 
-pub returns-clause-rows : goal.returns-clause-rows
-returns-clause-rows c =
+pub returns : goal.returns
+returns c =
     let all : List RowModel = c.self.inside.rows.items in
     let only : IsOnly c.args.index all = subst (IsOnly c.args.index) (sym c.self.view_is) c.requires.only in
     let row : RowModel = c.index_mut-row.result.now in
     let there = only_there all c.args.index row only c.index_mut-row.ensures.value in
-    subst (λ (rows : List RowModel). slice_set all c.args.index c.settle-verdict.new.self ≡ map (settled_by c.args.validator.now) rows) c.self.view_is
-    (ap (slice_set all c.args.index) c.settle-verdict.ensures.row
-    ∙ only_settled c.args.validator.now.services (face_of c.args.validator.now) all c.args.index row only there)
-
-pub returns-clause-verdict : goal.returns-clause-verdict
-returns-clause-verdict c =
-    let all : List RowModel = c.self.inside.rows.items in
-    let only : IsOnly c.args.index all = subst (IsOnly c.args.index) (sym c.self.view_is) c.requires.only in
-    let row : RowModel = c.index_mut-row.result.now in
-    let there = only_there all c.args.index row only c.index_mut-row.ensures.value in
-    subst (λ (rows : List RowModel). Some c.settle-verdict.result ≡ option_map (verdict_by c.args.validator.now) (find row_is_validating rows)) c.self.view_is
-    (ap Some c.settle-verdict.ensures.verdict ∙ sym (ap (option_map (verdict_by c.args.validator.now)) (only_found all c.args.index row only there)))
-
-pub returns-clause-judged : goal.returns-clause-judged
-returns-clause-judged c =
-    let all : List RowModel = c.self.inside.rows.items in
-    let only : IsOnly c.args.index all = subst (IsOnly c.args.index) (sym c.self.view_is) c.requires.only in
-    let row : RowModel = c.index_mut-row.result.now in
-    let there = only_there all c.args.index row only c.index_mut-row.ensures.value in
-    subst (All (IsJudged c.args.validator.now)) c.self.view_is
-    (only_all (λ (row : RowModel). passes (verdict_by c.args.validator.now row) ≡ true → IsGood (face_of c.args.validator.now) row.text)
-    all c.args.index row only there c.settle-verdict.ensures.judged)
+    record {
+      rows = subst (λ (rows : List RowModel). slice_set all c.args.index c.settle-verdict.new.self ≡ map (settled_by c.args.validator.now) rows) c.self.view_is
+          (ap (slice_set all c.args.index) c.settle-verdict.ensures.row
+          ∙ only_settled c.args.validator.now.services (face_of c.args.validator.now) all c.args.index row only there);
+      verdict = subst (λ (rows : List RowModel). Some c.settle-verdict.result ≡ option_map (verdict_by c.args.validator.now) (find row_is_validating rows)) c.self.view_is
+          (ap Some c.settle-verdict.ensures.verdict ∙ sym (ap (option_map (verdict_by c.args.validator.now)) (only_found all c.args.index row only there)));
+      judged = subst (All (IsJudged c.args.validator.now)) c.self.view_is
+          (only_all (λ (row : RowModel). passes (verdict_by c.args.validator.now row) ≡ true → IsGood (face_of c.args.validator.now) row.text)
+          all c.args.index row only there c.settle-verdict.ensures.judged);
+    }
 
 pub invariant_of-self : goal.invariant_of-self
 invariant_of-self c =

@@ -30,38 +30,28 @@ invariant_of-self c =
       volatile_empty = empty.volatile_empty;
     })
 
-pub returns-clause-rows : goal.returns-clause-rows
-returns-clause-rows c =
+pub returns : goal.returns
+returns c =
     let all = c.self.inside.writable in
     let face = under c.args.face.now c.args.defaults.now in
     let table : TableModel = table_by c.self.inside.permanent.items all c.self.inside.services c.self.inside.order in
-    let placed = placed_at c.self.inside.validating c.in_ok-place.place all.changeable all.volatile c.in_ok-place.was c.self.invariant.placed in
-    let lent = are_lent c.in_ok-place.place.memory all c.settle-verdict.new.self in
-    table_lent c.self.inside.permanent.items all c.self.inside.services c.self.inside.order c.in_ok-place.place.memory c.settle-verdict.new.self lent
-    ∙ settled_is face table c.in_ok-place.place.memory c.settle-verdict.new.self
-    (none_of_other c.in_ok-place.place all.changeable all.volatile placed) (rw c.of_mut-rows.ensures.value at c.settle-verdict.ensures.rows)
-    ∙ ap (settled face) c.self.view_is
-
-pub returns-clause-verdict : goal.returns-clause-verdict
-returns-clause-verdict c =
-    let all = c.self.inside.writable in
-    let face = under c.args.face.now c.args.defaults.now in
-    let table : TableModel = table_by c.self.inside.permanent.items all c.self.inside.services c.self.inside.order in
-    let placed = placed_at c.self.inside.validating c.in_ok-place.place all.changeable all.volatile c.in_ok-place.was c.self.invariant.placed in
-    verdict_is face table c.in_ok-place.place.memory (Some c.settle-verdict.result)
-    (none_of_other c.in_ok-place.place all.changeable all.volatile placed) (rw c.of_mut-rows.ensures.value at c.settle-verdict.ensures.verdict)
-    ∙ ap (verdict face) c.self.view_is
-
-pub returns-clause-good : goal.returns-clause-good
-returns-clause-good c =
-    let all = c.self.inside.writable in
-    let face = under c.args.face.now c.args.defaults.now in
-    let placed = placed_at c.self.inside.validating c.in_ok-place.place all.changeable all.volatile c.in_ok-place.was c.self.invariant.placed in
+    let none =
+    none_of_other c.in_ok-place.place all.changeable all.volatile
+    (placed_at c.self.inside.validating c.in_ok-place.place all.changeable all.volatile c.in_ok-place.was c.self.invariant.placed) in
+    let rows =
+    table_lent c.self.inside.permanent.items all c.self.inside.services c.self.inside.order c.in_ok-place.place.memory c.settle-verdict.new.self
+    (are_lent c.in_ok-place.place.memory all c.settle-verdict.new.self)
+    ∙ settled_is face table c.in_ok-place.place.memory c.settle-verdict.new.self none (rw c.of_mut-rows.ensures.value at c.settle-verdict.ensures.rows)
+    ∙ ap (settled face) c.self.view_is in
     let both = all_of_type c.in_ok-place.place.memory (λ (row : RowModel). passes (verdict_of c.self.inside.services face row) ≡ true → IsGood face row.text)
-    all.changeable all.volatile (none_of_other c.in_ok-place.place all.changeable all.volatile placed)
-    (rw c.of_mut-rows.ensures.value at c.settle-verdict.ensures.judged) in
-    settled_rows_are_good face c.args.self.now _ c.self.inside.permanent.items all.changeable all.volatile c.self.inside.services c.self.inside.order
-    c.self.view_is both.0 both.1 (returns-clause-rows c)
+    all.changeable all.volatile none (rw c.of_mut-rows.ensures.value at c.settle-verdict.ensures.judged) in
+    record {
+      rows = rows;
+      verdict = verdict_is face table c.in_ok-place.place.memory (Some c.settle-verdict.result) none (rw c.of_mut-rows.ensures.value at c.settle-verdict.ensures.verdict)
+          ∙ ap (verdict face) c.self.view_is;
+      good = settled_rows_are_good face c.args.self.now _ c.self.inside.permanent.items all.changeable all.volatile c.self.inside.services c.self.inside.order
+          c.self.view_is both.0 both.1 rows;
+    }
 
 pub returns-in_err-place-clause-rows : goal.returns-in_err-place-clause-rows
 returns-in_err-place-clause-rows c = grind (arith, placed_nowhere, nothing_settled, placed_settling)
