@@ -33,20 +33,7 @@ pub part_holds : (face : FaceModel) (totals : Totals) (layout : Layout) (part : 
     → Holds face (record totals { part = part }) (with_part layout (record layout.style { part = part }))
 part_holds face totals layout part apart matches fit =
     let after : Layout = record { pages = layout.pages; lines = closed layout; characters = []; gap = None; style = record layout.style { part = part } } in
-    subst (λ b. Holds face (record totals { part = part }) (cond b layout after)) (sym apart) (record {
-      matches = record {
-        pages = matches.pages;
-        lines = matches.lines;
-        characters = matches.characters;
-        height = matches.height;
-        spacing = matches.spacing;
-        gap = matches.gap;
-        side = matches.side;
-        part = refl;
-        font = matches.font;
-      };
-      room = fit;
-    })
+    subst (λ b. Holds face (record totals { part = part }) (cond b layout after)) (sym apart) (record { matches = grind arith; room = fit })
 
 -- a font that is among these is found
 pub font_found : (fonts : List FontModel) (number : ℕ) → has_font fonts number ≡ true → (font : FontModel) × (font_in fonts number ≡ Some font)
