@@ -6,6 +6,4 @@ pub put_request-requires : goal.put_request-requires
 put_request-requires c = omega (arith, c.requires, status_room _ _ _ _ c.in-Some.ensures)
 
 pub put_content-requires : goal.put_content-requires
-put_content-requires c =
-    let size = status_room _ _ _ _ c.in-Some.ensures in
-    grind (arith, length-append)
+put_content-requires c = grind (arith, length-append, status_room _ _ _ _ c.in-Some.ensures)
