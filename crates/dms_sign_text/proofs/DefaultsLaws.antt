@@ -2,7 +2,7 @@
 use Rattle.std.proofs.Common.{◌≡◌, ℕ, List, [], ◌∷◌, Some, refl, ap, subst, ◌∙◌, arith}
 use Rattle.std.specs.Prelude.{codes}
 use Rattle.std.proofs.lemmas.Option.{same_Some}
-use Rattle.dms_text.proofs.WordLaws.{begun, goes_on, keyword_found, keyword_only, decimal_found, decimal_only}
+use Rattle.dms_text.proofs.WordLaws.{begun_as, goes_on, keyword_found, keyword_only, decimal_found, decimal_only}
 use Rattle.dms_face.specs.declared.defaults.Defaults.{Defaults}
 use Rattle.dms_sign_text.specs.declared.head.ColoursAndFlash.{ColoursAndFlash}
 use Rattle.dms_text_forms.specs.Fields.{SpellsEach, SpellsOctet}
@@ -26,26 +26,22 @@ record FoundFirst (words : List (List ℕ)) (found : ColoursAndFlash × List (Li
 first_found : (words : List (List ℕ)) (found : ColoursAndFlash × List (List ℕ)) → colours_and_flash_at words ≡ Some found → FoundFirst words found
 unfolding colours_and_flash_at
 first_found words found e =
-    let background = begun _ _ _ e in
-    let foreground = begun _ _ _ background.2 in
-    let flash_on = begun _ _ _ foreground.2 in
-    let flash_off = begun _ _ _ flash_on.2 in
-    let at_background = decimal_found 0 255 words background.0 background.1 in
-    let at_foreground = decimal_found 0 255 background.0.1 foreground.0 foreground.1 in
-    let at_flash_on = decimal_found 0 255 foreground.0.1 flash_on.0 flash_on.1 in
-    let at_flash_off = decimal_found 0 255 flash_on.0.1 flash_off.0 flash_off.1 in
+    let background = begun_as _ _ _ (decimal_found 0 255 words) e in
+    let foreground = begun_as _ _ _ (decimal_found 0 255 background.0.1) background.2 in
+    let flash_on = begun_as _ _ _ (decimal_found 0 255 foreground.0.1) foreground.2 in
+    let flash_off = begun_as _ _ _ (decimal_found 0 255 flash_on.0.1) flash_on.2 in
     subst (λ (pair : ColoursAndFlash × List (List ℕ)). FoundFirst words pair) (same_Some _ _ flash_off.2) (record {
-      background_word = at_background.word;
-      foreground_word = at_foreground.word;
-      flash_on_word = at_flash_on.word;
-      flash_off_word = at_flash_off.word;
-      words_are = at_background.words_are
-          ∙ ap (λ rest. at_background.word ∷ rest) (at_foreground.words_are
-          ∙ ap (λ rest. at_foreground.word ∷ rest) (at_flash_on.words_are ∙ ap (λ rest. at_flash_on.word ∷ rest) at_flash_off.words_are));
-      background = at_background.spelled;
-      foreground = at_foreground.spelled;
-      flash_on = at_flash_on.spelled;
-      flash_off = at_flash_off.spelled;
+      background_word = background.1.word;
+      foreground_word = foreground.1.word;
+      flash_on_word = flash_on.1.word;
+      flash_off_word = flash_off.1.word;
+      words_are = background.1.words_are
+          ∙ ap (λ rest. background.1.word ∷ rest) (foreground.1.words_are
+          ∙ ap (λ rest. foreground.1.word ∷ rest) (flash_on.1.words_are ∙ ap (λ rest. flash_on.1.word ∷ rest) flash_off.1.words_are));
+      background = background.1.spelled;
+      foreground = foreground.1.spelled;
+      flash_on = flash_on.1.spelled;
+      flash_off = flash_off.1.spelled;
     })
 
 record FoundAll (first : ColoursAndFlash) (words : List (List ℕ)) (found : Defaults) : Type 0 where
@@ -68,33 +64,28 @@ record FoundAll (first : ColoursAndFlash) (words : List (List ℕ)) (found : Def
 all_found : (first : ColoursAndFlash) (words : List (List ℕ)) (found : Defaults) → defaults_with first words ≡ Some found → FoundAll first words found
 unfolding defaults_with
 all_found first words found e =
-    let font = begun _ _ _ e in
-    let line = begun _ _ _ font.2 in
-    let page = begun _ _ _ line.2 in
-    let on = begun _ _ _ page.2 in
-    let off = begun _ _ _ on.2 in
+    let font = begun_as _ _ _ (decimal_found 0 255 words) e in
+    let line = begun_as _ _ _ (decimal_found 0 255 font.0.1) font.2 in
+    let page = begun_as _ _ _ (decimal_found 0 255 line.0.1) line.2 in
+    let on = begun_as _ _ _ (decimal_found 0 255 page.0.1) page.2 in
+    let off = begun_as _ _ _ (decimal_found 0 255 on.0.1) on.2 in
     let end = last_found _ _ found off.2 in
-    let at_font = decimal_found 0 255 words font.0 font.1 in
-    let at_line = decimal_found 0 255 font.0.1 line.0 line.1 in
-    let at_page = decimal_found 0 255 line.0.1 page.0 page.1 in
-    let at_on = decimal_found 0 255 page.0.1 on.0 on.1 in
-    let at_off = decimal_found 0 255 on.0.1 off.0 off.1 in
     subst (λ (read : Defaults). FoundAll first words read) end.1 (record {
-      font_word = at_font.word;
-      line_word = at_line.word;
-      page_word = at_page.word;
-      on_word = at_on.word;
-      off_word = at_off.word;
-      words_are = at_font.words_are
-          ∙ ap (λ rest. at_font.word ∷ rest) (at_line.words_are
-          ∙ ap (λ rest. at_line.word ∷ rest) (at_page.words_are
-          ∙ ap (λ rest. at_page.word ∷ rest) (at_on.words_are
-          ∙ ap (λ rest. at_on.word ∷ rest) (at_off.words_are ∙ ap (λ rest. at_off.word ∷ rest) end.0))));
-      font = at_font.spelled;
-      line = at_line.spelled;
-      page = at_page.spelled;
-      on = at_on.spelled;
-      off = at_off.spelled;
+      font_word = font.1.word;
+      line_word = line.1.word;
+      page_word = page.1.word;
+      on_word = on.1.word;
+      off_word = off.1.word;
+      words_are = font.1.words_are
+          ∙ ap (λ rest. font.1.word ∷ rest) (line.1.words_are
+          ∙ ap (λ rest. line.1.word ∷ rest) (page.1.words_are
+          ∙ ap (λ rest. page.1.word ∷ rest) (on.1.words_are
+          ∙ ap (λ rest. on.1.word ∷ rest) (off.1.words_are ∙ ap (λ rest. off.1.word ∷ rest) end.0))));
+      font = font.1.spelled;
+      line = line.1.spelled;
+      page = page.1.spelled;
+      on = on.1.spelled;
+      off = off.1.spelled;
       background = refl;
       foreground = refl;
       flash_on = refl;
@@ -108,9 +99,9 @@ both_found first defaults words after rest are begins goes = grind arith
 pub defaults_found : (defaults : Defaults) (words : List (List ℕ)) → defaults_of words ≡ Some defaults → SpellsDefaults defaults words
 unfolding defaults_of
 defaults_found defaults words e =
-    let read = begun _ _ _ e in
-    let first = begun _ _ _ read.2 in
-    both_found first.0.0 defaults words read.0 first.0.1 (keyword_found (codes "defaults") words read.0 read.1) (first_found read.0 first.0 first.1)
+    let read = begun_as _ _ _ (keyword_found (codes "defaults") words) e in
+    let first = begun_as _ _ _ (first_found read.0) read.2 in
+    both_found first.0.0 defaults words read.0 first.0.1 read.1 first.1
     (all_found first.0.0 first.0.1 defaults first.2)
 
 -- ---- spelled, and so read

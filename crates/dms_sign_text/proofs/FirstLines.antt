@@ -2,7 +2,7 @@
 use Rattle.std.proofs.Common.{◌≡◌, ℕ, List, [], ◌∷◌, Option, Some, None, refl, ap, subst, ◌∙◌, arith}
 use Rattle.std.proofs.lemmas.Option.{same_Some}
 use Rattle.dms_text.specs.Words.{words_of}
-use Rattle.dms_text.proofs.WordLaws.{begun, goes_on}
+use Rattle.dms_text.proofs.WordLaws.{begun, begun_as, goes_on}
 use Rattle.dms_sign_text.specs.DescriptionReading.{size_of, communities_of, row_counts_of, order_of, services_of, defaults_of, first_of, line_at, BeginningModel, beginning_at, HeadModel, head_at}
 
 record FoundLine {A : Type 0} (read : List (List ℕ) → Option A) (lines : List (List ℕ)) (found : A × List (List ℕ)) : Type 0 where
@@ -66,32 +66,28 @@ pub record FoundHead (lines : List (List ℕ)) (found : HeadModel × List (List 
 pub head_found : (lines : List (List ℕ)) (found : HeadModel × List (List ℕ)) → head_at lines ≡ Some found → FoundHead lines found
 unfolding head_at
 head_found lines found e =
-    let beginning = begun _ _ _ e in
-    let services = begun _ _ _ beginning.2 in
-    let defaults = begun _ _ _ services.2 in
-    let first = begun _ _ _ defaults.2 in
-    let at_beginning = beginning_found lines beginning.0 beginning.1 in
-    let at_services = line_found services_of beginning.0.1 services.0 services.1 in
-    let at_defaults = line_found defaults_of services.0.1 defaults.0 defaults.1 in
-    let at_first = line_found first_of defaults.0.1 first.0 first.1 in
+    let beginning = begun_as _ _ _ (beginning_found lines) e in
+    let services = begun_as _ _ _ (line_found services_of beginning.0.1) beginning.2 in
+    let defaults = begun_as _ _ _ (line_found defaults_of services.0.1) services.2 in
+    let first = begun_as _ _ _ (line_found first_of defaults.0.1) defaults.2 in
     subst (λ (pair : HeadModel × List (List ℕ)). FoundHead lines pair) (same_Some _ _ first.2) (record {
-      size_line = at_beginning.size_line;
-      communities_line = at_beginning.communities_line;
-      rows_line = at_beginning.rows_line;
-      order_line = at_beginning.order_line;
-      has_line = at_services.line;
-      defaults_line = at_defaults.line;
-      first_line = at_first.line;
-      lines_are = at_beginning.lines_are
-          ∙ ap (λ rest. at_beginning.size_line ∷ at_beginning.communities_line ∷ at_beginning.rows_line ∷ at_beginning.order_line ∷ rest) (at_services.lines_are
-          ∙ ap (λ rest. at_services.line ∷ rest) (at_defaults.lines_are ∙ ap (λ rest. at_defaults.line ∷ rest) at_first.lines_are));
-      size = at_beginning.size;
-      communities = at_beginning.communities;
-      rows = at_beginning.rows;
-      order = at_beginning.order;
-      services = at_services.said;
-      defaults = at_defaults.said;
-      first = at_first.said;
+      size_line = beginning.1.size_line;
+      communities_line = beginning.1.communities_line;
+      rows_line = beginning.1.rows_line;
+      order_line = beginning.1.order_line;
+      has_line = services.1.line;
+      defaults_line = defaults.1.line;
+      first_line = first.1.line;
+      lines_are = beginning.1.lines_are
+          ∙ ap (λ rest. beginning.1.size_line ∷ beginning.1.communities_line ∷ beginning.1.rows_line ∷ beginning.1.order_line ∷ rest) (services.1.lines_are
+          ∙ ap (λ rest. services.1.line ∷ rest) (defaults.1.lines_are ∙ ap (λ rest. defaults.1.line ∷ rest) first.1.lines_are));
+      size = beginning.1.size;
+      communities = beginning.1.communities;
+      rows = beginning.1.rows;
+      order = beginning.1.order;
+      services = services.1.said;
+      defaults = defaults.1.said;
+      first = first.1.said;
     })
 
 pub head_only : (head : HeadModel) (size_line communities_line rows_line order_line has_line defaults_line first_line : List ℕ) (rest : List (List ℕ))

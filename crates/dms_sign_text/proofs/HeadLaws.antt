@@ -3,7 +3,7 @@ use Rattle.std.proofs.Common.{◌≡◌, ℕ, ◌<◌, ◌==◌, List, [], ◌�
 use Rattle.std.specs.Prelude.{codes}
 use Rattle.std.proofs.lemmas.Option.{same_Some}
 use Rattle.dms_text.specs.Numbers.{SpellsDecimal}
-use Rattle.dms_text.proofs.WordLaws.{begun, goes_on, word_found, word_only, keyword_found, keyword_only}
+use Rattle.dms_text.proofs.WordLaws.{begun, begun_as, goes_on, word_found, word_only, keyword_found, keyword_only}
 use Rattle.dms_face.specs.Face.{FaceModel}
 use Rattle.dms_codes.specs.declared.codes.Order.{Order}
 use Rattle.dms_table.specs.declared.row.Services.{Services}
@@ -44,14 +44,14 @@ size_only face words spelled =
 pub communities_found : (config : ConfigModel) (words : List (List ℕ)) → communities_of words ≡ Some (record { reader = config.reader; writer = config.writer }) → SpellsCommunities config words
 unfolding communities_of
 communities_found config words e =
-    let read = begun _ _ _ e in
-    let reader = begun _ _ _ read.2 in
-    let writer = begun _ _ _ reader.2 in
+    let read = begun_as _ _ _ (keyword_found (codes "communities") words) e in
+    let reader = begun_as _ _ _ (word_found read.0) read.2 in
+    let writer = begun_as _ _ _ (word_found reader.0.1) reader.2 in
     let found : CommunityWords = record { reader = config.reader; writer = config.writer } in
     let end = last_found _ _ found writer.2 in
-    keyword_found (codes "communities") words read.0 read.1
-    ∙ ap (λ rest. codes "communities" ∷ rest) ((word_found read.0 reader.0 reader.1).0
-    ∙ ap (λ rest. reader.0.0 ∷ rest) ((word_found reader.0.1 writer.0 writer.1).0 ∙ ap (λ rest. writer.0.0 ∷ rest) end.0))
+    read.1
+    ∙ ap (λ rest. codes "communities" ∷ rest) (reader.1.0
+    ∙ ap (λ rest. reader.0.0 ∷ rest) (writer.1.0 ∙ ap (λ rest. writer.0.0 ∷ rest) end.0))
     ∙ ap (λ (said : CommunityWords). codes "communities" ∷ said.reader ∷ said.writer ∷ []) end.1
 
 pub communities_only : (config : ConfigModel) (words : List (List ℕ)) → 0 < length config.reader → 0 < length config.writer → SpellsCommunities config words
@@ -88,16 +88,16 @@ rows_only table words spelled =
 pub order_line_found : (table : TableModel) (words : List (List ℕ)) → order_of words ≡ Some table.order → SpellsOrderLine table words
 unfolding order_of
 order_line_found table words e =
-    let read = begun _ _ _ e in
+    let read = begun_as _ _ _ (keyword_found (codes "order") words) e in
     let found = begun _ _ _ read.2 in
-    let word = begun _ _ _ found.1 in
+    let word = begun_as _ _ _ (word_found read.0) found.1 in
     let order = begun _ _ _ word.2 in
     let same : (order.0, word.0.1) ≡ found.0 = same_Some _ _ order.2 in
     let end = last_found _ _ table.order found.2 in
     record {
       order_word = word.0.0;
-      words_are = keyword_found (codes "order") words read.0 read.1
-          ∙ ap (λ rest. codes "order" ∷ rest) ((word_found read.0 word.0 word.1).0
+      words_are = read.1
+          ∙ ap (λ rest. codes "order" ∷ rest) (word.1.0
           ∙ ap (λ rest. word.0.0 ∷ rest) (ap (λ (pair : Order × List (List ℕ)). pair.1) same ∙ end.0));
       order = order_found table.order word.0.0 (order.1 ∙ ap (λ (pair : Order × List (List ℕ)). Some pair.0) same ∙ ap Some end.1);
     }
@@ -140,15 +140,14 @@ services_only services words spelled =
 pub first_found : (first : ℕ) (words : List (List ℕ)) → first_of words ≡ Some first → SpellsFirst first words
 unfolding first_of
 first_found first words e =
-    let read = begun _ _ _ e in
-    let number = begun _ _ _ read.2 in
+    let read = begun_as _ _ _ (keyword_found (codes "first") words) e in
+    let number = begun_as _ _ _ (four_found read.0) read.2 in
     let end = last_found _ _ first number.2 in
-    let found = four_found read.0 number.0 number.1 in
     subst (λ n. SpellsFirst n words) end.1 (record {
-      first_word = found.word;
-      words_are = keyword_found (codes "first") words read.0 read.1
-          ∙ ap (λ rest. codes "first" ∷ rest) (found.words_are ∙ ap (λ rest. found.word ∷ rest) end.0);
-      number = found.spelled;
+      first_word = number.1.word;
+      words_are = read.1
+          ∙ ap (λ rest. codes "first" ∷ rest) (number.1.words_are ∙ ap (λ rest. number.1.word ∷ rest) end.0);
+      number = number.1.spelled;
     })
 
 pub first_only : (first : ℕ) (words : List (List ℕ)) → SpellsFirst first words → first_of words ≡ Some first

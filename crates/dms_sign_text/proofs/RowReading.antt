@@ -4,7 +4,7 @@ use Rattle.std.specs.Prelude.{codes}
 use Rattle.std.proofs.lemmas.Option.{same_Some}
 use Rattle.std.proofs.lemmas.List.{append-nil, map-append}
 use Rattle.dms_text.specs.Words.{words_of}
-use Rattle.dms_text.proofs.WordLaws.{begun, goes_on, word_found, word_only, keyword_found, keyword_only, decimal_found, decimal_only, octets_found, octets_only, octets_some}
+use Rattle.dms_text.proofs.WordLaws.{begun, begun_as, goes_on, word_found, word_only, keyword_found, keyword_only, decimal_found, decimal_only, octets_found, octets_only, octets_some}
 use Rattle.dms_table.specs.Rows.{RowModel}
 use Rattle.dms_text_forms.specs.Fields.{SpellsEach, SpellsOctet}
 use Rattle.dms_sign_text.specs.Description.{SpellsPermanent, SpellsPermanentLine}
@@ -27,50 +27,46 @@ record FoundRow (words : List (List ℕ)) (said : RowWords) : Type 0 where
 row_words_found : (words : List (List ℕ)) (said : RowWords) → row_words words ≡ Some said → FoundRow words said
 unfolding row_words
 row_words_found words said e =
-    let read = begun _ _ _ e in
-    let text = begun _ _ _ read.2 in
-    let owner = begun _ _ _ text.2 in
-    let beacon = begun _ _ _ owner.2 in
-    let pixel = begun _ _ _ beacon.2 in
-    let priority = begun _ _ _ pixel.2 in
+    let read = begun_as _ _ _ (keyword_found (codes "permanent") words) e in
+    let text = begun_as _ _ _ (word_found read.0) read.2 in
+    let owner = begun_as _ _ _ (word_found text.0.1) text.2 in
+    let beacon = begun_as _ _ _ (decimal_found 0 255 owner.0.1) owner.2 in
+    let pixel = begun_as _ _ _ (decimal_found 0 255 beacon.0.1) beacon.2 in
+    let priority = begun_as _ _ _ (decimal_found 0 255 pixel.0.1) pixel.2 in
     let end = last_found _ _ said priority.2 in
-    let at_beacon = decimal_found 0 255 owner.0.1 beacon.0 beacon.1 in
-    let at_pixel = decimal_found 0 255 beacon.0.1 pixel.0 pixel.1 in
-    let at_priority = decimal_found 0 255 pixel.0.1 priority.0 priority.1 in
     subst (λ (line : RowWords). FoundRow words line) end.1 (record {
-      beacon_word = at_beacon.word;
-      pixel_word = at_pixel.word;
-      priority_word = at_priority.word;
-      words_are = keyword_found (codes "permanent") words read.0 read.1
-          ∙ ap (λ rest. codes "permanent" ∷ rest) ((word_found read.0 text.0 text.1).0
-          ∙ ap (λ rest. text.0.0 ∷ rest) ((word_found text.0.1 owner.0 owner.1).0
-          ∙ ap (λ rest. owner.0.0 ∷ rest) (at_beacon.words_are
-          ∙ ap (λ rest. at_beacon.word ∷ rest) (at_pixel.words_are
-          ∙ ap (λ rest. at_pixel.word ∷ rest) (at_priority.words_are ∙ ap (λ rest. at_priority.word ∷ rest) end.0)))));
-      beacon = at_beacon.spelled;
-      pixel = at_pixel.spelled;
-      priority = at_priority.spelled;
+      beacon_word = beacon.1.word;
+      pixel_word = pixel.1.word;
+      priority_word = priority.1.word;
+      words_are = read.1
+          ∙ ap (λ rest. codes "permanent" ∷ rest) (text.1.0
+          ∙ ap (λ rest. text.0.0 ∷ rest) (owner.1.0
+          ∙ ap (λ rest. owner.0.0 ∷ rest) (beacon.1.words_are
+          ∙ ap (λ rest. beacon.1.word ∷ rest) (pixel.1.words_are
+          ∙ ap (λ rest. pixel.1.word ∷ rest) (priority.1.words_are ∙ ap (λ rest. priority.1.word ∷ rest) end.0)))));
+      beacon = beacon.1.spelled;
+      pixel = pixel.1.spelled;
+      priority = priority.1.spelled;
     })
 
 row_found : (words : List (List ℕ)) (row : RowModel) → row_of words ≡ Some row → SpellsPermanent row words
 unfolding row_of
 row_found words row e =
-    let said = begun _ _ _ e in
+    let said = begun_as _ _ _ (row_words_found words) e in
     let text = begun _ _ _ said.2 in
     let owner = begun _ _ _ text.2 in
-    let line = row_words_found words said.0 said.1 in
     subst (λ (read : RowModel). SpellsPermanent read words) (same_Some _ _ owner.2) (record {
       text_word = said.0.text;
       owner_word = said.0.owner;
-      beacon_word = line.beacon_word;
-      pixel_word = line.pixel_word;
-      priority_word = line.priority_word;
-      words_are = line.words_are;
+      beacon_word = said.1.beacon_word;
+      pixel_word = said.1.pixel_word;
+      priority_word = said.1.priority_word;
+      words_are = said.1.words_are;
       text = octets_found text.0 said.0.text text.1;
       owner = octets_found owner.0 said.0.owner owner.1;
-      beacon = line.beacon;
-      pixel = line.pixel;
-      priority = line.priority;
+      beacon = said.1.beacon;
+      pixel = said.1.pixel;
+      priority = said.1.priority;
       status = refl;
     })
 
