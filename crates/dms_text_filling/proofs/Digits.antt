@@ -1,5 +1,5 @@
 -- The digits of octets are those of the first of them, and then those of the others.
-use Rattle.std.proofs.Common.{◌≡◌, ℕ, ◌+◌, ◌-◌, ◌<◌, List, [], ◌∷◌, ◌++◌, ◌≤◌, length, take, drop, get_or, refl, sym, ap, ◌∙◌, subst, append_assoc, append-nil, arith, rules, length-take, length-drop}
+use Rattle.std.proofs.Common.{◌≡◌, ℕ, ◌+◌, ◌*◌, ◌-◌, ◌<◌, List, [], ◌∷◌, ◌++◌, ◌≤◌, length, take, drop, get_or, refl, sym, ap, ◌∙◌, subst, append_assoc, append-nil, arith, rules, length-take, length-drop}
 use Rattle.std.proofs.lemmas.List.{take-append-drop, take_all, get_or-take}
 use Rattle.std.proofs.lemmas.Slice.Eq.{text_from_reads}
 use Rattle.std.specs.Prelude.{slice_index, ◌/◌, ◌%◌}
@@ -20,6 +20,11 @@ encode_append table (octet ∷ first) others =
 -- the digits of the first octets are put, and those of the rest are not
 abbrev pub Begun : (octets rest : List ℕ) (from : ℕ) (before : List ℕ) (to : ℕ) (after : List ℕ) → Type 0
 Begun octets rest from before to after = (done : List ℕ) × (done ++ rest ≡ octets) × Puts (encode_lower done) from before to after
+
+-- and each digit that is left has its place
+pub record IsPut (octets rest : List ℕ) (from : ℕ) (before : List ℕ) (to : ℕ) (after : List ℕ) : Type 0 where
+  pub begun : Begun octets rest from before to after
+  pub short : to + 2 * length rest ≤ from + 2 * length octets
 
 -- none are put yet
 pub no_digits : (octets : List ℕ) (place : ℕ) (buffer : List ℕ) → place ≤ most_counted → length buffer ≤ most_counted

@@ -10,24 +10,22 @@ eights-init c = record {
 
 pub eights-preserved : goal.eights-preserved
 eights-preserved c =
-    let kept = c.eights.invariant in
     let put = c.put_eight-end.ensures in
     let rest = c.eights.rest.now in record {
       begun =
           eight_more c.args.octets.now rest c.args.place c.eights.end c.put_eight-end.result c.args.buffer.now c.eights.buffer c.put_eight-end.new.buffer
-          c.in-len8-up.len_at_least kept.begun put.octets;
-      short = omega (arith, kept.short, put.short, c.in-len8-up.len_at_least, length-take (length rest - 8) (drop 8 rest), length-drop 8 rest);
+          c.in-len8-up.len_at_least c.eights.invariant.begun put.octets;
+      short = omega (arith, c.eights.invariant.short, put.short, c.in-len8-up.len_at_least, length-take (length rest - 8) (drop 8 rest), length-drop 8 rest);
     }
 
 pub last-preserved : goal.last-preserved
 last-preserved c =
-    let kept = c.last.invariant in
     let put = c.put-end.ensures in
     let rest = c.last.rest.now in record {
       begun =
           one_more c.args.octets.now rest _ c.two_digits-high.result.0 c.two_digits-high.result.1 c.args.place c.last.end c.put-end.result c.args.buffer.now c.last.buffer c.put-end.new.buffer
-          c.in-len1-up.len_at_least kept.begun c.two_digits-high.ensures.first c.two_digits-high.ensures.second refl put.octets;
-      short = omega (arith, kept.short, put.short, c.in-len1-up.len_at_least, length-take (length rest - 1) (drop 1 rest), length-drop 1 rest);
+          c.in-len1-up.len_at_least c.last.invariant.begun c.two_digits-high.ensures.first c.two_digits-high.ensures.second refl put.octets;
+      short = omega (arith, c.last.invariant.short, put.short, c.in-len1-up.len_at_least, length-take (length rest - 1) (drop 1 rest), length-drop 1 rest);
     }
 
 pub returns-clause-octets : goal.returns-clause-octets
