@@ -22,6 +22,11 @@ pub record Stops {A : Type 0} (spelled : A → List ℕ) (Good : A → Type 0) (
   pub lacks : Stands lack.wanted rest → ⊥
   pub goes_on : (more : List ℕ) → Next more → (a : A) × Good a × (other : List ℕ) × Stands lack.wanted other × (spelled a ++ more ≡ before ++ other)
 
+-- what stops one reader stops another, of what begins the same and is spelled on to there
+pub stops_as : {A B : Type 0} {sa : A → List ℕ} {ga : A → Type 0} {na : List ℕ → Type 0} (sb : B → List ℕ) (gb : B → Type 0) (nb : List ℕ → Type 0) (text : List ℕ) (lack : SignFieldLack)
+    (stop : Stops sa ga na text lack) → ((more : List ℕ) → nb more → (b : B) × gb b × (other : List ℕ) × Stands lack.wanted other × (sb b ++ more ≡ stop.before ++ other)) → Stops sb gb nb text lack
+stops_as sb gb nb text lack stop goes_on = record { before = stop.before; rest = stop.rest; parts = stop.parts; left = stop.left; lacks = stop.lacks; goes_on = goes_on }
+
 -- what is spelled so is read, where what follows it allows
 pub record Reads {A : Type 0} (spelled : A → List ℕ) (Good : A → Type 0) (Next : List ℕ → Type 0) (reader : Reader A) : Type 0 where
   pub found : (text : List ℕ) (x : A × List ℕ) → reader text ≡ Ok x → Good x.0 × (text ≡ spelled x.0 ++ x.1)
@@ -90,17 +95,11 @@ module _ {A B : Type 0} (sa : A → List ℕ) (ga : A → Type 0) (na : List ℕ
 
   -- the first goes wrong
   first_stops : (text : List ℕ) (lack : SignFieldLack) → Stops sa ga na text lack → Stops spelled Good nb text lack
-  first_stops text lack stop = record {
-    before = stop.before;
-    rest = stop.rest;
-    parts = stop.parts;
-    left = stop.left;
-    lacks = stop.lacks;
-    goes_on = λ more next.
-        let b = other.some in
-        let on = stop.goes_on (sb b.0 ++ more) (follows b.0 more b.1 next) in
-        ((on.0, b.0), (on.1, b.1), on.2, on.3, append_assoc (sa on.0) (sb b.0) more ∙ on.4);
-  }
+  first_stops text lack stop =
+      stops_as spelled Good nb text lack stop λ more next.
+      let b = other.some in
+      let on = stop.goes_on (sb b.0 ++ more) (follows b.0 more b.1 next) in
+      ((on.0, b.0), (on.1, b.1), on.2, on.3, append_assoc (sa on.0) (sb b.0) more ∙ on.4)
 
   -- the second goes wrong
   second_stops : (text rest : List ℕ) (a : A) (lack : SignFieldLack) → ga a → text ≡ sa a ++ rest → Stops sb gb nb rest lack → Stops spelled Good nb text lack
@@ -150,17 +149,11 @@ module _ {A B : Type 0} (sa : A → List ℕ) (ga : A → Type 0) (na : List ℕ
       ∙ ap (λ b. done (b, rest)) a.2
 
   made_stop : (text : List ℕ) (lack : SignFieldLack) → Stops sa ga na text lack → Stops sb gb na text lack
-  made_stop text lack stop = record {
-    before = stop.before;
-    rest = stop.rest;
-    parts = stop.parts;
-    left = stop.left;
-    lacks = stop.lacks;
-    goes_on = λ more next.
-        let on = stop.goes_on more next in
-        let b = there on.0 on.1 in
-        (make on.0, b.0, on.2, on.3, ap (λ front. front ++ more) (sym b.1) ∙ on.4);
-  }
+  made_stop text lack stop =
+      stops_as sb gb na text lack stop λ more next.
+      let on = stop.goes_on more next in
+      let b = there on.0 on.1 in
+      (make on.0, b.0, on.2, on.3, ap (λ front. front ++ more) (sym b.1) ∙ on.4)
 
   made_stops : (text : List ℕ) (lack : SignFieldLack) → made make ra text ≡ Err lack → Stops sb gb na text lack
   made_stops text lack e =

@@ -17,7 +17,7 @@ use Rattle.dms_sign_state.specs.WordReading.{◌>>=◌, Reader, Fails}
 use Rattle.dms_sign_state.specs.FieldReading.{row_field, has_row, rows_at}
 use Rattle.dms_sign_state.proofs.Forms.{bind_ok, bind_err, goes_on, ok_is}
 use Rattle.dms_sign_state.proofs.LineForms.{row_read}
-use Rattle.dms_sign_state.proofs.FieldForms.{Stops, Reads, Any, field_reads}
+use Rattle.dms_sign_state.proofs.FieldForms.{Stops, Reads, Any, field_reads, stops_as}
 use Rattle.dms_sign_state.proofs.SettingForms.{blank_message}
 
 abbrev failed : {A : Type 0} → SignFieldLack → Result A SignFieldLack
@@ -111,16 +111,10 @@ module _ (stored : Stored) where
   Stop least text lack = Stops (row_lines name) (AreUsedRows least most) (NoRow stored) text lack
 
   first_stop : (least : ℕ) (text : List ℕ) (lack : SignFieldLack) → Stops (row_line name) (IsUsedRow least most) Any text lack → Stop least text lack
-  first_stop least text lack stop = record {
-    before = stop.before;
-    rest = stop.rest;
-    parts = stop.parts;
-    left = stop.left;
-    lacks = stop.lacks;
-    goes_on = λ more next.
-        let on = stop.goes_on more tt in
-        (on.0 ∷ [], (on.1, tt), on.2, on.3, ap (λ line. line ++ more) (append-nil (row_line name on.0)) ∙ on.4);
-  }
+  first_stop least text lack stop =
+      stops_as (row_lines name) (AreUsedRows least most) (NoRow stored) text lack stop λ more next.
+      let on = stop.goes_on more tt in
+      (on.0 ∷ [], (on.1, tt), on.2, on.3, ap (λ line. line ++ more) (append-nil (row_line name on.0)) ∙ on.4)
 
   later_stop : (least : ℕ) (text rest : List ℕ) (row : UsedRow) (lack : SignFieldLack) → IsUsedRow least most row → text ≡ row_line name row ++ rest → Stop (row.number + 1) rest lack → Stop least text lack
   later_stop least text rest row lack good is stop = record {

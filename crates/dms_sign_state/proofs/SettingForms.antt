@@ -24,7 +24,7 @@ use Rattle.dms_sign_state.proofs.Forms.{IsRead, bind_ok, bind_err, goes_on, ok_i
 use Rattle.dms_text_values.specs.ValueText.{octets_text}
 use Rattle.dms_sign_state.proofs.Groupings.{of_number, of_part, of_part_begun, of_five, of_six, of_reports}
 use Rattle.dms_sign_state.proofs.LineForms.{respelled, number_line_read, code_line_read, set_defaults_read, copied_read, message_line_read, address_read}
-use Rattle.dms_sign_state.proofs.FieldForms.{Stops, Reads, Any, field_reads, pair_reads, made_reads}
+use Rattle.dms_sign_state.proofs.FieldForms.{Stops, Reads, Any, field_reads, pair_reads, made_reads, stops_as}
 use Rattle.dms_sign_state.proofs.NumberForms.{Parts, values_text, values_of, values_reads, settings_of, settings_are, read_alike}
 
 abbrev failed : {A : Type 0} → SignFieldLack → Result A SignFieldLack
@@ -179,14 +179,7 @@ module _ (put : Put) where
       elim (bind_err (line text) (λ x. Ok (Some x.0, x.1)) lack e) [
         | inl first ↦
             let stop = (seconds_read put).stops text lack first in
-            record {
-              before = stop.before;
-              rest = stop.rest;
-              parts = stop.parts;
-              left = stop.left;
-              lacks = stop.lacks;
-              goes_on = λ more next. let on = stop.goes_on more tt in (Some on.0, on.1, on.2, on.3, on.4);
-            }
+            stops_as (remaining_text (put_name put)) IsLeft (NoneLeft put) text lack stop (λ more next. let on = stop.goes_on more tt in (Some on.0, on.1, on.2, on.3, on.4))
         | inr x ↦ absurd (let never : Ok (Some x.0.0, x.0.1) ≡ failed {A = Option ℕ × List ℕ} lack = x.2 in cc)
       ]
   chosen_stops false text lack e = absurd (let never : Ok (None, text) ≡ failed {A = Option ℕ × List ℕ} lack = e in cc)

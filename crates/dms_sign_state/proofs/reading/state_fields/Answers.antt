@@ -8,10 +8,7 @@ use Rattle.dms_sign_state.proofs.reading.state_fields.Goals as goal
 
 pub fault_of-requires : goal.fault_of-requires
 fault_of-requires c =
-    let is = c.in-Err-Lacks.is in
-    let field = c.in-Err-Lacks.field-0-is in
-    let lack = c.in-Err-Lacks.lack-is in
-    let error : c.in-Err-Lacks.field-0 ≡ unread.Lacks c.in-Err-Lacks.lack = cc in
+    let error : c.in-Err-Lacks.field-0 ≡ unread.Lacks c.in-Err-Lacks.lack = cc (c.in-Err-Lacks.is, c.in-Err-Lacks.field-0-is, c.in-Err-Lacks.lack-is) in
     let e = subst (λ (u : UnreadSignField). Fails u (fields_at c.args.text.now)) error c.in-Err-Lacks.ensures in
     (fault_is c.args.text.now c.in-Err-Lacks.lack e).within
 
@@ -21,20 +18,12 @@ returns-in-Ok-clause-found c = fields_found c.args.text.now c.in-Ok.fields c.in-
 pub returns-in-Ok-clause-only : goal.returns-in-Ok-clause-only
 returns-in-Ok-clause-only c = only_these c.args.text.now c.in-Ok.fields c.in-Ok.ensures
 
-pub returns-in-Err-Lacks-clause-only : goal.returns-in-Err-Lacks-clause-only
-returns-in-Err-Lacks-clause-only c =
-    let is = c.in-Err-Lacks.is in
-    let field = c.in-Err-Lacks.field-0-is in
-    let lack = c.in-Err-Lacks.lack-is in
-    let error : c.in-Err-Lacks.field-0 ≡ unread.Lacks c.in-Err-Lacks.lack = cc in
+pub returns-in-Err-Lacks : goal.returns-in-Err-Lacks
+returns-in-Err-Lacks c =
+    let error : c.in-Err-Lacks.field-0 ≡ unread.Lacks c.in-Err-Lacks.lack = cc (c.in-Err-Lacks.is, c.in-Err-Lacks.field-0-is, c.in-Err-Lacks.lack-is) in
     let e = subst (λ (u : UnreadSignField). Fails u (fields_at c.args.text.now)) error c.in-Err-Lacks.ensures in
-    none_lacks c.args.text.now c.in-Err-Lacks.lack e
-
-pub returns-in-Err-Lacks-clause-fault : goal.returns-in-Err-Lacks-clause-fault
-returns-in-Err-Lacks-clause-fault c =
-    let is = c.in-Err-Lacks.is in
-    let field = c.in-Err-Lacks.field-0-is in
-    let lack = c.in-Err-Lacks.lack-is in
-    let error : c.in-Err-Lacks.field-0 ≡ unread.Lacks c.in-Err-Lacks.lack = cc in
-    let e = subst (λ (u : UnreadSignField). Fails u (fields_at c.args.text.now)) error c.in-Err-Lacks.ensures in
-    (fault_is c.args.text.now c.in-Err-Lacks.lack e).fault c.fault_of.result c.fault_of.ensures.wanted c.fault_of.ensures.line
+    record {
+      found = tt;
+      only = none_lacks c.args.text.now c.in-Err-Lacks.lack e;
+      fault = (fault_is c.args.text.now c.in-Err-Lacks.lack e).fault c.fault_of.result c.fault_of.ensures.wanted c.fault_of.ensures.line;
+    }
