@@ -34,6 +34,9 @@ module _ {S : Type 0} (reply : S → List ℕ → List ℕ) (after : S → List 
   nothing_said start None old = tt
   nothing_said start (Some octets) old = ([], refl, refl, Appends-nil old, omega arith)
 
+  abbrev first_line : List ℕ → List ℕ
+  first_line rest = line_of (take_through 10 rest)
+
   some_left : (rest line : List ℕ) → line ≡ take 65539 (take_through 10 rest) → 0 < length line → 0 < length rest
   some_left [] line is some = absurd (omega (arith, ap length is))
   some_left (x ∷ rest) line is some = omega arith
@@ -43,14 +46,14 @@ module _ {S : Type 0} (reply : S → List ℕ → List ℕ) (after : S → List 
 
   -- a line that is held is answered as the whole line, and leaves what it leaves
   the_answer : (state end : S) (rest line : List ℕ) → state ≡ end → line ≡ take 65539 (take_through 10 rest)
-      → answered reply state (line_of line) ≡ answered reply end (line_of (take_through 10 rest))
+      → answered reply state (line_of line) ≡ answered reply end (first_line rest)
   the_answer state end rest line same is =
-      ap (λ l. answered reply state (line_of l)) is ∙ cut_is_answered reply state (take_through 10 rest) _ refl ∙ ap (λ s. answered reply s (line_of (take_through 10 rest))) same
+      ap (λ l. answered reply state (line_of l)) is ∙ cut_is_answered reply state (take_through 10 rest) _ refl ∙ ap (λ s. answered reply s (first_line rest)) same
 
   the_state : (state end : S) (rest line : List ℕ) → state ≡ end → line ≡ take 65539 (take_through 10 rest)
-      → left_by after state (line_of line) ≡ left_by after end (line_of (take_through 10 rest))
+      → left_by after state (line_of line) ≡ left_by after end (first_line rest)
   the_state state end rest line same is =
-      ap (λ l. left_by after state (line_of l)) is ∙ cut_leaves after state (take_through 10 rest) _ refl ∙ ap (λ s. left_by after s (line_of (take_through 10 rest))) same
+      ap (λ l. left_by after state (line_of l)) is ∙ cut_leaves after state (take_through 10 rest) _ refl ∙ ap (λ s. left_by after s (first_line rest)) same
 
   all_lines : (octets rest line : List ℕ) (done : List (List ℕ)) → lines octets ≡ done ++ lines rest → line ≡ take 65539 (take_through 10 rest) → length line ≡ 0
       → lines octets ≡ done
@@ -70,16 +73,15 @@ module _ {S : Type 0} (reply : S → List ℕ → List ℕ) (after : S → List 
   said_more count start (Some octets) old state next (Some rest) None new written line said taken some goes wrote = absurd taken
   said_more count start (Some octets) old state next (Some rest) (Some later) new written line said taken some goes wrote =
       let there = some_left rest line taken.0 some in
-      let first_is = line_of (take_through 10 rest) in
       let text = answered reply state (line_of line) in
       let end = left_by_all after start said.0 in
-      let done = said.0 ++ first_is ∷ [] in (
+      let done = said.0 ++ first_line rest ∷ [] in (
         done,
-        said.1 ∙ ap (λ l. said.0 ++ l) (first_line_is rest there ∙ ap (λ l. first_is ∷ lines l) (sym taken.1)) ∙ sym (append_assoc said.0 (first_is ∷ []) (lines later)),
-        goes ∙ the_state state end rest line said.2 taken.0 ∙ sym (left-append after start said.0 (first_is ∷ [])),
+        said.1 ∙ ap (λ l. said.0 ++ l) (first_line_is rest there ∙ ap (λ l. first_line rest ∷ lines l) (sym taken.1)) ∙ sym (append_assoc said.0 (first_line rest ∷ []) (lines later)),
+        goes ∙ the_state state end rest line said.2 taken.0 ∙ sym (left-append after start said.0 (first_line rest ∷ [])),
         subst (Appends old written)
-            (ap (λ t. answers reply after start said.0 ++ t) (the_answer state end rest line said.2 taken.0 ∙ sym (append-nil (answered reply end first_is)))
-            ∙ sym (answers-append start said.0 (first_is ∷ [])))
+            (ap (λ t. answers reply after start said.0 ++ t) (the_answer state end rest line said.2 taken.0 ∙ sym (append-nil (answered reply end (first_line rest))))
+            ∙ sym (answers-append start said.0 (first_line rest ∷ [])))
             (Appends-trans old new written (answers reply after start said.0) text said.3 wrote),
         omega (arith, said.4, ap length taken.1, shorter rest there),
       )
@@ -145,17 +147,16 @@ module _ {S : Type 0} (reply : S → List ℕ → List ℕ) (after : S → List 
   said_in_part count start (Some octets) old state next (Some rest) None new written line said taken some goes wrote = absurd taken
   said_in_part count start (Some octets) old state next (Some rest) (Some later) new written line said taken some goes wrote =
       let there = some_left rest line taken.0 some in
-      let first_is = line_of (take_through 10 rest) in
       let end = left_by_all after start said.0 in record {
         done = said.0;
-        line = first_is;
+        line = first_line rest;
         more = lines later;
         part = wrote.0;
         rest = wrote.1;
-        lines_are = said.1 ∙ ap (λ l. said.0 ++ l) (first_line_is rest there ∙ ap (λ l. first_is ∷ lines l) (sym taken.1));
+        lines_are = said.1 ∙ ap (λ l. said.0 ++ l) (first_line_is rest there ∙ ap (λ l. first_line rest ∷ lines l) (sym taken.1));
         answer_is = sym (the_answer state end rest line said.2 taken.0) ∙ wrote.2;
         written = Appends-trans old new written (answers reply after start said.0) wrote.0 said.3 wrote.3;
-        left = goes ∙ the_state state end rest line said.2 taken.0 ∙ sym (left-append after start said.0 (first_is ∷ []));
+        left = goes ∙ the_state state end rest line said.2 taken.0 ∙ sym (left-append after start said.0 (first_line rest ∷ []));
         next = refl;
       }
 
