@@ -14,17 +14,15 @@ pub returns-in-Some-clause-row : goal.returns-in-Some-clause-row
 returns-in-Some-clause-row t c = λ column.
     let fonts = c.args.fonts.now in
     let index = c.args.index in
-    let font = c.index-fonts-index.result in
-    let at : font_at fonts index ≡ Some font = font_there fonts index font (omega arith) (omega arith) c.index-fonts-index.is in
-    sym (some_at (λ i. tree_first (font_row c.args.table column i (font_at fonts i))) index (length fonts + 1) (end_binding column index font c.in-Some.end) (omega arith)
+    let at = font_there fonts index c.index-fonts-index.result (omega arith) (omega arith) c.index-fonts-index.is in
+    sym (some_at (λ i. tree_first (font_row c.args.table column i (font_at fonts i))) index (length fonts + 1) (end_binding column index c.index-fonts-index.result c.in-Some.end) (omega arith)
     (ap (λ f. tree_first (font_row c.args.table column index f)) at ∙ sym (c.in-Some.ensures column index)))
 
 pub returns-in-None-clause-row : goal.returns-in-None-clause-row
 returns-in-None-clause-row t c = λ column.
     let fonts = c.args.fonts.now in
     let index = c.args.index in
-    let font = c.index-fonts-index.result in
-    let at : font_at fonts index ≡ Some font = font_there fonts index font (omega arith) (omega arith) c.index-fonts-index.is in
+    let at = font_there fonts index c.index-fonts-index.result (omega arith) (omega arith) c.index-fonts-index.is in
     c.first_row.ensures.row column
     ∙ sym (none_at (λ i. tree_first (font_row c.args.table column i (font_at fonts i))) index (length fonts + 1) (omega arith)
     (ap (λ f. tree_first (font_row c.args.table column index f)) at ∙ sym (c.in-None.ensures column index)))
