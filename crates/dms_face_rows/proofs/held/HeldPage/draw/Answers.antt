@@ -12,10 +12,10 @@ returns-clause-cells c = λ page before shows.
     let lines = lines_of c.args.self.now in
     let whole : c.from-height.result ≡ face.height = c.from-height.ensures ∙ c.height.ensures.value in
     let top : c.begin-top.result ≡ begin Start face.height (extent_at Start (map line_block lines)) =
-    c.begin-top.ensures.begin ∙ ap (λ n. begin Start n c.extent.result) whole ∙ ap (begin Start face.height) c.extent.ensures in
+    cc (c.begin-top.ensures.begin, whole, c.extent.ensures) in
     let middle : c.begin-middle.result ≡ begin Halfway face.height (extent_at Halfway (map line_block lines)) =
-    c.begin-middle.ensures.begin ∙ ap (λ n. begin Halfway n c.extent-2.result) whole ∙ ap (begin Halfway face.height) c.extent-2.ensures in
+    cc (c.begin-middle.ensures.begin, whole, c.extent-2.ensures) in
     let bottom : c.begin-bottom.result ≡ begin End face.height (extent_at End (map line_block lines)) =
-    c.begin-bottom.ensures.begin ∙ ap (λ n. begin End n c.extent-3.result) whole ∙ ap (begin End face.height) c.extent-3.ensures in
+    cc (c.begin-bottom.ensures.begin, whole, c.extent-3.ensures) in
     subst (λ l. Shows page c.args.y l c.draw_part-3.new.cells) (lines_are face lines c.begin-top.result c.begin-middle.result c.begin-bottom.result before top middle bottom)
     (c.draw_part-3.ensures.cells page _ (c.draw_part-2.ensures.cells page _ (c.draw_part.ensures.cells page before shows)))

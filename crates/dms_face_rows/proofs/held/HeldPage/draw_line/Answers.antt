@@ -13,11 +13,11 @@ returns-clause-cells c = λ page before shows.
     let characters = c.characters-characters.result.now in
     let whole : c.from-width.result ≡ face.width = c.from-width.ensures ∙ c.width.ensures.value in
     let left : c.begin-left.result ≡ begin Start face.width (extent_at Start (map character_block characters)) =
-    c.begin-left.ensures.begin ∙ ap (λ n. begin Start n c.characters_extent.result) whole ∙ ap (begin Start face.width) c.characters_extent.ensures in
+    cc (c.begin-left.ensures.begin, whole, c.characters_extent.ensures) in
     let centre : c.begin-centre.result ≡ begin Halfway face.width (extent_at Halfway (map character_block characters)) =
-    c.begin-centre.ensures.begin ∙ ap (λ n. begin Halfway n c.characters_extent-2.result) whole ∙ ap (begin Halfway face.width) c.characters_extent-2.ensures in
+    cc (c.begin-centre.ensures.begin, whole, c.characters_extent-2.ensures) in
     let right : c.begin-right.result ≡ begin End face.width (extent_at End (map character_block characters)) =
-    c.begin-right.ensures.begin ∙ ap (λ n. begin End n c.characters_extent-3.result) whole ∙ ap (begin End face.width) c.characters_extent-3.ensures in
+    cc (c.begin-right.ensures.begin, whole, c.characters_extent-3.ensures) in
     subst (λ l. Shows page c.args.y l c.draw_side-3.new.cells)
     (line_is face c.args.top line characters c.begin-left.result c.begin-centre.result c.begin-right.result (c.args.top + c.from.result) before
     c.characters-characters.ensures left centre right (ap (λ n. c.args.top + n) (c.from.ensures ∙ c.height.ensures)))
