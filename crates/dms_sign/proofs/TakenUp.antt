@@ -41,11 +41,11 @@ pub neither : {A : Type 0} (a b : Option A) → option_or a b ≡ None → (a �
 neither None b e = (refl, e)
 neither (Some x) b e = absurd (cc)
 
-unmapped : {A B : Type 0} (f : A → B) (o : Option A) → option_map f o ≡ None → o ≡ None
+pub unmapped : {A B : Type 0} (f : A → B) (o : Option A) → option_map f o ≡ None → o ≡ None
 unmapped f None e = refl
 unmapped f (Some x) e = absurd (cc)
 
-passed : {A : Type 0} (b : Bool) (x : A) (o : Option A) → cond (not b) (Some x) o ≡ None → (b ≡ true) × (o ≡ None)
+pub passed : {A : Type 0} (b : Bool) (x : A) (o : Option A) → cond (not b) (Some x) o ≡ None → (b ≡ true) × (o ≡ None)
 passed true x o e = (refl, e)
 passed false x o e = absurd (cc)
 

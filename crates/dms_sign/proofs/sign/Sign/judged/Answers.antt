@@ -43,36 +43,21 @@ returns-in-Err-clause-first c =
     c.loop-binding.judged.index (option_map write_by c.loop-binding.judged.command) c.loop-binding.rest c.next.new.self (var_bind c.in-Some.binding)
     c.in-Err.status c.loop-binding.invariant.0 c.in-Some.ensures.steps c.in-Err.ensures.refusal
 
-pub returns-clause-none : goal.returns-clause-none
-returns-clause-none c =
-    (judged_all c.args.self.now c.args.may_write c.args.binds.now c.args.settings c.loop-binding.index c.loop-binding.judged.settings
-    c.loop-binding.judged.index (option_map write_by c.loop-binding.judged.command) c.loop-binding.rest c.loop-binding.invariant.0 c.in_default.ensures.steps.0).none
-
-pub returns-clause-settings : goal.returns-clause-settings
-returns-clause-settings c =
-    (judged_all c.args.self.now c.args.may_write c.args.binds.now c.args.settings c.loop-binding.index c.loop-binding.judged.settings
-    c.loop-binding.judged.index (option_map write_by c.loop-binding.judged.command) c.loop-binding.rest c.loop-binding.invariant.0 c.in_default.ensures.steps.0).set
-
-pub returns-clause-command : goal.returns-clause-command
-returns-clause-command c =
-    (judged_all c.args.self.now c.args.may_write c.args.binds.now c.args.settings c.loop-binding.index c.loop-binding.judged.settings
-    c.loop-binding.judged.index (option_map write_by c.loop-binding.judged.command) c.loop-binding.rest c.loop-binding.invariant.0 c.in_default.ensures.steps.0).found
-
-pub returns-clause-index : goal.returns-clause-index
-returns-clause-index c =
-    (judged_all c.args.self.now c.args.may_write c.args.binds.now c.args.settings c.loop-binding.index c.loop-binding.judged.settings
-    c.loop-binding.judged.index (option_map write_by c.loop-binding.judged.command) c.loop-binding.rest c.loop-binding.invariant.0 c.in_default.ensures.steps.0).place
-
-pub returns-clause-fields : goal.returns-clause-fields
-returns-clause-fields c =
-    subst (StaysWithout c.loop-binding.judged.fields c.args.self.now)
-    (all_taken c.args.self.now c.args.may_write c.args.binds.now c.args.settings c.loop-binding.index c.loop-binding.judged.settings
-    c.loop-binding.judged.index (option_map write_by c.loop-binding.judged.command) c.loop-binding.rest c.loop-binding.invariant.0 c.in_default.ensures.steps.0)
-    c.loop-binding.invariant.2
-
-pub returns-clause-kept : goal.returns-clause-kept
-returns-clause-kept c =
-    subst (AreKept c.loop-binding.kept c.loop-binding.index c.args.self.now)
-    (all_taken c.args.self.now c.args.may_write c.args.binds.now c.args.settings c.loop-binding.index c.loop-binding.judged.settings
-    c.loop-binding.judged.index (option_map write_by c.loop-binding.judged.command) c.loop-binding.rest c.loop-binding.invariant.0 c.in_default.ensures.steps.0)
-    c.loop-binding.invariant.3
+pub returns : goal.returns
+returns c =
+    let command = option_map write_by c.loop-binding.judged.command in
+    let all =
+    judged_all c.args.self.now c.args.may_write c.args.binds.now c.args.settings c.loop-binding.index c.loop-binding.judged.settings
+    c.loop-binding.judged.index command c.loop-binding.rest c.loop-binding.invariant.0 c.in_default.ensures.steps.0 in
+    let taken =
+    all_taken c.args.self.now c.args.may_write c.args.binds.now c.args.settings c.loop-binding.index c.loop-binding.judged.settings
+    c.loop-binding.judged.index command c.loop-binding.rest c.loop-binding.invariant.0 c.in_default.ensures.steps.0 in
+    record {
+      none = all.none;
+      settings = all.set;
+      fields = subst (StaysWithout c.loop-binding.judged.fields c.args.self.now) taken c.loop-binding.invariant.2;
+      kept = subst (AreKept c.loop-binding.kept c.loop-binding.index c.args.self.now) taken c.loop-binding.invariant.3;
+      command = all.found;
+      index = all.place;
+      first = tt;
+    }

@@ -25,33 +25,22 @@ command_alone-requires c =
     one_in_range c.args.self.now c.args.binds.now (var_bind c.args.binding.now) (write_by c.in-Ok.change) c.requires.limits c.requires.only
     c.in-Ok.ensures.change is
 
-pub returns-then-is_command-clause-after : goal.returns-then-is_command-clause-after
-returns-then-is_command-clause-after c =
+pub returns-then-is_command : goal.returns-then-is_command
+returns-then-is_command c =
     let is : is_command (write_by c.in-Ok.change) ≡ true = sym c.is_command.ensures ∙ c.if-is_command.true in
-    c.command_alone.ensures.after c.args.binds.now
-    ∙ ap (λ (a : Answer). a.after)
-    (one_commanded c.args.self.now c.args.may_write c.args.binds.now (var_bind c.args.binding.now) (write_by c.in-Ok.change) c.requires.only
-    c.in-Ok.ensures.none c.in-Ok.ensures.change is)
+    let one = one_commanded c.args.self.now c.args.may_write c.args.binds.now (var_bind c.args.binding.now) (write_by c.in-Ok.change) c.requires.only
+    c.in-Ok.ensures.none c.in-Ok.ensures.change is in
+    record {
+      after = c.command_alone.ensures.after c.args.binds.now ∙ ap (λ (a : Answer). a.after) one;
+      says = subst (Says c.command_alone.result) one (c.command_alone.ensures.says c.args.binds.now);
+    }
 
-pub returns-then-is_command-clause-says : goal.returns-then-is_command-clause-says
-returns-then-is_command-clause-says c =
-    let is : is_command (write_by c.in-Ok.change) ≡ true = sym c.is_command.ensures ∙ c.if-is_command.true in
-    subst (Says c.command_alone.result)
-    (one_commanded c.args.self.now c.args.may_write c.args.binds.now (var_bind c.args.binding.now) (write_by c.in-Ok.change) c.requires.only
-    c.in-Ok.ensures.none c.in-Ok.ensures.change is) (c.command_alone.ensures.says c.args.binds.now)
-
-pub returns-else-is_command-clause-after : goal.returns-else-is_command-clause-after
-returns-else-is_command-clause-after c =
+pub returns-else-is_command : goal.returns-else-is_command
+returns-else-is_command c =
     let is : is_command (write_by c.in-Ok.change) ≡ false = sym c.is_command.ensures ∙ c.if-is_command.false in
-    c.assign_one.ensures
-    ∙ ap (λ (a : Answer). a.after)
-    (one_assigned c.args.self.now c.args.may_write c.args.binds.now (var_bind c.args.binding.now) (write_by c.in-Ok.change) c.requires.only
-    c.in-Ok.ensures.none c.in-Ok.ensures.change is)
-
-pub returns-else-is_command-clause-says : goal.returns-else-is_command-clause-says
-returns-else-is_command-clause-says c =
-    let is : is_command (write_by c.in-Ok.change) ≡ false = sym c.is_command.ensures ∙ c.if-is_command.false in
-    subst (λ (a : Answer). (a.status ≡ NoError) × (a.index ≡ 0) × (a.accepted ≡ None))
-    (one_assigned c.args.self.now c.args.may_write c.args.binds.now (var_bind c.args.binding.now) (write_by c.in-Ok.change) c.requires.only
-    c.in-Ok.ensures.none c.in-Ok.ensures.change is)
-    (refl, refl, refl)
+    let one = one_assigned c.args.self.now c.args.may_write c.args.binds.now (var_bind c.args.binding.now) (write_by c.in-Ok.change) c.requires.only
+    c.in-Ok.ensures.none c.in-Ok.ensures.change is in
+    record {
+      after = c.assign_one.ensures ∙ ap (λ (a : Answer). a.after) one;
+      says = subst (λ (a : Answer). (a.status ≡ NoError) × (a.index ≡ 0) × (a.accepted ≡ None)) one (refl, refl, refl);
+    }
