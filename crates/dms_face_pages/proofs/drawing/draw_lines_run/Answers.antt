@@ -1,4 +1,4 @@
-use Rattle.std.proofs.Common.{◌≡◌, ◌∙◌, ◌++◌, filter, map, ap, subst}
+use Rattle.std.proofs.Common.{◌∙◌, ◌++◌, filter, map, ap, subst}
 use Rattle.std.specs.List.{flat_map}
 use Rattle.dms_face.specs.Room.{begin, extent_at, placed_from, line_block}
 use Rattle.dms_face.specs.Cells.{placed_in_line}
@@ -17,7 +17,6 @@ pub returns-clause-cells : goal.returns-clause-cells
 returns-clause-cells c = λ page before shows.
     let face = c.args.face.now in
     let lines = c.args.lines.now in
-    let at : c.begin-first.result ≡ begin c.args.part face.height (extent_at c.args.part (map line_block lines)) =
-    c.begin-first.ensures.begin ∙ ap (λ n. begin c.args.part n c.args.run.size) (c.from.ensures ∙ c.height.ensures.value) ∙ ap (begin c.args.part face.height) c.requires.run.size in
     subst (λ n. Shows face page (before ++ flat_map (placed_in_line face) (placed_from line_block n (filter (has_place line_block c.args.part) lines))) c.draw_part.new.cells.cells)
-    at (c.draw_part.ensures.cells page before shows)
+    (c.begin-first.ensures.begin ∙ ap (λ n. begin c.args.part n c.args.run.size) (c.from.ensures ∙ c.height.ensures.value) ∙ ap (begin c.args.part face.height) c.requires.run.size)
+    (c.draw_part.ensures.cells page before shows)

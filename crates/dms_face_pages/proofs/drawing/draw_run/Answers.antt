@@ -1,4 +1,4 @@
-use Rattle.std.proofs.Common.{◌≡◌, ◌∙◌, ◌++◌, filter, map, ap, subst}
+use Rattle.std.proofs.Common.{◌∙◌, ◌++◌, filter, map, ap, subst}
 use Rattle.dms_face.specs.Room.{begin, extent_at, placed_from, character_block}
 use Rattle.dms_face_pages.specs.Drawing.{has_place, placed_above, Shows}
 use Rattle.dms_face_pages.proofs.PlacingLaws.{nothing_placed}
@@ -16,7 +16,6 @@ pub returns-clause-cells : goal.returns-clause-cells
 returns-clause-cells c = λ page before shows.
     let face = c.args.face.now in
     let characters = c.args.characters.now in
-    let at : c.begin-first.result ≡ begin c.args.side face.width (extent_at c.args.side (map character_block characters)) =
-    c.begin-first.ensures.begin ∙ ap (λ n. begin c.args.side n c.args.run.size) (c.from.ensures ∙ c.width.ensures.value) ∙ ap (begin c.args.side face.width) c.requires.run.size in
     subst (λ n. Shows face page (before ++ map (placed_above c.args.bottom) (placed_from character_block n (filter (has_place character_block c.args.side) characters))) c.draw_side.new.cells.cells)
-    at (c.draw_side.ensures.cells page before shows)
+    (c.begin-first.ensures.begin ∙ ap (λ n. begin c.args.side n c.args.run.size) (c.from.ensures ∙ c.width.ensures.value) ∙ ap (begin c.args.side face.width) c.requires.run.size)
+    (c.draw_side.ensures.cells page before shows)
