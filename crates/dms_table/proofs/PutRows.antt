@@ -1,5 +1,5 @@
 -- A row is put where one is that is not used.
-use Rattle.std.proofs.Common.{◌≡◌, ℕ, ◌+◌, ◌-◌, ◌==◌, ◌&&◌, not, Bool, true, false, cond, List, [], Option, Some, None, slice_get, refl, ap, sym, subst, ◌∙◌, arith}
+use Rattle.std.proofs.Common.{◌≡◌, ℕ, ◌+◌, ◌&&◌, not, Bool, true, false, cond, List, [], Option, Some, None, refl, ap, sym, ◌∙◌, arith}
 use Rattle.std.specs.Option.{is_some}
 use Rattle.std.proofs.lemmas.Option.{same_Some}
 use Rattle.dms_codes.specs.declared.memory.Memory.{Memory}
@@ -13,10 +13,10 @@ use Rattle.dms_table.specs.declared.saved_row.RowFault.TheVariants as faults
 use Rattle.dms_table.specs.declared.writable.Writable.{Writable}
 use Rattle.dms_table.specs.declared.writable.RowPlace.{RowPlace}
 use Rattle.dms_table.specs.Rows.{RowModel, TableModel, row_is_validating, numbered, changed_in, is_settling}
-use Rattle.dms_table.specs.PlaceView.{writable_by, writable, of_type, validating_if, IsOnlyOfAll, IsPlaced}
+use Rattle.dms_table.specs.PlaceView.{writable_by, writable, of_type, validating_if, IsPlaced}
 use Rattle.dms_table.specs.SavedRows.{put_over, place_fault, writable_rows_by, row_there, may_put, value_fault}
 use Rattle.dms_table.proofs.OneRow.{count, weight, changed_one_row}
-use Rattle.dms_table.proofs.Places.{Frees, IsValidatingAt, kept_place, put_there, placed_settling}
+use Rattle.dms_table.proofs.Places.{Frees, kept_place, put_there, placed_settling}
 
 -- ---- the row that is there
 

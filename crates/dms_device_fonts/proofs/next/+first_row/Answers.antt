@@ -1,4 +1,4 @@
-use Rattle.std.proofs.Common.{◌≡◌, ◌+◌, Some, length, sym, ap, ◌∙◌, arith}
+use Rattle.std.proofs.Common.{◌+◌, length, sym, ap, ◌∙◌, arith}
 use Rattle.dms_device_fonts.specs.Tree.{tree_first}
 use Rattle.dms_device_fonts.specs.Fonts.{font_row, font_at}
 use Rattle.dms_device_fonts.specs.View.{end_binding}

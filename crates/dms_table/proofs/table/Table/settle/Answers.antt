@@ -1,4 +1,4 @@
-use Rattle.std.proofs.Common.{◌≡◌, true, length, Some, ap, ◌∙◌, arith}
+use Rattle.std.proofs.Common.{◌≡◌, true, Some, ap, ◌∙◌, arith}
 use Rattle.dms_face.specs.Fit.{IsGood}
 use Rattle.dms_face.specs.Layout.{under}
 use Rattle.dms_table.specs.Rows.{RowModel, TableModel}
