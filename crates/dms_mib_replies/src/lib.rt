@@ -16,4 +16,4 @@ mod sending;
 
 pub use answering::{answer_get, answer_next};
 pub use objects::{Next, NextName, Objects};
-pub use sending::{repeat, reply, reply_one};
+pub use sending::{repeat, reply};

@@ -3,26 +3,18 @@
 ghost use Rattle.std.specs.Prelude.{◌≡◌, List, [], ◌∷◌};
 ghost use Rattle.dms_wire.specs.ErrorStatus.{error_status_number};
 ghost use Rattle.dms_wire.specs.Message.{VarBind};
-ghost use Rattle.dms_wire.specs.View.{snmp_message, var_bind, binding_of};
+ghost use Rattle.dms_wire.specs.View.{snmp_message, binding_of};
 ghost use Rattle.dms_wire.specs.Canonical.{canonical};
 ghost use Rattle.dms_wire.specs.Response.{response_to};
 ghost use Rattle.dms_wire.specs.Written.{octets_of_bindings};
 ghost use Rattle.dms_mib_replies.specs.Replies.{too_big, reply_with, IsRead};
 
 use dms_wire::{
-    Bind, BindingOctets, ErrorStatus, Message, Oid, Out, Value, write_around, write_response,
-    write_value,
+    BindingOctets, ErrorStatus, Message, Oid, Out, Value, write_around, write_response, write_value,
 };
 
-/// Writes the reply that has this binding alone, or tooBig where it does not fit a datagram.
-pub fn reply_one(message: &Message<'_>, binding: &Bind<'_>, out: &mut Out)
-    requires { IsRead (snmp_message message.now) }
-    ensures { out.new.items ≡ reply_with (snmp_message message.now) 0 0 (var_bind binding.now ∷ []) }
-{
-    reply_value(message, &binding.name, &binding.value, out)
-}
-
-/// Writes the reply that has the binding of this name and this value alone, as `reply_one` does: neither is moved.
+/// Writes the reply that has the binding of this name and this value alone, or tooBig where it does not fit a datagram:
+/// neither is moved.
 pub(crate) fn reply_value(message: &Message<'_>, name: &Oid<'_>, value: &Value<'_>, out: &mut Out)
     requires { IsRead (snmp_message message.now) }
     ensures { out.new.items ≡ reply_with (snmp_message message.now) 0 0 (binding_of name.now value.now ∷ []) }

@@ -1,23 +1,14 @@
-//! The end of a call's line, and the parts of answers.
+//! The parts of answers.
 
-ghost use Rattle.std.specs.Prelude.{◌≡◌, ◌++◌, ◌+◌, ◌*◌, ◌≤◌, if◌then◌else◌, Some, None, IfOk};
+ghost use Rattle.std.specs.Prelude.{◌≡◌, ◌++◌, ◌+◌, ◌*◌, ◌≤◌, IfOk};
 ghost use Rattle.std.specs.Prelude.{length, vec_len, vec_capacity};
 ghost use Rattle.hex.specs.Hex.{encode_lower};
-ghost use Rattle.dms_text.specs.Reading.{is_end};
 ghost use Rattle.dms_text_streams.specs.Conversation.{bad_line, ok_line};
 
-use dms_text::Words;
 use std::alloc::{AllocError, Global};
 
 /// So many octets are made digits at a time.
 const FEW: usize = 64;
-
-/// The call, where no words are left.
-pub fn alone<T: Drop>(words: Words<'_>, call: T) -> Option<T>
-    ensures { result ≡ if is_end words.entry then Some call else None }
-{
-    if words.is_empty() { Some(call) } else { None }
-}
 
 /// The line `ok`.
 pub fn ok_line(alloc: Global) -> Result<Vec<u8>, AllocError>

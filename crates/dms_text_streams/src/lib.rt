@@ -34,7 +34,7 @@ mod source;
 pub mod taking;
 mod writing;
 
-pub use answers::{alone, bad_line, ok_line, put, put_digits};
+pub use answers::{bad_line, ok_line, put, put_digits};
 pub use conversation::{LONGEST_LINE, converse};
 pub use counted::Counted;
 pub use describing::{LONGEST_INPUT, description_text};
