@@ -72,10 +72,10 @@ fn call_after(
     match keyword {
         CentreKeyword::Command(asked) => command(alloc, order, asked, words),
         CentreKeyword::Datagram => datagram(alloc, words),
-        CentreKeyword::Tick => Ok(alone(words, CentreCall::Tick)),
-        CentreKeyword::Restart => Ok(alone(words, CentreCall::Restart)),
+        CentreKeyword::Tick => Ok(if_last(words, CentreCall::Tick)),
+        CentreKeyword::Restart => Ok(if_last(words, CentreCall::Restart)),
         CentreKeyword::Status => Ok(status(words)),
-        CentreKeyword::Save => Ok(alone(words, CentreCall::Save)),
+        CentreKeyword::Save => Ok(if_last(words, CentreCall::Save)),
     }
 }
 
@@ -135,7 +135,7 @@ fn status(words: Words<'_>) -> Result<CentreCall, CentreCallCause>
 }
 
 /// The call, where no words are left.
-fn alone(words: Words<'_>, call: CentreCall) -> Result<CentreCall, CentreCallCause>
+fn if_last(words: Words<'_>, call: CentreCall) -> Result<CentreCall, CentreCallCause>
     ensures call { result_ok result ≡ if_last call words.entry }
     ensures cause { result_err result ≡ word_cause [] words.entry }
 {

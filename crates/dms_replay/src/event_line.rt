@@ -19,7 +19,7 @@ use crate::script_event::ScriptEvent;
 use dms_centre_text::{CommandWord, command_after};
 use dms_codes::Order;
 use dms_text::{Words, number};
-use dms_text_causes::alone;
+use dms_text_causes::if_last;
 use dms_text_forms::{LineWords, WordFault, WordName};
 use std::alloc::{AllocError, Global};
 
@@ -192,13 +192,13 @@ fn event_after(
 {
     match keyword {
         EventKeyword::Command(asked) => command(alloc, order, asked, words),
-        EventKeyword::SignTick => Ok(alone(words, ScriptEvent::SignTick)),
-        EventKeyword::CentreTick => Ok(alone(words, ScriptEvent::CentreTick)),
+        EventKeyword::SignTick => Ok(if_last(words, ScriptEvent::SignTick)),
+        EventKeyword::CentreTick => Ok(if_last(words, ScriptEvent::CentreTick)),
         EventKeyword::ToSign => Ok(words.last_number().map(ScriptEvent::ToSign)),
         EventKeyword::ToCentre => Ok(words.last_number().map(ScriptEvent::ToCentre)),
-        EventKeyword::PowerLost => Ok(alone(words, ScriptEvent::PowerLost)),
+        EventKeyword::PowerLost => Ok(if_last(words, ScriptEvent::PowerLost)),
         EventKeyword::PowerBack => Ok(words.last_number().map(ScriptEvent::PowerBack)),
-        EventKeyword::CentreRestart => Ok(alone(words, ScriptEvent::CentreRestart)),
+        EventKeyword::CentreRestart => Ok(if_last(words, ScriptEvent::CentreRestart)),
         EventKeyword::ForgeSign => Ok(
             words
                 .last_octets(alloc, WordName::Datagram)?

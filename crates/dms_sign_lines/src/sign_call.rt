@@ -11,7 +11,7 @@ ghost use Rattle.dms_sign_lines.specs.CallView.{call_model};
 use crate::cause::SignCallCause;
 use crate::keyword::SignKeyword;
 use dms_text::Words;
-use dms_text_causes::alone;
+use dms_text_causes::if_last;
 use dms_text_forms::{LineWords, WordFault, WordName};
 use std::alloc::{AllocError, Global};
 
@@ -82,13 +82,13 @@ fn call_after(
                 .last_octets(alloc, WordName::Datagram)?
                 .map(SignCall::Datagram),
         ),
-        SignKeyword::Tick => Ok(alone(words, SignCall::Tick)),
+        SignKeyword::Tick => Ok(if_last(words, SignCall::Tick)),
         SignKeyword::Ticks => Ok(words.last_number().map(SignCall::Ticks)),
-        SignKeyword::Heard => Ok(alone(words, SignCall::Heard)),
-        SignKeyword::PowerLost => Ok(alone(words, SignCall::PowerLost)),
+        SignKeyword::Heard => Ok(if_last(words, SignCall::Heard)),
+        SignKeyword::PowerLost => Ok(if_last(words, SignCall::PowerLost)),
         SignKeyword::PowerBack => Ok(words.last_number().map(SignCall::PowerBack)),
-        SignKeyword::Show => Ok(alone(words, SignCall::Show)),
-        SignKeyword::State => Ok(alone(words, SignCall::State)),
-        SignKeyword::Save => Ok(alone(words, SignCall::Save)),
+        SignKeyword::Show => Ok(if_last(words, SignCall::Show)),
+        SignKeyword::State => Ok(if_last(words, SignCall::State)),
+        SignKeyword::Save => Ok(if_last(words, SignCall::Save)),
     }
 }

@@ -4,7 +4,7 @@
 //!
 //! ```
 //! let words = LineWords { place: 2, words: Words::of(b"7") };
-//! let fault = alone(words, "tick").err().ok_or("no fault")?;
+//! let fault = if_last(words, "tick").err().ok_or("no fault")?;
 //! assert!(rt; bad_line(alloc, fault)?.as_slice() == b"bad line word 2: no more words are wanted\n");
 //! ```
 #![tactic(auto)]
@@ -13,4 +13,4 @@ mod answers;
 mod line_end;
 
 pub use answers::bad_line;
-pub use line_end::alone;
+pub use line_end::if_last;
