@@ -118,7 +118,7 @@ fn failed_at(digit: u8, rest: &[u8]) -> Option<Ended>
 {
     let reason = behind(b": ", rest)?;
     let step = step_digit(digit)?;
-    let why = why(reason)?;
+    let why = why_in(reason)?;
     Some(Ended::Failed(step, why))
 }
 
@@ -134,7 +134,7 @@ fn step_digit(digit: u8) -> Option<u8>
 }
 
 /// Why a job failed.
-fn why(reason: &[u8]) -> Option<Why>
+fn why_in(reason: &[u8]) -> Option<Why>
     ensures { result ≡ why_in reason.now }
 {
     match why_alone(reason) {

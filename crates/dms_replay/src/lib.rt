@@ -24,5 +24,5 @@ pub mod script_event;
 pub use dms_centre_text::address;
 pub use dms_sign_text::{LONGEST_INPUT, ReplayFault, described};
 pub use event_cause::EventCause;
-pub use reasons::{ScriptCause, why};
+pub use reasons::{ScriptCause, cause_of_line};
 pub use replaying::{bench, replay};

@@ -44,7 +44,11 @@ impl fmt::Display for ScriptCause {
 
 /// Why the line of this number is the one for which the script is refused. There is a cause of each such line; none is
 /// said of any other line, and none where the text spells a script. It must have at most `LONGEST_INPUT` octets.
-pub fn why(alloc: Global, octets: &[u8], number: usize) -> Result<Option<ScriptCause>, AllocError>
+pub fn cause_of_line(
+    alloc: Global,
+    octets: &[u8],
+    number: usize,
+) -> Result<Option<ScriptCause>, AllocError>
     requires { length octets.now ≤ longest_input }
     ensures cause { IfOk result (λ found. IfSome found (IsCauseOf octets.now number)) }
     ensures refused { IfOk result (λ found. IfSome found (λ cause. NoScript octets.now)) }

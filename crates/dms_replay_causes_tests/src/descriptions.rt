@@ -2,7 +2,7 @@
 
 mod cases;
 
-use dms_sign_text::{BENCH, DescriptionFault, description, why};
+use dms_sign_text::{BENCH, DescriptionFault, cause_of_line, description};
 use std::alloc::{AllocError, Global};
 use std::process::Abort;
 use std::test::Fail;
@@ -35,11 +35,14 @@ fn changed(alloc: Global, edits: &str) -> Result<String, AllocError> {
 fn said(alloc: Global, text: &str) -> Result<(String, bool), Fail> {
     let octets = text.as_bytes();
     let Err(DescriptionFault::Line(number)) = description(alloc, octets) else {
-        return Ok((String::new(alloc), why(alloc, octets, 1)?.is_none()));
+        return Ok((
+            String::new(alloc),
+            cause_of_line(alloc, octets, 1)?.is_none(),
+        ));
     };
-    let beside = why(alloc, octets, number.saturating_sub(1))?.is_none()
-        && why(alloc, octets, number.saturating_add(1))?.is_none();
-    match why(alloc, octets, number)? {
+    let beside = cause_of_line(alloc, octets, number.saturating_sub(1))?.is_none()
+        && cause_of_line(alloc, octets, number.saturating_add(1))?.is_none();
+    match cause_of_line(alloc, octets, number)? {
         Some(cause) => Ok((format!(in alloc; "{number}: {cause}")?, beside)),
         None => Ok((String::new(alloc), beside)),
     }

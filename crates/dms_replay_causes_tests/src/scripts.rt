@@ -1,6 +1,6 @@
 //! What is said of scripts that are refused.
 
-use dms_replay::{ReplayFault, replay, why};
+use dms_replay::{ReplayFault, cause_of_line, replay};
 use dms_sign_text::BENCH;
 use dms_text_streams::Gathered;
 use std::alloc::Global;
@@ -32,10 +32,12 @@ fn said(alloc: Global, text: &str) -> Result<String, Fail> {
     else {
         return Ok(String::new(alloc));
     };
-    if octets.len() > 1_048_576 || why(alloc, octets, number.saturating_add(1))?.is_some() {
+    if octets.len() > 1_048_576
+        || cause_of_line(alloc, octets, number.saturating_add(1))?.is_some()
+    {
         return Ok(String::new(alloc));
     }
-    match why(alloc, octets, number)? {
+    match cause_of_line(alloc, octets, number)? {
         Some(cause) => Ok(format!(in alloc; "{number}: {cause}")?),
         None => Ok(String::new(alloc)),
     }

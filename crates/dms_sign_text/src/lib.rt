@@ -42,6 +42,6 @@ pub use dms_text_streams::LONGEST_INPUT;
 pub use fault::DescriptionFault;
 pub use reader::{description, sign_of_lines};
 pub use reading_fault::{ReplayFault, write_fault};
-pub use reasons::{first_cause, why};
+pub use reasons::{cause_of_line, first_cause};
 pub use setup::Setup;
 pub use shown_text::put_shown;

@@ -26,7 +26,11 @@ use std::alloc::{AllocError, Global};
 
 /// Why the line of this number is the one for which the description is refused. There is a cause of each such line;
 /// none is said of any other line, and none where the description is a sign's.
-pub fn why(alloc: Global, octets: &[u8], number: usize) -> Result<Option<LineCause>, AllocError>
+pub fn cause_of_line(
+    alloc: Global,
+    octets: &[u8],
+    number: usize,
+) -> Result<Option<LineCause>, AllocError>
     ensures cause { IfOk result (λ found. IfSome found (λ cause. first_cause (kept_lines octets.now) ≡ Some cause)) }
     ensures refused { IfOk result
         (λ found. IfSome found (λ cause. (it : Description) → SpellsSign (kept_lines octets.now) it → ⊥)) }

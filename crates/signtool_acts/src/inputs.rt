@@ -156,7 +156,7 @@ fn described_text(alloc: Global, octets: &[u8]) -> Result<Setup, InputRefusal>
 fn description_cause(alloc: Global, octets: &[u8], number: usize) -> Option<ScriptCause>
     ensures { IfSome result (IsDescriptionCause (kept_lines octets.now) (faults.Line number)) }
 {
-    match dms_sign_text::why(alloc, octets, number) {
+    match dms_sign_text::cause_of_line(alloc, octets, number) {
         Ok(Some(cause)) => Some(ScriptCause::Sign(cause)),
         _ => None,
     }
@@ -216,7 +216,7 @@ fn script_cause(alloc: Global, octets: &[u8], number: usize) -> Option<ScriptCau
     requires { length octets.now ≤ longest_input }
     ensures { IfSome result (IsScriptCause octets.now (faults.Line number)) }
 {
-    match dms_replay::why(alloc, octets, number) {
+    match dms_replay::cause_of_line(alloc, octets, number) {
         Ok(cause) => cause,
         Err(_) => None,
     }

@@ -1,5 +1,5 @@
 use Rattle.dms_sign_text.proofs.FirstCause.{no_line_ok, no_line_of_a_sign, another_line}
-use Rattle.dms_sign_text.proofs.reasons.why.Goals as goal
+use Rattle.dms_sign_text.proofs.reasons.cause_of_line.Goals as goal
 
 pub returns-in_default-clause-told : goal.returns-in_default-clause-told
 returns-in_default-clause-told c = no_line_of_a_sign c.args.octets.now c.args.number c.in_default.field-0 c.in_default.ensures.read

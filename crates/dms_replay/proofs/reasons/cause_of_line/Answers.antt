@@ -1,5 +1,5 @@
 use Rattle.dms_replay.proofs.ScriptCauses.{no_line_of_a_script, another_line}
-use Rattle.dms_replay.proofs.reasons.why.Goals as goal
+use Rattle.dms_replay.proofs.reasons.cause_of_line.Goals as goal
 
 pub returns-in_default-clause-told : goal.returns-in_default-clause-told
 returns-in_default-clause-told c =
