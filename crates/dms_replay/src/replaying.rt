@@ -85,5 +85,5 @@ pub fn bench(alloc: Global) -> Result<Setup, ReplayFault>
     ensures sign { IfOk result (λ setup. (it : Description) × SpellsSign (kept_lines bench_text) it × IsMade it setup) }
     ensures memory { IfErr result (λ fault. fault ≡ faults.Memory) }
 {
-    Ok(dms_sign_text::bench(alloc)?)
+    Ok(dms_sign_text::bench_setup(alloc)?)
 }

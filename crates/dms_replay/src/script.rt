@@ -99,7 +99,7 @@ pub(crate) fn named_sign(alloc: Global, octets: &[u8]) -> Result<(Setup, Lines<'
     ensures number { IfErr result (NamesLine (λ number. number ≡ refused_number (all_numbered (lines octets.now)))) }
 {
     if let Some(rest) = after_bench(octets) {
-        return Ok((dms_sign_text::bench(alloc)?, rest));
+        return Ok((dms_sign_text::bench_setup(alloc)?, rest));
     }
     match sign_of_lines(alloc, Lines::of(octets)) {
         Ok((setup, rest)) => Ok((setup, rest)),

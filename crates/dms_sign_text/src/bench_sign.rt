@@ -32,7 +32,7 @@ end
 ";
 
 /// The bench sign as it starts, and the number of the first request of its centre.
-pub fn bench(alloc: Global) -> Result<Setup, AllocError>
+pub fn bench_setup(alloc: Global) -> Result<Setup, AllocError>
     ensures { IfOk result (λ setup. (it : Description) × SpellsSign (kept_lines bench_text) it × IsMade it setup) }
 {
     let text = bench_text();

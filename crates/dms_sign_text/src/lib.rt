@@ -36,7 +36,7 @@ mod shown_text;
 mod sign_reasons;
 mod upcoming;
 
-pub use bench_sign::{BENCH, bench};
+pub use bench_sign::{BENCH, bench_setup};
 pub use describing::{described, described_before, text_before, whole_input};
 pub use dms_text_streams::LONGEST_INPUT;
 pub use fault::DescriptionFault;

@@ -1,7 +1,7 @@
 //! The bench sign by its values, and at which line bad descriptions are at fault.
 
 use dms_codes::Order;
-use dms_sign_text::{BENCH, DescriptionFault, Setup, bench, description, sign_of_lines};
+use dms_sign_text::{BENCH, DescriptionFault, Setup, bench_setup, description, sign_of_lines};
 use dms_text::Lines;
 use std::alloc::{AllocError, Global};
 use std::test::Fail;
@@ -248,7 +248,7 @@ fn face_of(setup: &Setup) -> (u16, u16, usize, u8, Option<usize>) {
 
 #[test]
 fn the_bench_sign_is_as_its_description_says(rt: HostRuntime) -> Result<(), Fail> {
-    let setup = bench(rt.alloc())?;
+    let setup = bench_setup(rt.alloc())?;
     assert_eq!(rt;
         (
             face_of(&setup),
@@ -310,7 +310,7 @@ fn read(alloc: Global) -> Result<(bool, usize), DescriptionFault> {
 
 /// Whether the sign that is made is the bench sign.
 fn made(alloc: Global) -> Result<bool, AllocError> {
-    Ok(is_bench_sign(&bench(alloc)?))
+    Ok(is_bench_sign(&bench_setup(alloc)?))
 }
 
 /// Each call answers the sign, or out of memory where `rt try --test --fail-alloc N` refuses it; the same call then

@@ -1,5 +1,5 @@
 use Rattle.dms_sign_text.proofs.BenchRead.{no_wrong_line}
-use Rattle.dms_sign_text.proofs.bench_sign.bench.Goals as goal
+use Rattle.dms_sign_text.proofs.bench_sign.bench_setup.Goals as goal
 
 pub unreachable-requires : goal.unreachable-requires
 unreachable-requires c =
