@@ -21,32 +21,32 @@ use dms_text_streams::Gathered;
 use dms_wire::{Bind, MAX_BINDINGS, MessageParts, Out, Value, read, write};
 use std::alloc::Global;
 
-/// With a number after what was noted before: it depends on each of them and on their order.
-fn noted(sum: u64, number: u64) -> u64 {
+/// With a number after what was summed before: it depends on each of them and on their order.
+fn with_number(sum: u64, number: u64) -> u64 {
     sum.wrapping_mul(1_099_511_628_211).wrapping_add(number)
 }
 
 /// With these octets and how many they are.
-fn octets_noted(before: u64, octets: &[u8]) -> u64 {
-    let mut sum = noted(before, octets.len() as u64);
+fn with_octets(before: u64, octets: &[u8]) -> u64 {
+    let mut sum = with_number(before, octets.len() as u64);
     for octet in octets {
-        sum = noted(sum, u64::from(*octet));
+        sum = with_number(sum, u64::from(*octet));
     }
     sum
 }
 
 /// With a value: the number of its tag, and its content.
-fn value_noted(sum: u64, value: &Value<'_>) -> u64 {
+fn with_value(sum: u64, value: &Value<'_>) -> u64 {
     match value {
-        Value::Integer(number) => noted(noted(sum, 2), number.unsigned_abs()),
-        Value::Octets(octets) => octets_noted(noted(sum, 4), octets),
-        Value::Null => noted(sum, 5),
-        Value::Name(name) => octets_noted(noted(sum, 6), name.content()),
-        Value::Address(octets) => octets_noted(noted(sum, 64), octets.as_slice()),
-        Value::Counter(number) => noted(noted(sum, 65), u64::from(*number)),
-        Value::Gauge(number) => noted(noted(sum, 66), u64::from(*number)),
-        Value::Ticks(number) => noted(noted(sum, 67), u64::from(*number)),
-        Value::Opaque(octets) => octets_noted(noted(sum, 68), octets),
+        Value::Integer(number) => with_number(with_number(sum, 2), number.unsigned_abs()),
+        Value::Octets(octets) => with_octets(with_number(sum, 4), octets),
+        Value::Null => with_number(sum, 5),
+        Value::Name(name) => with_octets(with_number(sum, 6), name.content()),
+        Value::Address(octets) => with_octets(with_number(sum, 64), octets.as_slice()),
+        Value::Counter(number) => with_number(with_number(sum, 65), u64::from(*number)),
+        Value::Gauge(number) => with_number(with_number(sum, 66), u64::from(*number)),
+        Value::Ticks(number) => with_number(with_number(sum, 67), u64::from(*number)),
+        Value::Opaque(octets) => with_octets(with_number(sum, 68), octets),
     }
 }
 
@@ -54,13 +54,13 @@ fn value_noted(sum: u64, value: &Value<'_>) -> u64 {
 #[unsafe(no_mangle)]
 pub extern "C" fn dms_answers_read(datagram: &[u8]) -> u64 {
     match read(datagram) {
-        Err(fault) => noted(u64::from(fault.kind.number()), fault.place as u64),
+        Err(fault) => with_number(u64::from(fault.kind.number()), fault.place as u64),
         Ok(message) => {
-            let mut sum = noted(0, message.request.unsigned_abs());
-            sum = octets_noted(sum, message.community);
+            let mut sum = with_number(0, message.request.unsigned_abs());
+            sum = with_octets(sum, message.community);
             for bind in message.binds {
-                sum = octets_noted(sum, bind.name.content());
-                sum = value_noted(sum, &bind.value);
+                sum = with_octets(sum, bind.name.content());
+                sum = with_value(sum, &bind.value);
             }
             sum
         }
@@ -87,7 +87,7 @@ pub extern "C" fn dms_answers_write(datagram: &[u8]) -> u64 {
     };
     let mut out = Out::new();
     match write(&parts, &mut out) {
-        Ok(()) => octets_noted(1, out.as_slice()),
+        Ok(()) => with_octets(1, out.as_slice()),
         Err(_) => 0,
     }
 }
@@ -99,39 +99,51 @@ pub extern "C" fn dms_answers_check(alloc: Global, fonts: &[u8], text: &[u8]) ->
         return 0;
     };
     match check(&face, text) {
-        Ok(count) => noted(1, count as u64),
-        Err(fault) => noted(noted(2, u64::from(fault.code.number())), fault.place as u64),
+        Ok(count) => with_number(1, count as u64),
+        Err(fault) => with_number(
+            with_number(2, u64::from(fault.code.number())),
+            fault.place as u64,
+        ),
     }
 }
 
 /// With all that a cell shows.
-fn cell_noted(before: u64, cell: Cell) -> u64 {
-    let sum = noted(noted(before, u64::from(cell.lit)), u64::from(cell.colour));
+fn with_cell(before: u64, cell: Cell) -> u64 {
+    let sum = with_number(
+        with_number(before, u64::from(cell.lit)),
+        u64::from(cell.colour),
+    );
     match cell.flash {
-        None => noted(sum, 0),
+        None => with_number(sum, 0),
         Some(flash) => {
-            let sum = noted(sum, 1 + u64::from(flash.first == Lead::Dark));
-            noted(noted(sum, u64::from(flash.lit)), u64::from(flash.dark))
+            let sum = with_number(sum, 1 + u64::from(flash.first == Lead::Dark));
+            with_number(
+                with_number(sum, u64::from(flash.lit)),
+                u64::from(flash.dark),
+            )
         }
     }
 }
 
 /// With the cells of a row.
-fn row_noted(before: u64, page: &Page, y: u16) -> u64
+fn with_row(before: u64, page: &Page, y: u16) -> u64
     requires { y < page.now.height }
 {
     let mut sum = before;
     for x in 0..page.width() {
-        sum = cell_noted(sum, page.cell(x, y));
+        sum = with_cell(sum, page.cell(x, y));
     }
     sum
 }
 
 /// With a page's times and its cells.
-fn page_noted(before: u64, page: &Page) -> u64 {
-    let mut sum = noted(noted(before, u64::from(page.on())), u64::from(page.off()));
+fn with_page(before: u64, page: &Page) -> u64 {
+    let mut sum = with_number(
+        with_number(before, u64::from(page.on())),
+        u64::from(page.off()),
+    );
     for y in 0..page.height() {
-        sum = row_noted(sum, page, y);
+        sum = with_row(sum, page, y);
     }
     sum
 }
@@ -145,21 +157,21 @@ pub extern "C" fn dms_answers_pages(alloc: Global, fonts: &[u8], text: &[u8]) ->
     let Ok(made) = pages(alloc, &face, text) else {
         return 0;
     };
-    let mut sum = noted(0, made.len() as u64);
+    let mut sum = with_number(0, made.len() as u64);
     for page in &made {
-        sum = page_noted(sum, page);
+        sum = with_page(sum, page);
     }
     sum
 }
 
 /// With what came of a datagram.
-fn receipt_noted(sum: u64, receipt: Receipt) -> u64 {
+fn with_receipt(sum: u64, receipt: Receipt) -> u64 {
     match receipt {
-        Receipt::Dropped => noted(sum, 0),
-        Receipt::Replied => noted(sum, 1),
+        Receipt::Dropped => with_number(sum, 0),
+        Receipt::Replied => with_number(sum, 1),
         Receipt::Accepted(code) => {
             let octets = code.to_bytes(Order::High);
-            octets_noted(noted(sum, 2), octets.as_slice())
+            with_octets(with_number(sum, 2), octets.as_slice())
         }
     }
 }
@@ -173,7 +185,7 @@ fn answered(sign: &mut Sign, script: &[u8], before: u64, out: &mut Out) -> u64 {
             sign.tick();
         } else {
             let receipt = sign.receive(datagram, out);
-            sum = octets_noted(receipt_noted(sum, receipt), out.as_slice());
+            sum = with_octets(with_receipt(sum, receipt), out.as_slice());
         }
         left = rest;
     }
@@ -204,7 +216,7 @@ fn agent_answered(agent: &mut Agent, script: &[u8], before: u64, out: &mut Out) 
     let mut left = script;
     'steps: while let Some((datagram, rest)) = step(left) {
         let receipt = agent.receive(datagram, out);
-        sum = octets_noted(receipt_noted(sum, receipt), out.as_slice());
+        sum = with_octets(with_receipt(sum, receipt), out.as_slice());
         left = rest;
     }
     sum
@@ -223,25 +235,22 @@ pub extern "C" fn dms_answers_agent(
     };
     let mut out = Out::new();
     let once = agent_answered(&mut agent, script, 0, &mut out);
-    objects_noted(agent_answered(&mut agent, script, once, &mut out), &agent)
+    with_objects(agent_answered(&mut agent, script, once, &mut out), &agent)
 }
 
 /// With the name and the value of each object.
-fn objects_noted(before: u64, agent: &Agent) -> u64 {
-    let mut sum = noted(before, agent.device().objects().len() as u64);
+fn with_objects(before: u64, agent: &Agent) -> u64 {
+    let mut sum = with_number(before, agent.device().objects().len() as u64);
     for object in agent.device().objects() {
-        sum = object_noted(sum, object);
+        sum = with_object(sum, object);
     }
     sum
 }
 
 /// With an object's name, its value, and whether a manager set it.
-fn object_noted(before: u64, object: &PublishedObject) -> u64 {
-    let sum = octets_noted(before, object.name().content());
-    noted(
-        value_noted(sum, &object.value()),
-        u64::from(object.is_set()),
-    )
+fn with_object(before: u64, object: &PublishedObject) -> u64 {
+    let sum = with_octets(before, object.name().content());
+    with_number(with_value(sum, &object.value()), u64::from(object.is_set()))
 }
 
 /// The objects of an agent in which one is published and published again, and then without it.
@@ -258,10 +267,10 @@ pub extern "C" fn dms_answers_publish(
     let mut sum = 0_u64;
     for number in [1, 2] {
         let done = publish(alloc, &mut agent, name, number);
-        sum = objects_noted(noted(sum, u64::from(done)), &agent);
+        sum = with_objects(with_number(sum, u64::from(done)), &agent);
     }
     let found = withdraw(&mut agent, name);
-    objects_noted(noted(sum, u64::from(found)), &agent)
+    with_objects(with_number(sum, u64::from(found)), &agent)
 }
 
 /// Each request of a new central system that publishes the text, and whether the text was accepted.
@@ -275,15 +284,15 @@ pub extern "C" fn dms_answers_publication(alloc: Global, text: &[u8]) -> u64 {
     };
     let mut out = Out::new();
     let taken = centre.command(publication(text), &mut out).is_ok();
-    let mut sum = octets_noted(u64::from(taken), out.as_slice());
+    let mut sum = with_octets(u64::from(taken), out.as_slice());
     for at in 0..REQUESTS {
         if at == REQUESTS - 1 && centre.tick(&mut out).is_ok() {
-            sum = octets_noted(sum, out.as_slice());
+            sum = with_octets(sum, out.as_slice());
         }
         centre.receive(replies[at].as_slice(), &mut out);
-        sum = octets_noted(sum, out.as_slice());
+        sum = with_octets(sum, out.as_slice());
     }
-    noted(sum, u64::from(centre.last() == Ended::Accepted))
+    with_number(sum, u64::from(centre.last() == Ended::Accepted))
 }
 
 /// What a central system sends where the text's publication is commanded, some ticks pass, and it is restarted: twice.
@@ -296,13 +305,13 @@ pub extern "C" fn dms_answers_waits(alloc: Global, text: &[u8], ticks: u32) -> u
     let mut sum = 0_u64;
     for _ in 0..2 {
         let taken = centre.command(publication(text), &mut out).is_ok();
-        sum = octets_noted(noted(sum, u64::from(taken)), out.as_slice());
+        sum = with_octets(with_number(sum, u64::from(taken)), out.as_slice());
         for _ in 0..ticks {
             let done = centre.tick(&mut out).is_ok();
-            sum = octets_noted(noted(sum, u64::from(done)), out.as_slice());
+            sum = with_octets(with_number(sum, u64::from(done)), out.as_slice());
         }
         centre.restart();
-        sum = noted(sum, u64::from(centre.busy()));
+        sum = with_number(sum, u64::from(centre.busy()));
     }
     sum
 }
@@ -316,9 +325,9 @@ pub extern "C" fn dms_answers_foreign(alloc: Global, datagram: &[u8]) -> u64 {
     };
     let mut out = Out::new();
     let taken = centre.command(publication(b"A"), &mut out).is_ok();
-    let sum = octets_noted(u64::from(taken), out.as_slice());
+    let sum = with_octets(u64::from(taken), out.as_slice());
     centre.receive(datagram, &mut out);
-    noted(octets_noted(sum, out.as_slice()), u64::from(centre.busy()))
+    with_number(with_octets(sum, out.as_slice()), u64::from(centre.busy()))
 }
 
 /// The report of the script.
@@ -327,7 +336,7 @@ pub extern "C" fn dms_answers_replay(alloc: Global, script: &[u8]) -> u64 {
     let mut reader = script;
     let mut writer = Gathered::new(alloc);
     match replay(alloc, &mut reader, &mut writer) {
-        Ok(()) => octets_noted(1, writer.bytes()),
+        Ok(()) => with_octets(1, writer.bytes()),
         Err(_) => 0,
     }
 }

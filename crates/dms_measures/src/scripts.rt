@@ -41,8 +41,8 @@ fn world_after(alloc: Global, setup: Setup, events: &[ScriptEvent]) -> Option<Wo
     Some(world)
 }
 
-/// How many octets there are, and one of them.
-fn glance(octets: &[u8], time: u32) -> u64 {
+/// The size of octets and one of them, as one number.
+fn size_and_octet(octets: &[u8], time: u32) -> u64 {
     let octet = octets.get(time as usize % 256).copied().unwrap_or(0);
     (octets.len() as u64).wrapping_add(u64::from(octet))
 }
@@ -71,7 +71,7 @@ pub extern "C" fn dms_measures_script_report(alloc: Global, script: &[u8], times
     let mut sum = 0_u64;
     for time in 0..times {
         if let Ok(text) = report(alloc, &world, events.len()) {
-            sum = sum.wrapping_add(glance(text.as_slice(), time));
+            sum = sum.wrapping_add(size_and_octet(text.as_slice(), time));
         }
     }
     sum
@@ -85,7 +85,7 @@ pub extern "C" fn dms_measures_script_replay(alloc: Global, script: &[u8], times
         let mut reader = script;
         let mut writer = Gathered::new(alloc);
         if replay(alloc, &mut reader, &mut writer).is_ok() {
-            sum = sum.wrapping_add(glance(writer.bytes(), time));
+            sum = sum.wrapping_add(size_and_octet(writer.bytes(), time));
         }
     }
     sum
