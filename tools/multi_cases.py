@@ -1,7 +1,7 @@
 #!/usr/bin/env python3
 """Writes the cases of the crate dms_multi from vectors in lines of JSON.
 
-usage: tools/multi_cases.py VECTORS.jsonl > crates/dms_text_tests/src/multi/cases.rt
+usage: tools/multi_cases.py VECTORS.jsonl > crates/dms_text_tests/src/tests/multi/cases.rt
 
 Each vector has `text` and `canonical` (octets in hexadecimal), `spots` (first, past, item) and `fault` (code, place, or
 null). Taken are short texts of printable ASCII, as many as LIMIT.

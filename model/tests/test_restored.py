@@ -22,7 +22,7 @@ from .test_saved import STATES
 BUSY = STATES["BUSY"].text
 SIGNTOOL = pathlib.Path(__file__).parents[1] / "signtool"
 ROW = re.compile(r'\(\s*(\d+),\s*"([^"]*)",\s*"(line \d+: [^"]*)",?\s*\)')
-PROGRAM = (CRATES / "dms_sign_state_tests/src/started_again.rt").read_text()
+PROGRAM = (CRATES / "dms_sign_state_tests/src/tests/started_again.rt").read_text()
 MISFITS = [(int(at), line.replace("\\n", "\n"), why) for at, line, why in ROW.findall(PROGRAM)]
 FAULTS = [  # lines that are no field's, and what is told
     (1, "state 2 sign", "line 1: state 1 sign wanted"),

@@ -12,8 +12,8 @@ from model.sign import Sign
 
 from .program_texts import CRATES, items, texts
 
-SAVED = "dms_sign_state_tests/src/saved.rt"
-SCRIPTS = texts("dms_sign_bench/src/scripts.rt", "dms_sign_state_tests/src/cases.rt")
+SAVED = "dms_sign_state_tests/src/tests/saved.rt"
+SCRIPTS = texts("dms_sign_bench/src/scripts.rt", "dms_sign_state_tests/src/tests/cases.rt")
 TEXTS = texts("dms_sign_bench/src/states.rt", SAVED)
 LEFT = re.compile(
     r"const (\w+): StateLeft = StateLeft \{\s*order: Order::(\w+),\s*scripts: \[(.*?)\],\s*like: (\w+),\s*"

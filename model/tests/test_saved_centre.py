@@ -8,9 +8,9 @@ from model.saved_centre import saved
 
 from .program_texts import lists, texts
 
-CASES = "dms_centre_state_tests/src/cases.rt"
+CASES = "dms_centre_state_tests/src/tests/cases.rt"
 SCRIPTS = dict(lists(CASES, texts(CASES)))
-TEXTS = texts("dms_centre_state_tests/src/states.rt")
+TEXTS = texts("dms_centre_state_tests/src/tests/states.rt")
 COMMANDS = {
     "publish": b"publish 3 1 41 6f70 0 0 200 3 255 192.0.2.7",
     "publish-late": b"publish 4 2 5b6e6c395d - 1 0 7 65535 6 10.0.0.255",

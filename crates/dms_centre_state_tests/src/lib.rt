@@ -2,12 +2,4 @@
 #![tactic(auto)]
 
 #[cfg(test)]
-mod cases;
-#[cfg(test)]
-mod restored;
-#[cfg(test)]
-mod saved;
-#[cfg(test)]
-mod scripts;
-#[cfg(test)]
-mod states;
+mod tests;

@@ -2,12 +2,4 @@
 #![tactic(auto)]
 
 #[cfg(test)]
-mod checks;
-#[cfg(test)]
-mod faces;
-#[cfg(test)]
-mod pages;
-#[cfg(test)]
-mod pictures;
-#[cfg(test)]
-mod rows;
+mod tests;

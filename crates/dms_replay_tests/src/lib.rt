@@ -2,12 +2,4 @@
 #![tactic(auto)]
 
 #[cfg(test)]
-mod examples;
-#[cfg(test)]
-mod memory;
-#[cfg(test)]
-mod reports;
-#[cfg(test)]
-mod scripts;
-#[cfg(test)]
-mod streams;
+mod tests;

@@ -3,16 +3,4 @@
 #![tactic(auto)]
 
 #[cfg(test)]
-mod checksum;
-#[cfg(test)]
-mod codes;
-#[cfg(test)]
-mod message_codes;
-#[cfg(test)]
-mod objects;
-#[cfg(test)]
-mod replies;
-#[cfg(test)]
-mod saved;
-#[cfg(test)]
-mod tables;
+mod tests;

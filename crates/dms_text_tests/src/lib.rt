@@ -3,18 +3,4 @@
 #![tactic(auto)]
 
 #[cfg(test)]
-mod conversations;
-#[cfg(test)]
-mod exact;
-#[cfg(test)]
-mod filling;
-#[cfg(test)]
-mod fonts;
-#[cfg(test)]
-mod multi;
-#[cfg(test)]
-mod streams;
-#[cfg(test)]
-mod text;
-#[cfg(test)]
-mod values;
+mod tests;

@@ -1,0 +1,10 @@
+//! The tests, a module a subject.
+
+mod conversations;
+mod exact;
+mod filling;
+mod fonts;
+mod multi;
+mod streams;
+mod text;
+mod values;
