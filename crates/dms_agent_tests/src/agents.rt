@@ -79,14 +79,13 @@ pub(crate) fn binding<'a>(name: &'a [u8], value: Value<'a>) -> Result<Bind<'a>, 
     }
 }
 
-/// The reply to a request, or nothing where it is dropped.
-pub(crate) fn exchange(
-    agent: &mut Agent,
+/// A request of these bindings.
+pub(crate) fn request(
     community: &[u8],
     kind: Kind,
     binds: &[Bind<'_>],
 ) -> Result<Out, &'static str> {
-    let (mut request, mut reply) = (Out::new(), Out::new());
+    let mut request = Out::new();
     let parts = MessageParts {
         community,
         kind,
@@ -95,9 +94,21 @@ pub(crate) fn exchange(
         index: 0,
         binds,
     };
-    if write(&parts, &mut request).is_err() {
-        return Err("no request");
+    match write(&parts, &mut request) {
+        Ok(()) => Ok(request),
+        Err(_) => Err("no request"),
     }
+}
+
+/// The reply to a request, or nothing where it is dropped.
+pub(crate) fn exchange(
+    agent: &mut Agent,
+    community: &[u8],
+    kind: Kind,
+    binds: &[Bind<'_>],
+) -> Result<Out, &'static str> {
+    let request = request(community, kind, binds)?;
+    let mut reply = Out::new();
     match agent.receive(request.as_slice(), &mut reply) {
         Receipt::Dropped => Err("dropped"),
         _ => Ok(reply),
@@ -118,6 +129,13 @@ fn check_reply(
     Ok(())
 }
 
+/// Asserts that a request for what has this name, or comes after it, is refused: there is no such name.
+fn check_no_name(rt: &impl Abort, agent: &mut Agent, kind: Kind, name: &[u8]) -> Result<(), Fail> {
+    let asked = [binding(name, Value::Null)?];
+    let reply = exchange(agent, b"public", kind, &asked)?;
+    check_reply(rt, &reply, (2, 1), &asked[0])
+}
+
 #[test]
 fn a_get_reads_both(rt: HostRuntime) -> Result<(), Fail> {
     let mut agent = agent(rt.alloc())?;
@@ -133,9 +151,7 @@ fn a_get_reads_both(rt: HostRuntime) -> Result<(), Fail> {
         (0, 0),
         &binding(&DESCRIPTION, Value::Octets(b"a sign"))?,
     )?;
-    let unknown = [binding(&LAST, Value::Null)?];
-    let reply = exchange(&mut agent, b"public", Kind::Get, &unknown)?;
-    check_reply(&rt, &reply, (2, 1), &unknown[0])
+    check_no_name(&rt, &mut agent, Kind::Get, &LAST)
 }
 
 #[test]
@@ -144,9 +160,7 @@ fn a_walk_goes_from_one_to_the_other(rt: HostRuntime) -> Result<(), Fail> {
     let asked = [binding(&DESCRIPTION, Value::Null)?];
     let reply = exchange(&mut agent, b"public", Kind::GetNext, &asked)?;
     check_reply(&rt, &reply, (0, 0), &binding(&HEIGHT, Value::Integer(14))?)?;
-    let asked = [binding(&LEVEL, Value::Null)?];
-    let reply = exchange(&mut agent, b"public", Kind::GetNext, &asked)?;
-    check_reply(&rt, &reply, (2, 1), &asked[0])
+    check_no_name(&rt, &mut agent, Kind::GetNext, &LEVEL)
 }
 
 #[test]
@@ -186,10 +200,9 @@ fn a_name_of_the_sign_is_not_published(rt: HostRuntime) -> Result<(), Fail> {
 #[test]
 fn fonts_are_read_once_they_are_shown(rt: HostRuntime) -> Result<(), Fail> {
     let mut agent = Agent::new(rt.alloc(), bench_sign(rt.alloc())?);
-    let asked = [binding(&FONTS, Value::Null)?];
-    let reply = exchange(&mut agent, b"public", Kind::Get, &asked)?;
-    check_reply(&rt, &reply, (2, 1), &asked[0])?;
+    check_no_name(&rt, &mut agent, Kind::Get, &FONTS)?;
     assert!(rt; agent.show_fonts() && agent.show_fonts());
+    let asked = [binding(&FONTS, Value::Null)?];
     let two = binding(&FONTS, Value::Integer(2))?;
     let reply = exchange(&mut agent, b"public", Kind::Get, &asked)?;
     check_reply(&rt, &reply, (0, 0), &two)?;

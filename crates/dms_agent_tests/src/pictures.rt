@@ -1,10 +1,10 @@
 //! How often the picture of the bench sign has changed.
 
-use crate::agents::bench_sign;
+use crate::agents::{bench_sign, binding, request};
 use dms_agent_watched::Watched;
 use dms_codes::{Activation, MessageId, Order, crc};
 use dms_sign::Receipt;
-use dms_wire::{Bind, Kind, MessageParts, Oid, Out, Value, write};
+use dms_wire::{Kind, Out, Value};
 use std::process::Abort;
 use std::test::Fail;
 
@@ -25,28 +25,11 @@ fn code(minutes: u16) -> Activation {
     }
 }
 
-/// A SET of this name in the writing community.
-fn request<'a>(name: Oid<'a>, value: Value<'a>) -> Result<Out, &'static str> {
-    let mut request = Out::new();
-    let parts = MessageParts {
-        community: b"admin",
-        kind: Kind::Set,
-        request: 1,
-        status: 0,
-        index: 0,
-        binds: &[Bind { name, value }],
-    };
-    if write(&parts, &mut request).is_err() {
-        return Err("no request");
-    }
-    Ok(request)
-}
-
 /// Shows permanent row 1 for so many minutes.
 fn show(sign: &mut Watched, minutes: u16) -> Result<(), &'static str> {
     let octets = code(minutes).to_bytes(Order::High);
-    let name = Oid::of(&ACTIVATE).ok_or("no name")?;
-    let request = request(name, Value::Octets(octets.as_slice()))?;
+    let code = [binding(&ACTIVATE, Value::Octets(octets.as_slice()))?];
+    let request = request(b"admin", Kind::Set, &code)?;
     let mut reply = Out::new();
     match sign.receive(request.as_slice(), &mut reply) {
         Receipt::Accepted(_) => Ok(()),
