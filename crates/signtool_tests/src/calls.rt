@@ -2,6 +2,8 @@
 
 mod cases;
 
+use dms_sign_bench::PICTURE_OF_A;
+use dms_sign_bench::states::{NEW, with_lines};
 use signtool_acts::Counted;
 use signtool_acts::act::{act, act_saying};
 use signtool_calls::{Call, Drawing, Form, SignWanted, StateWanted};
@@ -67,6 +69,9 @@ fn each_check_and_code_is_printed_as_it_stands(rt: HostRuntime) -> Result<(), Fa
         let found = called(rt.alloc(), line, "", printed);
         assert_eq!(rt; found, Some((status, true)), "for {line}");
     }
+    let printed = format!(in rt.alloc(); "page 1 on 30 off 0 back 0\n{PICTURE_OF_A}")?;
+    let found = called(rt.alloc(), "pages A", "", printed.as_str());
+    assert_eq!(rt; found, Some((0, true)));
     for (line, crc, code) in cases::CODES {
         let printed = format!(in rt.alloc(); "crc {crc}\ncode {code}\n")?;
         let found = called(rt.alloc(), line, "", printed.as_str());
@@ -286,17 +291,23 @@ fn check_goes_on(
     Ok(())
 }
 
+/// The bench sign's state after its power was lost.
+fn without_power(alloc: Global) -> Result<String, AllocError> {
+    with_lines(alloc, NEW, &["shown-mode 13", "powered 0"])
+}
+
 #[test]
 fn a_conversation_goes_on_from_a_state(rt: HostRuntime) -> Result<(), Fail> {
     let told = "ok\nshown 7 1 0000 mode 10 priority 1 remaining 65535 text -\nok\n";
     let talk = ("power-back 5\nstate\n", told);
-    check_goes_on(&rt, rt.alloc(), "sign", cases::WITHOUT_POWER, talk)
+    let state = without_power(rt.alloc())?;
+    check_goes_on(&rt, rt.alloc(), "sign", state.as_str(), talk)
 }
 
 /// The lines behind the state put back what managers set of objects that are published again.
 #[test]
 fn objects_go_on_from_a_state(rt: HostRuntime) -> Result<(), Fail> {
-    let (state, kept) = (cases::WITHOUT_POWER, cases::KEPT_VALUES);
+    let (state, kept) = (without_power(rt.alloc())?, cases::KEPT_VALUES);
     let asked = format!(in rt.alloc(); "{state}{}{kept}save\n", cases::KEPT_OBJECTS)?;
     let printed = format!(in rt.alloc(); "ok\nok\nok\nok\n{state}{kept}ok\n")?;
     let found = called(
@@ -332,10 +343,8 @@ fn a_refused_state_is_told(rt: HostRuntime) {
 
 #[test]
 fn a_row_that_the_sign_has_not_is_told(rt: HostRuntime) -> Result<(), Fail> {
-    let state = cases::WITHOUT_POWER
-        .strip_prefix("state 1 sign\n")
-        .ok_or("no state")?;
-    let state = format!(in rt.alloc(); "state 1 sign\nchangeable 3 4 41 - 0 0 1\n{state}")?;
+    let row = "state 1 sign\nchangeable 3 4 41 - 0 0 1";
+    let state = with_lines(rt.alloc(), NEW, &[row, "shown-mode 13", "powered 0"])?;
     let said = "state line 2: no such row can be changed\n";
     let found = told_on_input(
         rt.alloc(),

@@ -1,6 +1,7 @@
 //! Calls of the program and what is wanted of them. A call stands as its words after `signtool`, parted by blanks; what
 //! stands between two `'` is one word.
 
+use dms_sign_bench::states::NEW;
 use signtool_calls::{Call, Drawing, Form, SignWanted, StateWanted};
 
 /// A sign of one font, with the picture of `A` alone.
@@ -65,38 +66,6 @@ object 1.3.6.1.4.1.1206.4.2.3.7.6.0 INTEGER 7 number 0 15
 pub const KEPT_VALUES: &str = "\
 set 1.3.6.1.2.1.1.4.0 OCTET STRING 6e6f63
 set 1.3.6.1.4.1.1206.4.2.3.7.6.0 INTEGER 15
-";
-
-/// The bench sign's state after its power was lost.
-pub const WITHOUT_POWER: &str = "\
-state 1 sign
-defaults 0 9 5 5 1 3 2 30 0
-short-power-recovery 0700010000
-long-power-recovery 0700010000
-power-loss 0700010000
-end-duration 0700010000
-communications-loss 0700010000
-short-power-loss-time 0
-time-comm-loss 0
-silent 0
-shown - - 0 0 1
-shown-source 0700010000
-shown-mode 13
-shown-address 0.0.0.0
-shown-defaults 0 9 5 5 1 3 2 30 0
-kept - - 0 0 1
-kept-source 0700010000
-kept-mode 10
-kept-address 0.0.0.0
-kept-defaults 0 9 5 5 1 3 2 30 0
-validate-error 2
-activate-error 2
-syntax-error 2
-syntax-error-position 0
-accepted-code 000000000000000000000000
-failed-code 000000000000000000000000
-powered 0
-end
 ";
 
 /// A central system's state that has shown a blank, and waits for the reply to another one.
@@ -451,8 +420,8 @@ shown 7 1 0000 mode 10 priority 1 remaining 65535 text -
     (TO_BENCH, "tick", "ok\n", 0),
     // a second passes at a central system
     (TO_CENTRE, "tick", "ok\n", 0),
-    // a sign begins without power
-    (TO_BENCH_AGAIN, WITHOUT_POWER, "", 0),
+    // a sign begins in a state
+    (TO_BENCH_AGAIN, NEW, "", 0),
     // a central system begins while a request of it waits
     (TO_CENTRE_AGAIN, WAITING, "", 0),
 ];
@@ -552,7 +521,7 @@ pub static ANSWERS: [(&str, &str, u8); 19] = [
 ];
 
 /// Calls on texts: the words after `signtool`, what is printed, and the status.
-pub static TEXTS: [(&str, &str, u8); 11] = [
+pub static TEXTS: [(&str, &str, u8); 10] = [
     // four characters in one line
     ("check AAAA", "ok pages 1\n", 0),
     // no text
@@ -573,28 +542,6 @@ pub static TEXTS: [(&str, &str, u8); 11] = [
     ("code 3 1 A --address 256.0.0.0", "bad address\n", 2),
     // a number of four digits
     ("code 3 1 A --address 0001.0.0.0", "bad address\n", 2),
-    // the page of a letter
-    (
-        "pages A",
-        "\
-page 1 on 30 off 0 back 0
-..........999..........
-.........9...9.........
-.........9...9.........
-.........99999.........
-.........9...9.........
-.........9...9.........
-.........9...9.........
-.......................
-.......................
-.......................
-.......................
-.......................
-.......................
-.......................
-",
-        0,
-    ),
 ];
 
 /// Calls that print the code of a text, the checksum that they print, and the code.
