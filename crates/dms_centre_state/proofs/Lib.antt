@@ -11,3 +11,4 @@ pub mod Endings
 pub mod CentreTexts
 -- what is put into a buffer
 pub mod Lines
+pub mod Putting

@@ -16,6 +16,7 @@ use dms_centre_jobs::Work;
 use dms_codes::{Activation, Order};
 use dms_text_exact::{put_address, put_octets};
 use dms_text_filling::{put_decimal, put_number, put_text};
+use itoa::Integer;
 
 /// Puts whether a job is on, and what it is.
 pub(crate) fn put_phase(buffer: &mut [u8], place: usize, order: Order, phase: Phase<'_>) -> usize
@@ -85,8 +86,15 @@ fn put_row(buffer: &mut [u8], place: usize, publication: &Publication<'_>) -> us
 {
     let place = put_text(buffer, place, "publish ");
     let place = put_decimal(buffer, place, publication.row.memory);
+    put_word(buffer, place, publication.row.number)
+}
+
+/// Puts a space and a number.
+fn put_word<N: Integer>(buffer: &mut [u8], place: usize, number: N) -> usize
+    ensures { Puts (codes " " ++ N.text number) place buffer.old result buffer.new }
+{
     let place = put_text(buffer, place, " ");
-    put_decimal(buffer, place, publication.row.number)
+    put_decimal(buffer, place, number)
 }
 
 fn put_message(buffer: &mut [u8], place: usize, publication: &Publication<'_>) -> usize
@@ -102,22 +110,17 @@ fn put_attributes(buffer: &mut [u8], place: usize, publication: &Publication<'_>
     ensures { Puts (attribute_words (publication_model publication.now)) place buffer.old result buffer.new }
 {
     let attributes = publication.attributes;
-    let place = put_text(buffer, place, " ");
-    let place = put_decimal(buffer, place, attributes.beacon);
-    let place = put_text(buffer, place, " ");
-    let place = put_decimal(buffer, place, attributes.pixel);
-    let place = put_text(buffer, place, " ");
-    put_decimal(buffer, place, attributes.run_priority)
+    let place = put_word(buffer, place, attributes.beacon);
+    let place = put_word(buffer, place, attributes.pixel);
+    put_word(buffer, place, attributes.run_priority)
 }
 
 fn put_terms(buffer: &mut [u8], place: usize, publication: &Publication<'_>) -> usize
     ensures { Puts (term_words (publication_model publication.now)) place buffer.old result buffer.new }
 {
     let terms = publication.terms;
-    let place = put_text(buffer, place, " ");
-    let place = put_decimal(buffer, place, terms.minutes);
-    let place = put_text(buffer, place, " ");
-    let place = put_decimal(buffer, place, terms.priority);
+    let place = put_word(buffer, place, terms.minutes);
+    let place = put_word(buffer, place, terms.priority);
     let place = put_text(buffer, place, " ");
     let place = put_address(buffer, place, terms.address);
     put_text(buffer, place, "\n")

@@ -1,6 +1,6 @@
-use Rattle.dms_text_filling.proofs.Parts.{six}
+use Rattle.dms_centre_state.proofs.Putting.{word}
 use Rattle.dms_centre_state.proofs.job_lines.put_attributes.Goals as goal
 
 pub returns : goal.returns
 returns c =
-    six c.put_text-place.ensures.octets c.put_decimal-place.ensures.octets c.put_text-place-2.ensures.octets c.put_decimal-place-2.ensures.octets c.put_text-place-3.ensures.octets c.put_decimal.ensures.octets
+    word (word c.put_word-place.ensures c.put_word-place-2.ensures) c.put_word.ensures
