@@ -1,5 +1,7 @@
 -- a text that is put into as many octets as it has
 mod Filled
+-- words put into a buffer, each behind a space
+mod Putting
 -- the rows of a type of memory, one by one
 pub mod RowsWritten
 -- the same text in other brackets

@@ -57,36 +57,27 @@ fn put_colours(buffer: &mut [u8], place: usize, defaults: &Defaults) -> usize
     ensures octets { Puts (colour_words defaults.now) place buffer.old result buffer.new }
     ensures short { result ≤ place + 16 }
 {
-    let place = put_text(buffer, place, " ");
-    let place = put_decimal(buffer, place, defaults.background);
-    let place = put_text(buffer, place, " ");
-    let place = put_decimal(buffer, place, defaults.foreground);
-    let place = put_text(buffer, place, " ");
-    let place = put_decimal(buffer, place, defaults.flash_on);
-    let place = put_text(buffer, place, " ");
-    put_decimal(buffer, place, defaults.flash_off)
+    let place = put_number_word(buffer, place, defaults.background);
+    let place = put_number_word(buffer, place, defaults.foreground);
+    let place = put_number_word(buffer, place, defaults.flash_on);
+    put_number_word(buffer, place, defaults.flash_off)
 }
 
 fn put_layout(buffer: &mut [u8], place: usize, defaults: &Defaults) -> usize
     ensures octets { Puts (layout_words defaults.now) place buffer.old result buffer.new }
     ensures short { result ≤ place + 12 }
 {
-    let place = put_text(buffer, place, " ");
-    let place = put_decimal(buffer, place, defaults.font);
-    let place = put_text(buffer, place, " ");
-    let place = put_decimal(buffer, place, defaults.line);
-    let place = put_text(buffer, place, " ");
-    put_decimal(buffer, place, defaults.page)
+    let place = put_number_word(buffer, place, defaults.font);
+    let place = put_number_word(buffer, place, defaults.line);
+    put_number_word(buffer, place, defaults.page)
 }
 
 fn put_times(buffer: &mut [u8], place: usize, defaults: &Defaults) -> usize
     ensures octets { Puts (time_words defaults.now) place buffer.old result buffer.new }
     ensures short { result ≤ place + 9 }
 {
-    let place = put_text(buffer, place, " ");
-    let place = put_decimal(buffer, place, defaults.on);
-    let place = put_text(buffer, place, " ");
-    let place = put_decimal(buffer, place, defaults.off);
+    let place = put_number_word(buffer, place, defaults.on);
+    let place = put_number_word(buffer, place, defaults.off);
     put_text(buffer, place, "\n")
 }
 
@@ -105,13 +96,19 @@ fn put_attributes(buffer: &mut [u8], place: usize, row: &RowView<'_>) -> usize
     ensures octets { Puts (attribute_words (message_of (reading_of row.now).row)) place buffer.old result buffer.new }
     ensures short { result ≤ place + 13 }
 {
-    let place = put_text(buffer, place, " ");
-    let place = put_decimal(buffer, place, row.beacon);
-    let place = put_text(buffer, place, " ");
-    let place = put_decimal(buffer, place, row.pixel);
-    let place = put_text(buffer, place, " ");
-    let place = put_decimal(buffer, place, row.priority);
+    let place = put_number_word(buffer, place, row.beacon);
+    let place = put_number_word(buffer, place, row.pixel);
+    let place = put_number_word(buffer, place, row.priority);
     put_text(buffer, place, "\n")
+}
+
+/// Puts a space and a number.
+fn put_number_word<N: Integer>(buffer: &mut [u8], place: usize, number: N) -> usize
+    ensures octets { Puts (codes " " ++ N.text number) place buffer.old result buffer.new }
+    ensures short { result ≤ place + N.MAX_STR_LEN + 1 }
+{
+    let place = put_text(buffer, place, " ");
+    put_decimal(buffer, place, number)
 }
 
 /// Puts a space and octets.
