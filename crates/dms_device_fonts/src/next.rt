@@ -12,7 +12,7 @@ ghost use Rattle.dms_device_fonts.specs.View.{row_binding, cell_binding, place_b
 use crate::ends::{end_after, first_end};
 use crate::place::{End, FontCell, FontPlace, FontRow, FontTable};
 use crate::reading::{character_cell, column_count, font_cell, scalar_value, table_at};
-use crate::steps::{NODE, NodeSide, SpanPlace, place_in, place_under};
+use crate::steps::{Below, NODE, NodeSide, SpanPlace, place_in, place_under};
 use dms_face_font::Font;
 use dms_mib::NumberedName;
 use dms_mib_replies::{Next, NextName};
@@ -46,29 +46,26 @@ fn row_after<'a>(table: FontTable, fonts: &'a [Font], numbers: Numbers<'_>) -> O
 {
     match place_in(numbers, 1, fonts.len()) {
         SpanPlace::First => first_row(table, fonts, 1),
-        SpanPlace::Inside(below) => row_from(table, fonts, below.number, below.rest),
+        SpanPlace::Inside(below) => row_from(table, fonts, below),
         SpanPlace::Past => None,
     }
 }
 
 /// The first row of a table after some numbers below a font's index.
-fn row_from<'a>(
-    table: FontTable,
-    fonts: &'a [Font],
-    index: usize,
-    numbers: Numbers<'_>,
-) -> Option<FontRow<'a>>
-    requires least { 1 ≤ index }
-    requires most { index ≤ length fonts.now }
+fn row_from<'a>(table: FontTable, fonts: &'a [Font], inside: Below<'_>) -> Option<FontRow<'a>>
+    requires least { 1 ≤ inside.number }
+    requires most { inside.number ≤ length fonts.now }
     ensures row { (column : ℕ) → option_map (row_binding column) result
-        ≡ or_first (option_map (below index)
-        (tree_after (font_row table column index (font_at fonts.now index)) numbers.entry))
-        (first_from (λ i. tree_first (font_row table column i (font_at fonts.now i))) (index + 1)
-        (length fonts.now + 1 - (index + 1))) }
+        ≡ or_first (option_map (below inside.entry.number)
+        (tree_after (font_row table column inside.entry.number (font_at fonts.now inside.entry.number))
+        inside.entry.rest))
+        (first_from (λ i. tree_first (font_row table column i (font_at fonts.now i))) (inside.entry.number + 1)
+        (length fonts.now + 1 - (inside.entry.number + 1))) }
     ensures within { IfSome result (λ row. row.index ≤ length fonts.now) }
 {
+    let index = inside.number;
     let font = &fonts[index - 1];
-    match end_after(table, font, numbers) {
+    match end_after(table, font, inside.rest) {
         Some(end) => Some(FontRow { index, font, end }),
         None => first_row(table, fonts, index + 1),
     }
@@ -98,27 +95,24 @@ fn cell_after<'a>(table: FontTable, fonts: &'a [Font], numbers: Numbers<'_>) -> 
 {
     match place_in(numbers, 1, column_count(table)) {
         SpanPlace::First => first_cell(table, fonts, 1),
-        SpanPlace::Inside(below) => cell_from(table, fonts, below.number, below.rest),
+        SpanPlace::Inside(below) => cell_from(table, fonts, below),
         SpanPlace::Past => None,
     }
 }
 
 /// The first cell of a table after some numbers below a column.
-fn cell_from<'a>(
-    table: FontTable,
-    fonts: &'a [Font],
-    column: usize,
-    numbers: Numbers<'_>,
-) -> Option<FontCell<'a>>
-    requires { column ≤ column_count table }
+fn cell_from<'a>(table: FontTable, fonts: &'a [Font], inside: Below<'_>) -> Option<FontCell<'a>>
+    requires { inside.number ≤ column_count table }
     ensures cell { option_map cell_binding result
-        ≡ or_first (option_map (below column) (tree_after (column_cells table fonts.now column) numbers.entry))
-        (first_from (λ c. tree_first (column_cells table fonts.now c)) (column + 1)
-        (column_count table + 1 - (column + 1))) }
+        ≡ or_first (option_map (below inside.entry.number)
+        (tree_after (column_cells table fonts.now inside.entry.number) inside.entry.rest))
+        (first_from (λ c. tree_first (column_cells table fonts.now c)) (inside.entry.number + 1)
+        (column_count table + 1 - (inside.entry.number + 1))) }
     ensures within { IfSome result (IsCell fonts.now) }
 {
     let _ = column_count(table);
-    match row_after(table, fonts, numbers) {
+    let column = inside.number;
+    match row_after(table, fonts, inside.rest) {
         Some(row) => Some(FontCell { column, row }),
         None => first_cell(table, fonts, column + 1),
     }

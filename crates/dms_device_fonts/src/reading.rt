@@ -9,7 +9,7 @@ ghost use Rattle.dms_device_fonts.specs.Fonts.{scalar, scalar_value, table_at, f
 ghost use Rattle.dms_device_fonts.specs.declared.place.FontTable.TheVariants.{Fonts, Characters};
 
 use crate::place::FontTable;
-use crate::steps::{NODE, NodeSide, is_over, place_under, step};
+use crate::steps::{Below, NODE, NodeSide, is_over, place_under, step};
 use dms_face_font::{Font, Glyph};
 use dms_wire::{Oid, Value};
 use dms_wire_ber::Numbers;
@@ -74,7 +74,7 @@ fn read_table<'a>(table: FontTable, fonts: &'a [Font], numbers: Numbers<'_>) -> 
 {
     let entry = step(numbers, 1, 1)?;
     let column = step(entry.rest, 1, column_count(table))?;
-    read_column(table, fonts, column.number, column.rest)
+    read_column(table, fonts, column)
 }
 
 /// How many columns a table has.
@@ -88,19 +88,15 @@ pub(crate) fn column_count(table: FontTable) -> usize
     }
 }
 
-fn read_column<'a>(
-    table: FontTable,
-    fonts: &'a [Font],
-    column: usize,
-    numbers: Numbers<'_>,
-) -> Option<Value<'a>>
-    ensures { option_map object_value result ≡ tree_value (column_cells table fonts.now column) numbers.entry }
+fn read_column<'a>(table: FontTable, fonts: &'a [Font], column: Below<'_>) -> Option<Value<'a>>
+    ensures { option_map object_value result
+        ≡ tree_value (column_cells table fonts.now column.entry.number) column.entry.rest }
 {
-    let row = step(numbers, 1, fonts.len())?;
+    let row = step(column.rest, 1, fonts.len())?;
     let font = &fonts[row.number - 1];
     match table {
-        FontTable::Fonts => read_font(font, row.number, column, row.rest),
-        FontTable::Characters => read_character(font, column, row.rest),
+        FontTable::Fonts => read_font(font, row.number, column.number, row.rest),
+        FontTable::Characters => read_character(font, column.number, row.rest),
     }
 }
 

@@ -11,7 +11,7 @@ use Rattle.dms_device_fonts.proofs.reading.read_column.Goals as goal
 pub returns-in_err-row : goal.returns-in_err-row
 returns-in_err-row c =
     ap (option_map object_value) c.from_residual.ensures
-    ∙ sym (c.in_err-row.ensures.value (λ index. font_row c.args.table c.args.column index (font_at c.args.fonts.now index)))
+    ∙ sym (c.in_err-row.ensures.value (λ index. font_row c.args.table c.args.column.number index (font_at c.args.fonts.now index)))
 
 pub returns-in-Fonts : goal.returns-in-Fonts
 returns-in-Fonts c =
@@ -20,9 +20,9 @@ returns-in-Fonts c =
     let font = c.index-fonts-row.result in
     let at : font_at fonts row.number ≡ Some font =
     slice_get_read fonts (length fonts) (row.number - 1) font refl (omega (arith, c.in_ok-row.ensures.low, c.in_ok-row.ensures.high)) c.index-fonts-row.is in
-    subst (λ t. option_map object_value c.read_font.result ≡ tree_value (column_cells t fonts c.args.column) c.args.numbers) (sym c.in-Fonts.is)
-    (row_reads Fonts fonts c.args.column row.number font c.args.numbers row.rest (option_map object_value c.read_font.result) at
-    (c.in_ok-row.ensures.value (λ index. font_row Fonts c.args.column index (font_at fonts index))) c.read_font.ensures)
+    subst (λ t. option_map object_value c.read_font.result ≡ tree_value (column_cells t fonts c.args.column.number) c.args.column.rest) (sym c.in-Fonts.is)
+    (row_reads Fonts fonts c.args.column.number row.number font c.args.column.rest row.rest (option_map object_value c.read_font.result) at
+    (c.in_ok-row.ensures.value (λ index. font_row Fonts c.args.column.number index (font_at fonts index))) c.read_font.ensures)
 
 pub returns-in-Characters : goal.returns-in-Characters
 returns-in-Characters c =
@@ -31,6 +31,6 @@ returns-in-Characters c =
     let font = c.index-fonts-row.result in
     let at : font_at fonts row.number ≡ Some font =
     slice_get_read fonts (length fonts) (row.number - 1) font refl (omega (arith, c.in_ok-row.ensures.low, c.in_ok-row.ensures.high)) c.index-fonts-row.is in
-    subst (λ t. option_map object_value c.read_character.result ≡ tree_value (column_cells t fonts c.args.column) c.args.numbers) (sym c.in-Characters.is)
-    (row_reads Characters fonts c.args.column row.number font c.args.numbers row.rest (option_map object_value c.read_character.result) at
-    (c.in_ok-row.ensures.value (λ index. font_row Characters c.args.column index (font_at fonts index))) (c.read_character.ensures row.number))
+    subst (λ t. option_map object_value c.read_character.result ≡ tree_value (column_cells t fonts c.args.column.number) c.args.column.rest) (sym c.in-Characters.is)
+    (row_reads Characters fonts c.args.column.number row.number font c.args.column.rest row.rest (option_map object_value c.read_character.result) at
+    (c.in_ok-row.ensures.value (λ index. font_row Characters c.args.column.number index (font_at fonts index))) (c.read_character.ensures row.number))
