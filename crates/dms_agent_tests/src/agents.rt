@@ -217,24 +217,13 @@ fn fonts_are_read_once_they_are_shown(rt: HostRuntime) -> Result<(), Fail> {
 #[test]
 fn a_name_of_the_fonts_is_not_published(rt: HostRuntime) -> Result<(), Fail> {
     let mut agent = Agent::new(rt.alloc(), bench_sign(rt.alloc())?);
-    let nine = Value::Integer(9);
-    let found = publish(
-        &mut agent,
-        rt.alloc(),
-        &FONTS,
-        &nine,
-        ManagerAccess::ReadOnly,
-    );
+    let (nine, read_only) = (Value::Integer(9), ManagerAccess::ReadOnly);
+    let found = publish(&mut agent, rt.alloc(), &FONTS, &nine, read_only);
     assert!(rt; found == Ok(()) && !agent.show_fonts());
     let name = Oid::of(&FONTS).ok_or("no name")?;
     assert!(rt; agent.own_value(&name).is_none() && agent.withdraw(&name) && agent.show_fonts());
-    let found = publish(
-        &mut agent,
-        rt.alloc(),
-        &FONTS,
-        &nine,
-        ManagerAccess::ReadOnly,
-    );
+    let read_only = ManagerAccess::ReadOnly;
+    let found = publish(&mut agent, rt.alloc(), &FONTS, &nine, read_only);
     assert!(rt; found == Err(PublishFault::OfTheSign));
     assert!(rt; agent.own_value(&name) == Some(Value::Integer(2)));
     Ok(())

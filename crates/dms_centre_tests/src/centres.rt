@@ -34,7 +34,7 @@ const BLANK: Command<'static> = Command::Blank {
     address: [0; 4],
 };
 
-fn publish(memory: u8, number: u16, text: &[u8]) -> Command<'_> {
+pub(crate) fn publish(memory: u8, number: u16, text: &[u8]) -> Command<'_> {
     Command::Publish {
         memory,
         number,

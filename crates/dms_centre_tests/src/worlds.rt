@@ -1,7 +1,7 @@
 //! Runs of a sign and its centre.
 
 use crate::centres;
-use crate::centres::cases;
+use crate::centres::{cases, publish};
 use dms_centre::{Centre, Command, Outcome, Settings};
 use dms_codes::{Activation, Order};
 use dms_sign::{Config, Sign};
@@ -11,45 +11,34 @@ use dms_world::{Datagrams, Event, World, run};
 use std::alloc::Global;
 use std::test::Fail;
 
-/// `A` into changeable row 1.
-const PUBLISH: Command<'static> = Command::Publish {
-    memory: 3,
-    number: 1,
-    text: b"A",
-    owner: b"",
-    beacon: 0,
-    pixel: 0,
-    run_priority: 200,
-    minutes: 65535,
-    priority: 255,
-    address: [192, 0, 2, 1],
-};
-
 /// The code of changeable row 1 with `A`, of no address.
 const CODE: Activation = Activation {
     address: [0; 4],
     ..centres::CODE
 };
 
-static PUBLICATION: [Event<'static>; 17] = [
-    Event::Command(PUBLISH),
-    Event::ToSign(0),
-    Event::ToCentre(0),
-    Event::ToSign(1),
-    Event::ToCentre(1),
-    Event::ToSign(2),
-    Event::ToCentre(2),
-    Event::ToSign(3),
-    Event::ToCentre(3),
-    Event::SignTick,
-    Event::ToSign(4),
-    Event::ToCentre(4),
-    Event::ToSign(5),
-    Event::ToCentre(5),
-    Event::CentreTick,
-    Event::ToSign(6),
-    Event::ToCentre(6),
-];
+/// `A` into changeable row 1, which is shown then.
+fn publication() -> [Event<'static>; 17] {
+    [
+        Event::Command(publish(3, 1, b"A")),
+        Event::ToSign(0),
+        Event::ToCentre(0),
+        Event::ToSign(1),
+        Event::ToCentre(1),
+        Event::ToSign(2),
+        Event::ToCentre(2),
+        Event::ToSign(3),
+        Event::ToCentre(3),
+        Event::SignTick,
+        Event::ToSign(4),
+        Event::ToCentre(4),
+        Event::ToSign(5),
+        Event::ToCentre(5),
+        Event::CentreTick,
+        Event::ToSign(6),
+        Event::ToCentre(6),
+    ]
+}
 
 /// The bench sign with one changeable row alone and without a beacon, and its centre.
 fn world_of(alloc: Global) -> Option<World> {
@@ -158,7 +147,7 @@ fn seen(alloc: Global, events: &[Event<'_>], request: u32) -> Result<(Seen, usiz
 /// counts from there.
 #[test]
 fn a_publication_is_accepted_at_its_sixteenth_event(rt: HostRuntime) -> Result<(), Fail> {
-    let (found, stop) = seen(rt.alloc(), &PUBLICATION, 7)?;
+    let (found, stop) = seen(rt.alloc(), &publication(), 7)?;
     assert_eq!(rt;
         found,
         (
@@ -204,7 +193,7 @@ fn two_worlds(
 #[test]
 fn world_or_out_of_memory(rt: HostRuntime) -> Result<(), Fail> {
     let mut events = [Event::SignTick; 23];
-    events[..17].copy_from_slice(&PUBLICATION);
+    events[..17].copy_from_slice(&publication());
     events[17] = Event::PowerLost;
     events[18] = Event::PowerBack(1);
     events[19] = Event::Command(Command::Activate(CODE));
@@ -218,19 +207,18 @@ fn world_or_out_of_memory(rt: HostRuntime) -> Result<(), Fail> {
     Ok(())
 }
 
-static IN_VAIN: [Event<'static>; 6] = [
-    Event::Command(PUBLISH),
-    Event::Command(PUBLISH),
-    Event::ToSign(1),
-    Event::ToCentre(0),
-    Event::PowerLost,
-    Event::ToSign(0),
-];
-
 /// A second command, a delivery of what was never sent and a delivery to a sign without power change nothing.
 #[test]
 fn what_cannot_happen_changes_nothing(rt: HostRuntime) -> Result<(), Fail> {
-    let (mut world, _) = after_all(rt.alloc(), &IN_VAIN)?;
+    let in_vain = [
+        Event::Command(publish(3, 1, b"A")),
+        Event::Command(publish(3, 1, b"A")),
+        Event::ToSign(1),
+        Event::ToCentre(0),
+        Event::PowerLost,
+        Event::ToSign(0),
+    ];
+    let (mut world, _) = after_all(rt.alloc(), &in_vain)?;
     let before = counts(&world);
     let stop = run_through(&mut world, &[Event::PowerBack(1), Event::ToSign(0)]);
     assert_eq!(rt;
