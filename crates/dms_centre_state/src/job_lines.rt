@@ -7,7 +7,7 @@ ghost use Rattle.dms_centre_jobs.specs.CodeView.{job_model};
 ghost use Rattle.dms_centre_jobs.specs.PublicationView.{publication_model};
 ghost use Rattle.dms_centre.specs.State.{Awaits};
 ghost use Rattle.dms_centre.specs.CodeView.{lent_phase, pending_model};
-ghost use Rattle.dms_centre_state.specs.CentreText.{row_words, message_words, attribute_words, term_words};
+ghost use Rattle.dms_centre_state.specs.CentreText.{row_words, message_words, term_words};
 ghost use Rattle.dms_centre_state.specs.CentreText.{publish_line, work_line, job_text, phase_text};
 
 use crate::ledger_lines::put_code;
@@ -77,7 +77,10 @@ fn put_publication(buffer: &mut [u8], place: usize, publication: &Publication<'_
 {
     let place = put_row(buffer, place, publication);
     let place = put_message(buffer, place, publication);
-    let place = put_attributes(buffer, place, publication);
+    let attributes = publication.attributes;
+    let place = put_word(buffer, place, attributes.beacon);
+    let place = put_word(buffer, place, attributes.pixel);
+    let place = put_word(buffer, place, attributes.run_priority);
     put_terms(buffer, place, publication)
 }
 
@@ -104,15 +107,6 @@ fn put_message(buffer: &mut [u8], place: usize, publication: &Publication<'_>) -
     let place = put_octets(buffer, place, publication.text);
     let place = put_text(buffer, place, " ");
     put_octets(buffer, place, publication.owner)
-}
-
-fn put_attributes(buffer: &mut [u8], place: usize, publication: &Publication<'_>) -> usize
-    ensures { Puts (attribute_words (publication_model publication.now)) place buffer.old result buffer.new }
-{
-    let attributes = publication.attributes;
-    let place = put_word(buffer, place, attributes.beacon);
-    let place = put_word(buffer, place, attributes.pixel);
-    put_word(buffer, place, attributes.run_priority)
 }
 
 fn put_terms(buffer: &mut [u8], place: usize, publication: &Publication<'_>) -> usize
