@@ -3,8 +3,7 @@
 ghost use Rattle.std.specs.Prelude.{◌≤◌, ◌+◌, ◌*◌, ◌++◌, codes, length};
 ghost use Rattle.dms_table.specs.RowsView.{reading_of, IsShort};
 ghost use Rattle.dms_text_filling.specs.Filling.{Puts};
-ghost use Rattle.dms_sign_state.specs.FieldsText.{octets_line, defaults_words, colour_words};
-ghost use Rattle.dms_sign_state.specs.FieldsText.{layout_words, time_words, octets_word, attribute_words};
+ghost use Rattle.dms_sign_state.specs.FieldsText.{octets_line, defaults_words, octets_word, attribute_words};
 ghost use Rattle.dms_sign_state.specs.FieldsText.{message_words};
 ghost use Rattle.dms_sign_state.specs.StateText.{message_of};
 
@@ -48,34 +47,13 @@ pub(crate) fn put_defaults(buffer: &mut [u8], place: usize, defaults: &Defaults)
     ensures octets { Puts (defaults_words defaults.now) place buffer.old result buffer.new }
     ensures short { result ≤ place + 37 }
 {
-    let place = put_colours(buffer, place, defaults);
-    let place = put_layout(buffer, place, defaults);
-    put_times(buffer, place, defaults)
-}
-
-fn put_colours(buffer: &mut [u8], place: usize, defaults: &Defaults) -> usize
-    ensures octets { Puts (colour_words defaults.now) place buffer.old result buffer.new }
-    ensures short { result ≤ place + 16 }
-{
     let place = put_number_word(buffer, place, defaults.background);
     let place = put_number_word(buffer, place, defaults.foreground);
     let place = put_number_word(buffer, place, defaults.flash_on);
-    put_number_word(buffer, place, defaults.flash_off)
-}
-
-fn put_layout(buffer: &mut [u8], place: usize, defaults: &Defaults) -> usize
-    ensures octets { Puts (layout_words defaults.now) place buffer.old result buffer.new }
-    ensures short { result ≤ place + 12 }
-{
+    let place = put_number_word(buffer, place, defaults.flash_off);
     let place = put_number_word(buffer, place, defaults.font);
     let place = put_number_word(buffer, place, defaults.line);
-    put_number_word(buffer, place, defaults.page)
-}
-
-fn put_times(buffer: &mut [u8], place: usize, defaults: &Defaults) -> usize
-    ensures octets { Puts (time_words defaults.now) place buffer.old result buffer.new }
-    ensures short { result ≤ place + 9 }
-{
+    let place = put_number_word(buffer, place, defaults.page);
     let place = put_number_word(buffer, place, defaults.on);
     let place = put_number_word(buffer, place, defaults.off);
     put_text(buffer, place, "\n")
