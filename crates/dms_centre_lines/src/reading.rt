@@ -36,14 +36,13 @@ pub(crate) enum CentreCall {
     Save,
 }
 
+/// What is read of a line: the call, or why it spells none; or there was no memory.
+type CallRead = Result<Result<CentreCall, CentreCallCause>, AllocError>;
+
 /// The call that a line spells, or why it spells none. A code is in this order. Memory is asked for by a message and by
 /// a datagram alone, and not where their line is at fault.
 #[tactic(auto, unfolding(crate::specs::CallReading::call_of))]
-pub(crate) fn call(
-    alloc: Global,
-    order: Order,
-    line: &[u8],
-) -> Result<Result<CentreCall, CentreCallCause>, AllocError>
+pub(crate) fn call(alloc: Global, order: Order, line: &[u8]) -> CallRead
     ensures read { IfOk result (λ read. option_map call_model (result_ok read) ≡ call_of order line.now) }
     ensures cause { IfOk result (λ read. result_err read ≡ call_cause line.now) }
     ensures spelled { OnErr result (has_octets (call_of order line.now) ≡ true) }
@@ -58,12 +57,7 @@ pub(crate) fn call(
 }
 
 /// The call that begins with this word and goes on with these, or what is wrong with them.
-fn call_after(
-    alloc: Global,
-    order: Order,
-    keyword: CentreKeyword,
-    words: Words<'_>,
-) -> Result<Result<CentreCall, CentreCallCause>, AllocError>
+fn call_after(alloc: Global, order: Order, keyword: CentreKeyword, words: Words<'_>) -> CallRead
     ensures read { IfOk result (λ read. option_map call_model (result_ok read)
         ≡ call_after order keyword words.entry) }
     ensures cause { IfOk result (λ read. result_err read ≡ words_cause keyword words.entry) }
@@ -81,12 +75,7 @@ fn call_after(
 
 /// A command of the operator.
 #[tactic(auto, using(crate::proofs::CallMemory::octets_kept))]
-fn command(
-    alloc: Global,
-    order: Order,
-    asked: CommandWord,
-    words: Words<'_>,
-) -> Result<Result<CentreCall, CentreCallCause>, AllocError>
+fn command(alloc: Global, order: Order, asked: CommandWord, words: Words<'_>) -> CallRead
     ensures read { IfOk result (λ read. option_map call_model (result_ok read)
         ≡ call_after order (keys.Command asked) words.entry) }
     ensures cause { IfOk result (λ read. result_err read ≡ words_cause (keys.Command asked) words.entry) }
@@ -100,10 +89,7 @@ fn command(
 
 /// The octets of a datagram, and nothing after them.
 #[tactic(auto, using(crate::proofs::CallMemory::octets_kept))]
-fn datagram(
-    alloc: Global,
-    words: Words<'_>,
-) -> Result<Result<CentreCall, CentreCallCause>, AllocError>
+fn datagram(alloc: Global, words: Words<'_>) -> CallRead
     ensures read { IfOk result (λ read. option_map call_model (result_ok read)
         ≡ option_map datagram (last_octets_at words.entry)) }
     ensures cause { IfOk result (λ read. result_err read ≡ words_cause keys.Datagram words.entry) }
