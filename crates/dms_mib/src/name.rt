@@ -30,7 +30,7 @@ pub struct Name {
     octets: [u8; MAX_NAME],
     instance: Instance,
     /// How many octets the name has.
-    length: u8,
+    length: u32,
 }
 
 impl Model for Name {
@@ -68,7 +68,7 @@ impl Name {
     pub fn oid(&self) -> Oid<'_>
         ensures { result ≡ name_of self.now }
     {
-        Oid::known(&self.octets[..usize::from(self.length)])
+        Oid::known(&self.octets[..self.length as usize])
     }
 }
 
@@ -175,7 +175,7 @@ fn of_long_cell(column: Column, memory: u8, number: u16) -> Name
     Name {
         instance: Instance::Cell(column, RowId { memory, number }),
         octets: padded,
-        length: length as u8,
+        length: length as u32,
     }
 }
 
