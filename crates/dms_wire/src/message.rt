@@ -60,10 +60,10 @@ pub enum Kind {
 /// (this profile).
 #[derive(Debug, Drop)]
 pub struct Message<'a> {
-    /// The octets of the community's name, of any values and number.
-    pub community: &'a [u8],
     /// What is asked or answered.
     pub kind: Kind,
+    /// The octets of the community's name, of any values and number.
+    pub community: &'a [u8],
     /// The request-id, which a Response repeats.
     pub request: i64,
     /// The error-status of a Response; in a request it says nothing (RFC 1157, 4.1.1).

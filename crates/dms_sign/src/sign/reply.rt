@@ -10,7 +10,7 @@ ghost use Rattle.dms_sign.specs.declared.sign.reply.Receipt.TheVariants.{Dropped
 use crate::sign::Sign;
 use dms_codes::Activation;
 use dms_mib_replies::{answer_get, answer_next, repeat};
-use dms_wire::{ErrorStatus, Kind, Message, Out, heard};
+use dms_wire::{ErrorStatus, Kind, Message, Out, read};
 
 /// What came of a datagram.
 #[derive(Clone, Copy, Debug, PartialEq, Eq)]
@@ -35,8 +35,8 @@ impl Sign {
         ensures empty { result ≡ Dropped → out.new.items ≡ [] }
     {
         out.clear();
-        match heard(datagram) {
-            Some(message) if self.is_addressed(&message) => self.answer(&message, out),
+        match &read(datagram) {
+            Ok(message) if self.is_addressed(message) => self.answer(message, out),
             _ => Receipt::Dropped,
         }
     }
