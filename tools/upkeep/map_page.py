@@ -15,7 +15,7 @@ _PLACES = {
     "definition": ("specs/{}.antt",),
     "code": ("src/{}.rt",),
     "proof": ("proofs/{}.antt", "src/{}.rt"),
-    "test": ("src/{}.rt", "proofs/{}.antt"),
+    "test": ("src/{}.rt", "src/tests/{}.rt", "proofs/{}.antt"),
 }
 
 

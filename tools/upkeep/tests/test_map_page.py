@@ -49,3 +49,12 @@ def test_links_that_are_written_are_not_stale_until_a_line_moves(tree: Tree) -> 
     moved = tree.top / "crates/tool/src/other.rt"
     (tree.top / "crates/tool/src/read.rt").rename(moved)
     assert map_page.stale(Tree(tree.top, tree.names))
+
+
+def test_a_test_stands_among_the_tests_of_a_crate_too(tree: Tree) -> None:
+    path = tree.top / "crates/dms_wire_tests/src/tests/names.rt"
+    path.parent.mkdir(parents=True)
+    path.write_text("#[test]\nfn each() {}\n", encoding="utf-8")
+    row = map_page.linked(tree).splitlines()[2]
+    assert row.endswith("| | [`wire_tests/names: each`](../crates/dms_wire_tests/src/tests/names.rt#L2) |")
+    assert not map_page.missing(tree)
