@@ -73,7 +73,7 @@ def _runs(block: str, after: str, folder: str) -> Iterator[bool]:
 
 _CONTRACT = re.compile(
     r"stands in (\S+)\. .*?```rust\n(.*?)```.*? as (\S+\.edit) does .*?"
-    r"```\n *(.*?)\nnote: (\S+?):(\d+):.*?`returns-in-Some-clause-(\w+)`",
+    r"```\n *(.*?)\n\./(\S+?):(\d+):.*?`(returns-in-\w+-clause-(\w+))`",
     re.DOTALL,
 )
 
@@ -84,15 +84,16 @@ def _is_in_sources(text: str) -> bool:
     if not found:
         print("README shows no contract")
         return False
-    source, contract, edit, line, named, number, clause = found.groups()
+    source, contract, edit, line, proof, number, goal, clause = found.groups()
     lines = (TOP / source).read_text(encoding="utf-8").splitlines()
     edited = (TOP / edit).read_text(encoding="utf-8").splitlines()
+    crate, _, named = source.partition("/src/")
+    proofs = (TOP / crate / proof).read_text(encoding="utf-8").splitlines()
     well = (
         contract in "\n".join((*lines, ""))
-        and contract.splitlines()[0] in lines[int(number) - 1 : int(number) + 1]  # its attribute, or itself
         and f"new: {line}" in edited
-        and f"file: {named}" in edited
-        and source.endswith(named)
+        and f"file: src/{named}" in edited
+        and f"{goal} c =" in "\n".join(proofs[: int(number) - 1])
         and f"ensures {clause} " in contract
     )
     if not well:
