@@ -7,6 +7,7 @@
 #include <time.h>
 
 #include "names.h"
+#include "prints.h"
 #include "say.h"
 
 static char why[OBJECTS_WHY];
@@ -191,7 +192,7 @@ static void take(struct firmware *firmware, const struct name *name, const struc
     words[made++] = ' ';
     made += value_text(value, octets, size, words + made);
     if (!sets_put(firmware->sets, words, made) && !firmware->is_quiet) {
-        printf("set %s\n", words);
+        print("set %s\n", words);
     }
 }
 
@@ -209,11 +210,10 @@ void firmware_tell(struct firmware *firmware)
     }
     for (struct set *set = sets->items; set < sets->items + sets->count; set++) {
         if (!set->is_told && !firmware->is_quiet) {
-            printf("set %.*s\n", (int)set->size, set->words);
+            print("set %.*s\n", (int)set->size, set->words);
         }
         set->is_told = 1;
     }
-    fflush(stdout);
 }
 
 void firmware_end(struct firmware *firmware) { objects_free(&firmware->objects); }

@@ -15,6 +15,7 @@
 #include <poll.h>
 #include <signal.h>
 #include <stdio.h>
+#include <stdlib.h>
 #include <string.h>
 #include <sys/signalfd.h>
 #include <sys/timerfd.h>
@@ -26,6 +27,7 @@
 #include "firmware.h"
 #include "journal.h"
 #include "log.h"
+#include "prints.h"
 #include "say.h"
 #include "shortening.h"
 #include "sign_lines.h"
@@ -35,7 +37,7 @@
 #include "writes.h"
 
 /* The descriptors that are waited on. */
-enum { SOCKET, TIMER, SIGNALS, WAITED };
+enum { SOCKET, TIMER, SIGNALS, READER, WAITED };
 
 struct front_end {
     struct wisangub_sign sign;
@@ -146,8 +148,7 @@ static void tell_activated(const uint8_t *reply, size_t size)
         snprintf(digits + 2 * at, 3, "%02x", code[at]);
     }
     if (code != NULL) {
-        printf("accepted %s\n", digits);
-        fflush(stdout);
+        print("accepted %s\n", digits);
     }
 }
 
@@ -315,7 +316,8 @@ static void serve(struct front_end *front_end, int signals)
 {
     struct pollfd waited[WAITED] = {[SOCKET] = {.fd = front_end->socket, .events = POLLIN},
                                     [TIMER] = {.fd = front_end->timer, .events = POLLIN},
-                                    [SIGNALS] = {.fd = signals, .events = POLLIN}};
+                                    [SIGNALS] = {.fd = signals, .events = POLLIN},
+                                    [READER] = {.events = POLLOUT}};
     int goes_on = 1;
     while (goes_on) {
         if (front_end->journal != NULL) {
@@ -323,6 +325,7 @@ static void serve(struct front_end *front_end, int signals)
                             &front_end->log);
         }
         int pause = writes_pause(&front_end->writes, running());
+        waited[READER].fd = prints_wait() ? STDOUT_FILENO : -1;
         had(poll(waited, WAITED, pause) < 0 && errno != EINTR ? -1 : 0, "poll");
         /* Seconds that passed come before the datagrams that came meanwhile. */
         pass(front_end);
@@ -333,6 +336,7 @@ static void serve(struct front_end *front_end, int signals)
         if (waited[SOCKET].revents != 0) {
             hear(front_end);
         }
+        prints_turn();
     }
     pass(front_end);
 }
@@ -414,6 +418,7 @@ int main(int count, char **words)
     sigset_t held;
     hold_signals(&held, asked.objects != NULL || asked.journal.path != NULL);
     keep_standard_files();
+    atexit(prints_end);
     struct front_end front_end = {.socket = bound(asked.host, asked.port),
                                   .timer = -1,
                                   .allowed = asked.allowed,

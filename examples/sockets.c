@@ -7,6 +7,8 @@
 #include <stdlib.h>
 #include <string.h>
 
+#include "prints.h"
+
 enum { NAMED = NI_MAXHOST + NI_MAXSERV + 4 };
 
 int had(int result, const char *call)
@@ -70,8 +72,7 @@ void announce(int socket, const char *host)
     char words[NAMED];
     had(getsockname(socket, (struct sockaddr *)&at, &size), "getsockname");
     name((const struct sockaddr *)&at, size, at.ss_family == AF_INET ? host : NULL, words);
-    printf("a sign at %s\n", words);
-    fflush(stdout);
+    print("a sign at %s\n", words);
 }
 
 size_t received(int socket, struct heard heard[AT_ONCE])

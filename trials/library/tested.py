@@ -72,6 +72,7 @@ def arena(trial: Trial, library: pathlib.Path) -> None:
 
 def tried(trial: Trial, way: Way, step: str, count: int) -> None:
     says_ok(trial, way, "arena_test", "1")
+    says_ok(trial, way, "prints_test")
     says_ok(trial, way, "records_test", step)
     says_ok(trial, way, "slots_test", ROADSIDE, SLOTS_SLOW if way.by else SLOTS_SHORT if trial.is_short() else step)
     with tempfile.TemporaryDirectory(dir=trial.folder) as folder, tempfile.TemporaryDirectory(dir=folder) as other:
