@@ -8,15 +8,16 @@ import signal
 import socket
 import subprocess
 import sys
+import threading
 import time
-from collections.abc import Iterator
+from collections.abc import Callable, Iterator
 from typing import Any
 
 import pytest
 
 from wisangub.endpoint import printing
 from wisangub.endpoint.printing import Printed
-from wisangub.process.places import environment
+from wisangub.process.places import SIGND, TOP, environment
 from wisangub.snmp import wire
 from wisangub.snmp.names import DMS
 
@@ -60,15 +61,31 @@ def answers_more(manager: socket.socket) -> bool:
     return True
 
 
-def test_a_sign_answers_though_nobody_reads_what_it_prints(tmp_path: pathlib.Path) -> None:
+def of_python(*words: str) -> list[str]:
+    return with_objects.call(*words)
+
+
+def of_c(*words: str) -> list[str]:
+    return [str(SIGND), *words, str(TOP / "signs/bench.sign")]
+
+
+FRONT_ENDS = pytest.mark.parametrize(
+    "call", [of_python, pytest.param(of_c, marks=pytest.mark.skipif(not SIGND.is_file(), reason="no signd is built"))]
+)
+
+
+@FRONT_ENDS
+def test_a_sign_answers_though_nobody_reads_what_it_prints(
+    tmp_path: pathlib.Path, call: Callable[..., list[str]]
+) -> None:
     """Also activations, of which it prints a line each, and a change of an object: the lines are there later."""
     objects = tmp_path / "objects"
     objects.write_text("object 1.3.6.1.2.1.1.5.0 OCTET STRING 67616e747279 octets 0 255\n")
     port, journal = free_port(), str(tmp_path / "journal")
-    call = with_objects.call("--port", str(port), "--objects", str(objects), "--journal", journal)
+    words = call("--port", str(port), "--objects", str(objects), "--journal", journal)
     with _full() as (read, write), socket.socket(socket.AF_INET, socket.SOCK_DGRAM) as manager:
         manager.connect(("127.0.0.1", port))
-        with subprocess.Popen(call, stdout=write, stderr=subprocess.DEVNULL, env=environment()) as process:
+        with subprocess.Popen(words, stdout=write, stderr=subprocess.DEVNULL, env=environment()) as process:
             front_end = with_objects.Served(process, manager=manager)
             try:
                 stands(front_end)
@@ -91,12 +108,13 @@ def test_a_sign_answers_though_nobody_reads_what_it_prints(tmp_path: pathlib.Pat
                 process.kill()
 
 
-def test_a_reader_that_stands_still_keeps_no_sign_from_ending() -> None:
+@FRONT_ENDS
+def test_a_reader_that_stands_still_keeps_no_sign_from_ending(call: Callable[..., list[str]]) -> None:
     port = free_port()
     with _full() as (_, write), socket.socket(socket.AF_INET, socket.SOCK_DGRAM) as manager:
         manager.connect(("127.0.0.1", port))
-        call = with_objects.call("--port", str(port))
-        with subprocess.Popen(call, stdout=write, stderr=subprocess.DEVNULL, env=environment()) as process:
+        words = call("--port", str(port))
+        with subprocess.Popen(words, stdout=write, stderr=subprocess.DEVNULL, env=environment()) as process:
             try:
                 stands(with_objects.Served(process, manager=manager))
                 process.send_signal(signal.SIGTERM)
@@ -210,3 +228,42 @@ def test_the_last_lines_wait_a_moment_for_their_reader(monkeypatch: pytest.Monke
         before = time.monotonic()
         printed.end()
         assert 0.9 < time.monotonic() - before < 10
+
+
+class Reading(threading.Thread):
+    """A reader that takes all, up to a line `end`."""
+
+    def __init__(self, file: int) -> None:
+        super().__init__(daemon=True)
+        self.file, self.octets = file, b""
+
+    def run(self) -> None:
+        while not self.octets.endswith(b"\nend\n"):
+            self.octets += os.read(self.file, 4096)
+
+
+def test_nothing_is_left_out_for_a_reader_that_takes_lines(monkeypatch: pytest.MonkeyPatch) -> None:
+    """However long it is, as the ledger of a centre: the reader has a moment to take what waits before it."""
+    monkeypatch.setattr(printing, "MOST", 1000)
+    with full(monkeypatch) as (printed, read):
+        blocks = ["\n".join(f"line {at} of {block}" for at in range(20_000)) for block in range(3)]
+        reader = Reading(read)
+        printed.print(blocks[0], 10_000)
+        reader.start()
+        for block in (*blocks[1:], "end"):
+            printed.print(block, 10_000)
+        printed.end()
+        reader.join(PATIENCE)
+        assert reader.octets.lstrip(b"x").decode().split("\n") == [*"\n".join(blocks).split("\n"), "end", ""]
+
+
+def test_a_reader_that_stands_still_is_waited_for_once(monkeypatch: pytest.MonkeyPatch) -> None:
+    monkeypatch.setattr(printing, "MOST", 10)
+    with full(monkeypatch) as (printed, read):
+        before = time.monotonic()
+        for line in ("first", "second\nin two", "third", "fourth"):
+            printed.print(line, 500)
+        assert 0.4 < time.monotonic() - before < 10
+        found = _emptied(read)
+        printed.turn()
+        assert (found + _emptied(read)).lstrip(b"x") == b"first\nleft out 4 lines: nobody took them\n"

@@ -12,9 +12,9 @@ backslash; a - without quotes is none), each character an octet of ISO 8859-1; `
 time. With a journal (docs/JOURNAL.md) a centre goes on where it was; without one its request numbers begin at the
 description's, or at --first, which has to be above any that was used. A journal of more than --keep SIZE octets, 1M
 where nothing is said, is shortened to the state of the centre, and so it is at a SIGHUP; --archive FOLDER keeps what is
-cut off. Standard error names the step of a command that
-failed, and says what the sign found wrong with its message, or what may be the cause. The exit status is 0 where every
-command ended accepted, 1 where one did not, and 2 where it could not begin.
+cut off. Lines that nobody takes wait, 1 MB of them, and hold no command up. Standard error names the step of a command
+that failed, and says what the sign found wrong with its message, or what may be the cause. The exit status is 0 where
+every command ended accepted, 1 where one did not, and 2 where it could not begin.
 """
 
 import wisangub.endpoint.interrupts  # noqa: F401, before all else
@@ -23,13 +23,14 @@ import argparse
 import math
 import sys
 
-from wisangub.output import LOG, print_line
+from wisangub.output import LOG
 from wisangub.process import description
 from wisangub.refusal import Refusal, status_of
 
 from . import commands
 from .centre_front_end import CentreFrontEnd, last_command
 from .journal import Journal
+from .printing import PRINTED
 from .questions import Questions
 from .records import Head
 from .setting import MOST_NUMBER, begun, checked, journal_of, log_of, options, shortening_of
@@ -92,14 +93,18 @@ def main() -> int:
         is_well = operator.finish([], asked.wait) if operator.is_busy else True
         for line in commands.lines(operator.waiting, operator.turn):
             if line is None:
-                print_line("bad line: no UTF-8, or longer than 65536 octets")
+                PRINTED.print("bad line: no UTF-8, or longer than 65536 octets")
             is_well = line is not None and operator.carry_out(line) and is_well
         centre.end()
+        operator.rest()
     return 0 if is_well and not operator.waiting.is_stopped else 1
 
 
 def run() -> int:
-    return status_of(main)
+    try:
+        return status_of(main)
+    finally:
+        PRINTED.end()
 
 
 if __name__ == "__main__":

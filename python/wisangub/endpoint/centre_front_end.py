@@ -5,7 +5,7 @@ import socket
 import time
 from typing import Iterable
 
-from wisangub.output import LOG, print_line
+from wisangub.output import LOG
 from wisangub.process.coprocess import CoProcess
 from wisangub.refusal import Refusal, reason
 from wisangub.snmp import wire
@@ -15,6 +15,7 @@ from . import endings
 from .files import NotKept
 from .journal import Journal
 from .log import Log
+from .printing import MOMENT, PRINTED
 from .questions import Questions
 from .shortening import Shortening, Synced
 from .sockets import Address, Strays, Waiting, named, received, sent
@@ -65,7 +66,9 @@ class CentreFrontEnd:
 
     def turn(self) -> float:
         """Between two lines the journal is shortened, where it is long or that is asked for: each line before is handed
-        over, and what goes out with it was sent. The seconds that it took, in which nothing is heard."""
+        over, and what goes out with it was sent. The seconds that it took, in which nothing is heard. What was printed
+        and not taken is taken, or waits on."""
+        PRINTED.turn()
         begun = time.monotonic()
         if self.shortening and self.journal:
             self.shortening.turn(self.centre, Synced(self.journal))
@@ -111,7 +114,10 @@ class CentreFrontEnd:
         if now >= due:
             self.hand(b"tick")
             return due + self.every
-        self.waiting.until([self.udp_socket.fileno(), self.strays.socket.fileno()], min(due, ends) - now)
+        self.waiting.until(
+            [self.udp_socket.fileno(), self.strays.socket.fileno()],
+            min(due - now, ends - now, PRINTED.pause or math.inf),
+        )
         self.log_strays()
         heard = received(self.udp_socket)
         if heard is not None:
@@ -134,7 +140,7 @@ class CentreFrontEnd:
         is_done = self.carry_on(wait)
         if not is_done:
             why = "stopped" if self.waiting.is_stopped else f"given up after {wait:g} seconds"
-            print_line(f"{why}: the job is not done")
+            PRINTED.print(f"{why}: the job is not done")
         now, known = self.status(), set(before[2:])
         self.show([*now[:2], *(line for line in now[2:] if line not in known)])
         if is_done:
@@ -152,7 +158,7 @@ class CentreFrontEnd:
 
     def show(self, lines: list[str]) -> None:
         """Prints lines of a status."""
-        print_line("\n".join(ended(self.mib, line) for line in lines))
+        PRINTED.print("\n".join(ended(self.mib, line) for line in lines), MOMENT)
 
     def carry_out(self, line: str) -> bool:
         """Whether a line of the operator's was in order, and ended accepted if it was a command."""
@@ -162,10 +168,10 @@ class CentreFrontEnd:
         try:
             command = published(line) if line.split(" ")[0] == "publish-text" else line
         except Refusal as refused:
-            print_line(f"bad line: {refused}")
+            PRINTED.print(f"bad line: {refused}")
             return False
         if command.split(" ")[0] not in COMMANDS:
-            print_line("bad line")
+            PRINTED.print("bad line")
             return False
         return self.command(command)
 
@@ -184,12 +190,18 @@ class CentreFrontEnd:
         try:
             answer = self.hand(command.encode("utf-8")).decode("latin-1")
         except NotKept as refused:
-            print_line(f"not begun: it cannot be recorded: {refused}")
+            PRINTED.print(f"not begun: it cannot be recorded: {refused}")
             return False
         if answer.split(" ")[0] in ("refused", "bad"):
-            print_line(answer)
+            PRINTED.print(answer)
             return False
         return self.finish(before, self.wait)
+
+    def rest(self) -> None:
+        """At the end of an operator's lines, where nothing is under way, a reader takes what waits in his time."""
+        while PRINTED.is_waiting and not self.waiting.is_stopped:
+            self.waiting.until([], PRINTED.pause)
+            PRINTED.turn()
 
     def late(self) -> None:
         """What comes while no job is under way answers nothing, and is let go."""

@@ -4,6 +4,7 @@ import os
 import sys
 from typing import Callable, Iterator
 
+from .printing import PRINTED
 from .sockets import Waiting
 
 MOST_LINE = 65_536
@@ -19,7 +20,7 @@ def lines(waiting: Waiting, between: Callable[[], object] = lambda: None) -> Ite
         if has_more and b"\n" not in left:
             if len(left) > MOST_LINE:
                 left, is_long = b"", True
-            if file in waiting.until([file], None):
+            if file in waiting.until([file], PRINTED.pause):
                 more = os.read(file, 65_536)
                 left, has_more = left + more, bool(more)
             continue

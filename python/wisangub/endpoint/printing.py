@@ -1,5 +1,6 @@
-"""What a sign prints, for programs too: its reader may stand still, and the sign goes on. Lines that are not taken at
-once wait in their order; where there are too many, later ones are left out, and a line says how many in their place."""
+"""What a sign and a centre print, for programs too: the reader may stand still, and they go on. Lines that are not
+taken at once wait in their order; where there are too many, later ones are left out, and a line says how many in their
+place."""
 
 import collections
 import contextlib
@@ -12,8 +13,8 @@ from wisangub.output import LOG, print_line
 from wisangub.standing import look_at_reader
 
 MOST = 1 << 20  # octets that wait
-_LAST = 1000  # milliseconds that the last lines wait for a reader
-AGAIN = 0.5  # seconds from one look whether a reader takes more to the next
+MOMENT = 1000  # milliseconds that the last lines, and many at once, wait for a reader
+_AGAIN = 0.5  # seconds from one look whether a reader takes more to the next
 
 
 class Printed:
@@ -28,21 +29,35 @@ class Printed:
     def is_waiting(self) -> bool:
         return bool(self._lines)
 
-    def print(self, words: str) -> None:
-        """A line, behind those that wait."""
+    @property
+    def pause(self) -> float | None:
+        """The seconds until its reader is looked at again; None where nothing waits."""
+        return _AGAIN if self._lines else None
+
+    def print(self, words: str, patience: int = 0) -> None:
+        """A line, or some at once, behind those that wait. Where these are too many a reader that takes some has so
+        many milliseconds to take them; what nothing waits before is never too long."""
         self.turn()
         if self._is_elsewhere():
             print_line(words)
             return
-        line = _coded(words)
-        if self._size + len(line) > MOST:
+        octets = _coded(words)
+        if self._is_too_long(octets) and not self._left_out:
+            self.turn(patience)
+        lines = octets.splitlines(keepends=True)
+        if self._is_too_long(octets):
             if not self._left_out:
                 LOG.info("nobody takes what is printed: lines are left out")
-            self._left_out += 1
+            self._left_out += len(lines)
             return
         self._tell_left_out()
-        self._put(line)
+        for line in lines:
+            self._put(line)
         self.turn()
+
+    def _is_too_long(self, octets: bytes) -> bool:
+        """Whether what waits would be more than may wait with them."""
+        return self._size > 0 and self._size + len(octets) > MOST
 
     def turn(self, patience: int = 0) -> None:
         """Writes what waits, as far as it is taken, in these milliseconds; where nobody reads it any more a sign goes
@@ -63,7 +78,7 @@ class Printed:
 
     def end(self) -> None:
         """The last lines are written; a reader that stands still is waited for only a moment."""
-        self.turn(_LAST)
+        self.turn(MOMENT)
 
     def _is_elsewhere(self) -> bool:
         """Whether standard output is none, or another's file."""

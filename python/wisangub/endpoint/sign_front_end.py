@@ -15,7 +15,7 @@ from .clock import running
 from .keeper import Keeper
 from .limit import Limit
 from .near import Near
-from .printing import AGAIN, PRINTED
+from .printing import PRINTED
 from .shortening import Shortening
 from .sockets import Address, Waiting, received, wait_at_most
 from .sorts import CHANGING, HEARD, UNANSWERED, Sort, sort_of
@@ -96,7 +96,7 @@ class SignFrontEnd:
     def pause(self, now: float, has_ticks: bool) -> float | None:
         """The seconds until something is to be done though no datagram comes; None where nothing is."""
         left = self.up + 1 - now if has_ticks else None
-        for wait in (self.limit.wait(now), self.watcher.wait(now), AGAIN if PRINTED.is_waiting else None):
+        for wait in (self.limit.wait(now), self.watcher.wait(now), PRINTED.pause):
             if wait is not None and (left is None or wait < left):
                 left = wait
         return left
