@@ -76,6 +76,36 @@ def test_what_is_claimed_is_shown_and_put_back() -> None:
     assert "sysName 0 to 255" in "\n".join(terminal.ending(results, ABOUT, []))
 
 
+class ReadsWrongOnce(Roadside):
+    """The first read of an object with others has another value, which is one that it may have."""
+
+    def __init__(self, name: wire.Name, value: bytes) -> None:
+        super().__init__()
+        self.name, self.value, self.is_read = name, value, False
+
+    def receive(self, datagram: bytes) -> tuple[bytes | None, object]:
+        octets, more = super().receive(datagram)
+        reply, request = (wire.spelled(one or b"") for one in (octets, datagram))
+        names = (
+            [] if reply is None or request is None or request.kind != wire.GET else [name for name, _ in reply.bindings]
+        )
+        if reply is None or self.is_read or self.name not in names[1:]:
+            return octets, more
+        self.is_read = True
+        bindings = [(name, (held[0], self.value) if name == self.name else held) for name, held in reply.bindings]
+        return wire.written(replace(reply, bindings=bindings)), more
+
+
+def test_what_reads_wrong_at_first_is_put_back_as_it_was() -> None:
+    name = (*SYSTEM, 5, 0)
+    sign = ReadsWrongOnce(name, b"elsewhere")
+    before = sign.agent.device.objects[name].value
+    results = tried(sign, "device")
+    assert sign.agent.device.objects[name].value == before != (wire.OCTETS, b"elsewhere"), results.unjudged()
+    said = "\n".join(terminal.ending(results, ABOUT, []))
+    assert "first and" in said and results.verdict() is Verdict.DIFFERS, said
+
+
 def test_without_claims_of_a_device_the_chapter_is_not_asked_for() -> None:
     results = tried(Roadside(), "device", "communities", claims=Claims())
     assert [held.chapter.name for held in results.chapters] == ["communities"]

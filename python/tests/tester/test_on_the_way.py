@@ -7,7 +7,7 @@ from wisangub.snmp import wire
 from wisangub.snmp.names import scalar
 from wisangub.tester.findings.results import Verdict
 from wisangub.tester.report import files, terminal, words
-from wisangub.tester.requests.objects import Name, Value, integer
+from wisangub.tester.requests.objects import DEFAULTS, Name, Value, integer
 from wisangub.tester.requests.steps import put
 
 from .nearly_right import Around, is_set_of, tried
@@ -105,3 +105,16 @@ def test_what_is_wrong_once_before_the_chapters_is_told_with_what_it_read() -> N
         said = "\n".join(terminal.ending(results, ABOUT, []))
         assert results.verdict() is Verdict.DIFFERS and not results.differences(), said
         assert told in said and f"reads {word}.0 = 14" not in said, said
+
+
+def test_a_setting_that_reads_wrong_at_first_is_put_back_as_it_was() -> None:
+    """It is told, and what was read again stands as the sign's own, also where that is none of both."""
+    at = DEFAULTS.index(PAGE_ON)
+    for times, own in ((1, 77), (1, 30)):
+        sign = ReadsWrongAtFirst(PAGE_ON, times)
+        sign.state.defaults[at] = own
+        results = tried(sign, "getnext")
+        said = "\n".join(terminal.ending(results, ABOUT, []))
+        assert sign.state.defaults[at] == own and results.first[PAGE_ON] == integer(own) and results.is_set_back
+        assert results.verdict() is Verdict.DIFFERS and not results.differences(), said
+        assert f"it read 19 first and {own} then, and the replies shown are those when it was read again" in said, said

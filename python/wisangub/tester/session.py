@@ -179,7 +179,7 @@ class Session:
         if not chapter.is_of_claims:
             self.chapter(chapter)
             return
-        with Learnt(self.pair, self.reset, self.context):
+        with Learnt(self.pair, self.reset, self.context, self.preflight.read_surely):
             self.results.first |= self.context.device
             self.chapter(chapter)
 

@@ -67,12 +67,23 @@ class Preflight:
         """The sign's own defaults, codes and times, to be put back at the end. What an earlier test read first, and
         could not put back, stands."""
         settings = self.reset.objects.settings()
-        have = self.reset.read([name for name in settings if name not in self.pair.masked])
+        have = self.read_surely([name for name in settings if name not in self.pair.masked])
         self.results.first = {name: value for name, value in have.items() if value is not None} | self.results.first
         for name, value in self.results.first.items():
             if value != settings.get(name, value):
                 said = (spoken(name), value_words(settings[name], name), value_words(value, name))
                 self.results.set_back.append(said)
+
+    def read_surely(self, names: list[Name]) -> dict[Name, Value | None]:
+        """What the sign reads, twice: where both differ that is told, and what it reads a third time stands."""
+        have, again = self.reset.read(names), self.reset.read(names)
+        for name in [name for name in names if have[name] != again[name]]:
+            first, then = ("nothing" if read is None else value_words(read, name) for read in (have[name], again[name]))
+            have[name] = self.reset.read([name])[name]
+            exchange = self.on_both(get(name))
+            exchange.ours, exchange.mismatch = exchange.theirs, Mismatch(Kind.VALUE, (name,))
+            self._wrong_once(exchange, f"it read {first} first and {then} then, {READ_AGAIN}")
+        return have
 
     def configure(self) -> None:
         """What is described otherwise is told and left out; rows that are in use are listed."""
