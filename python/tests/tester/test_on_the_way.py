@@ -5,12 +5,13 @@ from dataclasses import replace
 from model import text
 from wisangub.snmp import wire
 from wisangub.snmp.names import scalar
-from wisangub.tester.findings.results import Verdict
+from wisangub.tester.findings.results import Results, Verdict
 from wisangub.tester.report import files, terminal, words
 from wisangub.tester.requests.objects import DEFAULTS, Name, Value, integer
 from wisangub.tester.requests.steps import put
+from wisangub.tester.session import chapters_of
 
-from .nearly_right import Around, is_set_of, tried
+from .nearly_right import Around, is_set_of, session, tried
 
 ABOUT = words.About("127.0.0.1:1", "bench.sign", "model", None, 1, 0, False, "today")
 PAGE_ON, CAUSE = scalar("defaultPageOnTime"), scalar("dmsActivateMsgError")
@@ -76,8 +77,51 @@ def test_what_is_wrong_on_the_way_alone_is_now_and_then() -> None:
         assert "reads defaultPageOnTime.0 = 30" not in said, said
 
 
+class ReadsWrongAmongOthers(Around):
+    """Of the reads of a time with others one in some has another value."""
+
+    def __init__(self, value: int) -> None:
+        super().__init__()
+        self.value, self.count = value, 0
+
+    def answer(self, octets: bytes, message: wire.Message) -> bytes | None:
+        if message.kind != wire.GET or PAGE_ON not in [name for name, _ in message.bindings[1:]]:
+            return self.right(octets)
+        self.count += 1
+        return self.right(octets) if self.count % FEW else self.read(octets, self._other)
+
+    def _other(self, name: Name, held: Value) -> Value:
+        return integer(self.value) if name == PAGE_ON else held
+
+
+def lossy(sign: Around, *chapters: str) -> Results:
+    """The test of a sign on a way that lost a datagram before."""
+    made = session(sign)
+    made.pair.port.passed_over = 1
+    return made.run(chapters_of(chapters, False))
+
+
+def test_what_is_wrong_on_the_way_is_told_where_datagrams_are_lost() -> None:
+    """Where no request that may have come late can have made it so."""
+    results = lossy(ReadsWrongAmongOthers(211), "getnext", "durations")
+    said = "\n".join(terminal.ending(results, ABOUT, []))
+    assert not results.differences() and results.verdict() is Verdict.DIFFERS, said
+    assert {name for held in results.once() for name in held.mismatch.names} == {PAGE_ON}
+    assert "defaultPageOnTime.0 read 211 on the way to the known state" in said and "now and then" in said, said
+
+
+def test_what_a_late_request_may_have_made_is_not_told() -> None:
+    made = session(sign := ReadsWrongAmongOthers(211))
+    made.pair.port.passed_over = 1
+    made.pair.port.written.add((PAGE_ON, integer(211)))
+    results = made.run(chapters_of(("getnext", "durations"), False))
+    assert sign.count > FEW and not [held for held in results.once() if "on the way" in held.note], results.once()
+
+
 def test_nothing_is_wrong_on_the_way_of_a_right_sign() -> None:
     results = tried(Around(text.BENCH), "getnext", "defaults", "durations", "priorities")
+    assert results.verdict() is Verdict.CONFORMS and not results.once(), results.unjudged()
+    results = lossy(Around(text.BENCH), "getnext", "durations")
     assert results.verdict() is Verdict.CONFORMS and not results.once(), results.unjudged()
 
 

@@ -6,6 +6,7 @@ from typing import Callable, Iterator
 
 from wisangub.snmp import wire
 from wisangub.tester.requests.messages import spelled
+from wisangub.tester.requests.objects import Name
 from wisangub.tester.requests.steps import FIRST_NUMBER, LAST_NUMBER
 
 from .clock import Clock
@@ -53,6 +54,8 @@ class Port:
     asked_again: int = 0
     given_up: set[int] = field(default_factory=set)  # numbers of looks whose replies were not waited for
     strays: list[int] = field(default_factory=list)  # numbers of SETs whose replies came late, or once more
+    settings: frozenset[Name] = frozenset()  # objects of which all that is ever written is kept:
+    written: set[wire.Binding] = field(default_factory=set)
     _awaited: _Awaited | None = None
     _looked: float = 0.0  # when it was last looked whether something had come
     _is_timed: bool = True  # whether it is known when the last reply came
@@ -76,6 +79,9 @@ class Port:
     def send(self, octets: bytes) -> None:
         """Sends octets, and counts them."""
         self.sent += 1
+        message = spelled(octets)
+        if message is not None and message.kind == wire.SET:
+            self.written.update(bound for bound in message.bindings if bound[0] in self.settings)
         self.link.send(octets)
 
     def is_earlier(self, number: int, waited_for: int) -> bool:

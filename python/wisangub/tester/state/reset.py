@@ -13,6 +13,7 @@ from wisangub.tester.sign.pair import Exchange, Pair
 
 from .known_state import VERDICTS, KnownState, Unreachable, Unreached
 from .unanswered import ours_reads
+from .unwritten import unwritten
 from .validation_ticks import ValidationTicks
 
 _ROUNDS, _LOSSY_ROUNDS = 4, 12  # times that the sign is read and repaired; more where requests are lost
@@ -40,6 +41,7 @@ class Reset:
 
     def __post_init__(self) -> None:
         self.objects = KnownState(self.context)
+        self.pair.port.settings = frozenset(self.objects.settings())
         self.validation = ValidationTicks(self.pair)
 
     def wanted(self) -> dict[Name, Value]:
@@ -121,6 +123,8 @@ class Reset:
             self.pair.port.strays.clear()
             have = self.read_alike(list(wanted)) if self.is_together else self.read(list(wanted))
             self._notice_reboot(have)
+            if is_lossy and self.is_begun:
+                self._notice_unwritten(have, wanted)
             wrong = [name for name, value in wanted.items() if have.get(name) != value]
             if not wrong and is_watched:
                 return []
@@ -153,6 +157,12 @@ class Reset:
         is_anew = self.is_begun and have.get(mode) == integer(SourceMode.POWER_RECOVERY)
         if is_anew and ours_reads(self.pair, [mode]) not in (None, {mode: have[mode]}):
             self.pair.port.way.reboots += 1
+
+    def _notice_unwritten(self, have: _Read, wanted: dict[Name, Value]) -> None:
+        """Settings that read what nobody wrote to them, so that no late request has made it, are told."""
+        settings = {name: value for name, value in wanted.items() if self.objects.is_steady(name)}
+        for name, exchange in unwritten(self.pair, have, settings):
+            self.unlike.append((exchange, _read_words(name, have.get(name))))
 
     def unreached(self, name: Name, value: Value, read: Value | None) -> Unreached:
         request, reply = self.last.get(name, (get(name), None))
