@@ -23,6 +23,7 @@ MODULES = tuple(
         "on_the_way",
         "judge",
         "udp",
+        "held",
         "parts",
         "reports",
         "resume",

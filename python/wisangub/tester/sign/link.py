@@ -9,6 +9,7 @@ from typing import Iterator, Protocol
 from wisangub.refusal import Refusal
 
 from .clock import Clock
+from .held import hold
 
 _MOST_RECEIVED = 65_535
 _MOST_BEHIND = 10_000  # datagrams that lay there already when the time was over; more than a socket has room for
@@ -63,13 +64,19 @@ def resolved(host: str, port: int) -> tuple[socket.AddressFamily, tuple[str | in
 
 
 class UdpLink:
-    """A UDP socket that hears one address alone. Raises Refusal where there is no such host."""
+    """A UDP socket that hears one address alone. Raises Refusal where there is no such host, or where another process
+    of this user tests the sign there."""
 
     def __init__(self, host: str, port: int, clock: Clock) -> None:
         family, address = resolved(host, port)
         self.socket = socket.socket(family, socket.SOCK_DGRAM)
         self.socket.connect(address)
         self.clock, self._behind = clock, 0
+        try:
+            self._held = hold(self.addresses()[1])
+        except Refusal:
+            self.socket.close()
+            raise
 
     def addresses(self) -> tuple[tuple[str, int], tuple[str, int]]:
         """Where datagrams go out, and where they go to."""
@@ -93,3 +100,5 @@ class UdpLink:
 
     def close(self) -> None:
         self.socket.close()
+        if self._held is not None:
+            self._held.close()
