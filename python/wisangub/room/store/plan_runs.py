@@ -21,7 +21,8 @@ from .shown_by import text_of
 from .values import text_or_none, texts, time_of, time_or_none, whole, whole_or_none
 
 _ACTIVATION = 7  # the step that may have put a text on a sign, whatever came of it
-_NOT_SENT = ("withdrawn", GIVEN_UP, "refused", "bad")  # how a command ends of which no sign heard
+_NOT_MEANT = ("withdrawn", "refused", "bad")  # how a command ends that nobody wants any more, or nobody can carry out
+_NOT_SENT = (*_NOT_MEANT, GIVEN_UP)  # how one ends of which no sign heard
 OF_PLANS = "plan "  # the first octets of the confirmations of what plans ask for, and of no other
 RUNS = "SELECT id, plan, occurrence, who, begun, until, ended, batch, said FROM plan_runs"
 # commands of a sign from one on that were not asked for by plans, and came to something or may
@@ -130,7 +131,7 @@ def refused(database: Database, who: str, lines: Sequence[tuple[int, str]]) -> d
         try:
             rules.check(text_of(database, sign, line), forbidden)
         except Refusal as why:
-            found.setdefault(sign, f"{_name_of(database, sign)}: {why}")
+            found.setdefault(sign, f"{name_of(database, sign)}: {why}")
     return found
 
 
@@ -142,7 +143,7 @@ def begin(
     left_out = refused(database, who, plan.lines)
     for sign in plan.signs if newest is not None else ():
         if database.run(_BY_OTHERS, sign, newest):
-            left_out.setdefault(sign, f"{_name_of(database, sign)}: somebody asked for something else meanwhile")
+            left_out.setdefault(sign, f"{name_of(database, sign)}: somebody asked for something else meanwhile")
     lines = [(sign, line) for sign, line in plan.lines if sign not in left_out]
     note(database, who, f"plan {plan.name} begins")
     for words in left_out.values():
@@ -178,8 +179,8 @@ def end(database: Database, name: str, run: Run, who: str) -> None:
     if lines:
         confirmation = f"{OF_PLANS}{run.occurrence} ends {run.id}"
         Commands(database).put_all(list(lines.items()), who, f"plan {name} ends", confirmation)
-    for hidden in _hidden(database, lines) if lines else ():
-        _put_up_again(database, hidden, name)
+    for one in hidden(database, lines) if lines else ():
+        put_up_again(database, one, f"as plan {name} has ended")
 
 
 def asked_by(database: Database, run: Run) -> list[Row]:
@@ -210,7 +211,7 @@ def _is_to_take_off(database: Database, command: int, sign: int, line: str, who:
     return all(how is None and priorities(str(later))[0] < while_shown for later, how in since)
 
 
-def _hidden(database: Database, signs: Container[int]) -> list[Hidden]:
+def hidden(database: Database, signs: Container[int]) -> list[Hidden]:
     """Of each sign what a plan that is on would show: the text of the greatest priority, of equal ones the newest, but
     for those that were withdrawn. All signs are looked at together, since a plan may have a thousand."""
     newest: dict[tuple[int, int], Hidden] = {}
@@ -221,24 +222,25 @@ def _hidden(database: Database, signs: Container[int]) -> list[Hidden]:
     found: dict[int, Hidden] = {}
     for one in newest.values():
         before = found.get(one.sign)
-        if not one.outcome.startswith(_NOT_SENT) and (before is None or one.rank > before.rank):
+        if not one.outcome.startswith(_NOT_MEANT) and (before is None or one.rank > before.rank):
             found[one.sign] = one
     return list(found.values())
 
 
-def _put_up_again(database: Database, hidden: Hidden, ended: str) -> None:
-    """Has a sign show the text of another plan that is on, where one was taken off: not where somebody asked for
-    something else since it was put up. It is done in the name of who began that plan, with his rights now."""
-    if database.run(_BY_OTHERS, hidden.sign, hidden.command):
-        return
-    line = hidden.sign, hidden.line
-    for words in refused(database, hidden.who, [line]).values():
-        note(database, hidden.who, f"plan {hidden.plan} leaves out {words}")
-        return
-    name = _name_of(database, hidden.sign)
-    note(database, hidden.who, f"plan {hidden.plan} goes on at {name}, as plan {ended} has ended")
-    Commands(database).put_more(hidden.batch, [line], hidden.who)
+def put_up_again(database: Database, one: Hidden, why: str) -> bool:
+    """Has a sign show the text of a plan that is on, since another one was taken off or it answers again: not where
+    somebody asked for something else since it was put up. It is done in the name of who began that plan, with his
+    rights now; whether it was done."""
+    if database.run(_BY_OTHERS, one.sign, one.command):
+        return False
+    line = one.sign, one.line
+    for words in refused(database, one.who, [line]).values():
+        note(database, one.who, f"plan {one.plan} leaves out {words}")
+        return False
+    note(database, one.who, f"plan {one.plan} goes on at {name_of(database, one.sign)}, {why}")
+    Commands(database).put_more(one.batch, [line], one.who)
+    return True
 
 
-def _name_of(database: Database, sign: int) -> str:
+def name_of(database: Database, sign: int) -> str:
     return texts(database.run("SELECT name FROM signs WHERE id = ?", sign))[0]

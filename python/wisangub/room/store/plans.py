@@ -14,9 +14,10 @@ from wisangub.room.times import DAYS, Span, Times, machine_zone
 from . import plan_runs, queries, rights, rules
 from .audit import note
 from .connection import Database, Row
-from .plan_runs import RUNS, Plan, Run, Schedule, asked_by, run_of
+from .plan_returns import Returns
+from .plan_runs import RUNS, Plan, Run, Schedule, asked_by, name_of, run_of
 from .steady import PATIENCE, SLACK, Steady
-from .values import texts, time_of, whole
+from .values import time_of, whole
 
 EVERY = 5.0  # seconds from one look for what is due to the next, of all workers together
 _ON_ALREADY = "it was on already"
@@ -82,7 +83,7 @@ def keep(database: Database, name: str, lines: list[tuple[int, str]], who: str) 
                 sign,
                 line,
             )
-            note(database, who, f"plan {held}, {_name_of(database, sign)}: {line}")
+            note(database, who, f"plan {held}, {name_of(database, sign)}: {line}")
         return plan
 
 
@@ -91,7 +92,7 @@ def take_out(database: Database, number: int, sign: int, who: str) -> None:
     with database.transaction(is_alone=True):
         plan = _let(database, number, who)
         if database.run("DELETE FROM plan_texts WHERE plan = ? AND sign = ? RETURNING sign", number, sign):
-            note(database, who, f"plan {plan.name}: {_name_of(database, sign)} is no longer in it")
+            note(database, who, f"plan {plan.name}: {name_of(database, sign)} is no longer in it")
 
 
 def remove(database: Database, number: int, who: str) -> None:
@@ -177,6 +178,7 @@ class Plans:
     def __init__(self, database: Database) -> None:
         self.database = database
         self.steady = Steady()
+        self.returns = Returns(database)
         self._was_doubted = False
         self._said: set[str] = set()
 
@@ -184,10 +186,7 @@ class Plans:
         """Ends and begins plans, where none of the workers has looked just before. The clock is looked at each time, so
         that one which was set long ago is believed where a schedule is made."""
         self.steady.look(lambda: queries.now(self.database))
-        if not self.database.run(
-            "SELECT 1 FROM schedules UNION ALL"
-            " SELECT 1 FROM plan_runs WHERE ended IS NULL AND until IS NOT NULL LIMIT 1"
-        ):
+        if not self.database.run("SELECT 1 FROM schedules UNION ALL SELECT 1 FROM plan_runs LIMIT 1"):
             return
         if self.steady.is_doubted and not self._was_doubted:
             words = "the database's clock was set: no plan begins or ends by it"
@@ -210,6 +209,7 @@ class Plans:
         again = self._over_too_early(plans, now) if self.steady.is_trusted else {}
         for span, number, _, schedule in sorted(self._on(plans, now), key=lambda one: (one[0][0], *one[1:3])):
             self._begin_once(plans[number], schedule, span, again.get(number))
+        self.returns.look()
 
     def _over_too_early(self, plans: dict[int, Plan], now: float) -> dict[int, int]:
         """Lets plans begin again that a clock ended which was ahead, as their time is not over yet: the newest command
@@ -277,7 +277,3 @@ class Plans:
             span[1],
             _ON_ALREADY,
         )
-
-
-def _name_of(database: Database, sign: int) -> str:
-    return texts(database.run("SELECT name FROM signs WHERE id = ?", sign))[0]
