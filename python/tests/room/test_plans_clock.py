@@ -17,7 +17,7 @@ from wisangub.room.times import Times
 
 from .test_clock import jump
 from .test_database import BLANK, OTHER, SIGN, two_stores
-from .test_plans import HOUR, LINE, OFF, lines, look, planned
+from .test_plans import HOUR, LINE, OFF, lines, look, planned, wait
 
 MINUTE = 60.0
 
@@ -82,8 +82,8 @@ def test_a_clock_that_is_set_for_a_while_ends_and_begins_nothing(
     clocks.go(31 * MINUTE)
     assert OFF in asked(held), "it ends at its time"
     said = capfd.readouterr().err.splitlines()
-    words = "the database's clock was set: no plan begins or ends by it for 10 minutes, or until it is back"
-    assert said == [words] * 2, "each worker says it once"
+    words = "the database's clock was set, or is not this machine's: no plan begins or ends by it for 10 minutes"
+    assert said == [f"{words}, or until it is back"] * 2, "each worker says it once"
 
 
 def test_a_clock_that_was_set_is_believed_after_a_while(where: str) -> None:
@@ -188,6 +188,15 @@ def test_a_plan_of_two_schedules_is_on_again_as_long_as_the_longer(where: str) -
     (plan,) = plans.listed(held)
     assert plan.last is not None and before.last is not None and plan.is_on
     assert plan.last.until == before.last.until and asked(held) == [LINE, OFF, LINE]
+
+
+def test_a_worker_that_has_just_begun_doubts_a_clock_that_is_not_its_machine_s(where: str) -> None:
+    """It has seen nothing go on, and would end plans of weeks by the first clock that it sees."""
+    _, held, _ = begun(where)
+    store = two_stores(where)[0]
+    for passed, wanted in ((0.0, [LINE]), (PATIENCE - 1, [LINE]), (PATIENCE + 1, [LINE, OFF])):
+        wait(store, passed, 13 * HOUR)
+        assert asked(held) == wanted, passed
 
 
 def test_a_worker_that_has_just_begun_lets_nothing_begin_again(where: str) -> None:

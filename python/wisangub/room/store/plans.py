@@ -5,6 +5,7 @@ done once, however many workers look, and wherever one of them is killed; worker
 """
 
 import secrets
+import time
 from typing import Iterator
 
 from wisangub.refusal import Refusal
@@ -177,7 +178,7 @@ class Plans:
 
     def __init__(self, database: Database) -> None:
         self.database = database
-        self.steady = Steady()
+        self.steady = Steady(time.time)
         self.returns = Returns(database)
         self._was_doubted = False
         self._said: set[str] = set()
@@ -189,7 +190,7 @@ class Plans:
         if not self.database.run("SELECT 1 FROM schedules UNION ALL SELECT 1 FROM plan_runs LIMIT 1"):
             return
         if self.steady.is_doubted and not self._was_doubted:
-            words = "the database's clock was set: no plan begins or ends by it"
+            words = "the database's clock was set, or is not this machine's: no plan begins or ends by it"
             LOG.warning(f"{words} for {PATIENCE / 60:.0f} minutes, or until it is back")
         self._was_doubted = self.steady.is_doubted
         if self.steady.is_doubted:

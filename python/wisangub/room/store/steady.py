@@ -1,4 +1,4 @@
-"""Whether a database's clock goes as this machine's own, which nobody sets."""
+"""Whether a database's clock goes as this machine's own, which nobody sets, and begins where this machine's is."""
 
 import time
 from typing import Callable
@@ -9,11 +9,13 @@ PATIENCE = 600.0  # seconds for which a clock that was set is watched
 
 class Steady:
     """A clock that was set is doubted until it has gone on for a while as it went then, or is where it was. One that
-    has gone on for as long since it was first looked at is also trusted."""
+    has gone on for as long since it was first looked at is also trusted. Who has just begun has seen nothing go on:
+    where another clock is given, such as the machine's, one that is elsewhere is doubted from the first look on."""
 
-    def __init__(self) -> None:
+    def __init__(self, other: Callable[[], float] | None = None) -> None:
         self.monotonic: Callable[[], float] = time.monotonic
-        self._held: float | None = None  # the database's clock less one's own
+        # the database's clock less one's own
+        self._held: float | None = None if other is None else other() - self.monotonic()
         self._doubted: float | None = None  # the same, as it is since it was set
         self._since = self._set = self._at = 0.0  # by one's own clock
 
@@ -38,8 +40,9 @@ class Steady:
             return found if offset is not None and abs(found - offset) <= SLACK else None
 
         held, doubted = nearest(self._held), nearest(self._doubted)
+        self._since = self._since or self._at
         if self._held is None:
-            self._held, self._since = least, self._at
+            self._held = least
         elif held is not None:
             self._held, self._doubted = held, None
         elif doubted is None:
