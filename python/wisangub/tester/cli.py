@@ -15,7 +15,7 @@ from .chapters import ALL, ASKED, NAMES
 from .context import Context
 from .ends import on_end, passed_over
 from .findings.results import LOSSY, Quiet, Watcher
-from .options import above_nothing, address, count, share, texts, whole
+from .options import above_nothing, address, community, count, share, texts, whole
 from .person.answers import Reader
 from .report import terminal, words
 from .report.baseline import Baseline
@@ -55,7 +55,11 @@ def arguments() -> argparse.ArgumentParser:
         "--sign", required=True, type=pathlib.Path, metavar="DESCRIPTION", help="its description, as in signs/"
     )
     parser.add_argument(
-        "--communities", nargs=2, metavar=("READER", "WRITER"), help="others than those of the description"
+        "--communities",
+        nargs=2,
+        type=community,
+        metavar=("READER", "WRITER"),
+        help="others than those of the description",
     )
     parser.add_argument("--seed", type=int, default=1, help="of the random requests")
     parser.add_argument("--requests", type=whole, default=500, help="how many random requests")
@@ -139,6 +143,8 @@ def _described_with(path: pathlib.Path, communities: list[str] | None) -> bytes:
     octets = path.read_bytes()
     if communities is None:
         return octets
+    if communities[0] == communities[1]:
+        raise Refusal(f"--communities: the reader's and the writer's differ, and both are {communities[0]!r}")
     lines = [
         b" ".join([b"communities", *[word.encode() for word in communities]])
         if line.startswith(b"communities ")

@@ -32,6 +32,14 @@ def share(word: str) -> float:
     return number_of(word, "a number from 0 to 100", lambda number: 0 <= number <= 100)
 
 
+def community(word: str) -> str:
+    """A community, as a description can have it: the type of an option."""
+    held = word.encode("utf-8", "replace")
+    if not 1 <= len(held) <= 32 or any(octet in b" \n\r" for octet in held) or held.decode() != word:
+        raise argparse.ArgumentTypeError(f"1 to 32 octets without a space are wanted, and not {word!r}")
+    return word
+
+
 def _counted(word: str, wanted: str, least: int = 0, most: int = sys.maxsize) -> int:
     """A whole number of an option, from the least to the most."""
     number_of(word, wanted, lambda number: word.isdecimal() and least <= number <= most)

@@ -16,7 +16,7 @@ from types import FrameType
 from wisangub.process.places import add_version, called
 from wisangub.refusal import Refusal, reason
 from wisangub.tester.ends import on_end, passed_over
-from wisangub.tester.options import address, number_of
+from wisangub.tester.options import address, community, number_of
 from wisangub.tester.sign.clock import RealClock
 from wisangub.tester.sign.link import UdpLink
 from wisangub.tester.sign.port import Port
@@ -48,12 +48,9 @@ def seconds(word: str) -> float:
     return number_of(word, "a number above 0 and below 3600", lambda number: 0 < number < 3600)
 
 
-def community(word: str) -> bytes:
-    """A community, as a description can have it: the type of an option."""
-    held = word.encode()
-    if not 1 <= len(held) <= 32 or any(octet in b" \n\r" for octet in held):
-        raise argparse.ArgumentTypeError(f"1 to 32 octets without a space are wanted, and not {word!r}")
-    return held
+def spelled_community(word: str) -> bytes:
+    """A community in its octets: the type of an option."""
+    return community(word).encode()
 
 
 def _arguments() -> argparse.ArgumentParser:
@@ -66,7 +63,7 @@ def _arguments() -> argparse.ArgumentParser:
     parser.add_argument(
         "--communities",
         nargs=2,
-        type=community,
+        type=spelled_community,
         metavar=("READER", "WRITER"),
         default=[held.encode() for held in _COMMUNITIES],
         help=f"{' and '.join(_COMMUNITIES)} where nothing is said",
