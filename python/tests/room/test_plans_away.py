@@ -177,6 +177,7 @@ def test_what_was_hidden_comes_after_the_blank_of_what_hid_it(where: str) -> Non
 
 
 def test_who_may_no_more_has_nothing_put_up_and_that_is_said_once(where: str) -> None:
+    """Until he may again."""
     at = Away(where)
     person(at.held, "gone")
     plans.begin(at.held, at.plan("works", text("WORKS"), "gone"), "gone")
@@ -187,6 +188,8 @@ def test_who_may_no_more_has_nothing_put_up_and_that_is_said_once(where: str) ->
         assert at.asked() == [text("WORKS")]
     said = [what for *_, what in history.audit(at.held, None)]
     assert said.count("plan works leaves out one: gone may not command it") == 1
+    at.held.run("UPDATE users SET disabled = 0 WHERE name = 'gone'")
+    assert at.asked() == 2 * [text("WORKS")]
 
 
 def test_commands_of_years_that_had_no_reply_cost_little(tmp_path: pathlib.Path) -> None:

@@ -52,22 +52,23 @@ class Returns:
 
     def __init__(self, database: Database) -> None:
         self.database = database
-        self._refused: set[int] = set()  # commands that may not be asked for again, which was said
+        self._said: set[int] = set()  # commands of which it stands in the audit that they may not be asked for again
 
     def look(self) -> None:
         """Asks for what is due again, within a transaction: blanks and texts in the order in which they were asked
         for, of texts those that have to be shown."""
         due = [one for one in self._missed() if one.is_first or self._is_back(one)]
         hidden = plan_runs.hidden(self.database, {one.sign for one in due}) if due else []
-        shown = {one.command: one for one in hidden if one.command not in self._refused}
+        shown = {one.command: one for one in hidden}
         for one in due:
             if one.is_end:
                 name = plan_runs.name_of(self.database, one.sign)
                 note(self.database, one.who, f"{one.what}: {name} answers again")
                 Commands(self.database).put_more(one.batch, [(one.sign, one.line)], one.who)
             elif one.command in shown:
-                is_put = plan_runs.put_up_again(self.database, shown[one.command], "which answers again")
-                self._refused |= set() if is_put else {one.command}
+                is_new = one.command not in self._said
+                if not plan_runs.put_up_again(self.database, shown[one.command], "which answers again", is_new):
+                    self._said.add(one.command)
 
     def _missed(self) -> Iterable[_Missed]:
         """Of each sign and what was asked for together the newest command."""

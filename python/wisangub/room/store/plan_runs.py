@@ -227,7 +227,7 @@ def hidden(database: Database, signs: Container[int]) -> list[Hidden]:
     return list(found.values())
 
 
-def put_up_again(database: Database, one: Hidden, why: str) -> bool:
+def put_up_again(database: Database, one: Hidden, why: str, is_refusal_noted: bool = True) -> bool:
     """Has a sign show the text of a plan that is on, since another one was taken off or it answers again: not where
     somebody asked for something else since it was put up. It is done in the name of who began that plan, with his
     rights now; whether it was done."""
@@ -235,7 +235,8 @@ def put_up_again(database: Database, one: Hidden, why: str) -> bool:
         return False
     line = one.sign, one.line
     for words in refused(database, one.who, [line]).values():
-        note(database, one.who, f"plan {one.plan} leaves out {words}")
+        if is_refusal_noted:
+            note(database, one.who, f"plan {one.plan} leaves out {words}")
         return False
     note(database, one.who, f"plan {one.plan} goes on at {name_of(database, one.sign)}, {why}")
     Commands(database).put_more(one.batch, [line], one.who)
