@@ -170,7 +170,7 @@ def test_a_test_that_is_killed_leaves_whole_reports_of_what_was_judged() -> None
 
 
 def test_two_runs_write_no_one_file() -> None:
-    with tempfile.TemporaryDirectory() as name, silence() as port:
+    with tempfile.TemporaryDirectory() as name, silence() as port, silence() as other:
         folder = pathlib.Path(name)
         described, report, capture = folder / "bench.sign", folder / "report.json", folder / "report.pcap"
         described.write_bytes(text.BENCH)
@@ -180,7 +180,7 @@ def test_two_runs_write_no_one_file() -> None:
         with subprocess.Popen(call, cwd=TOP, stdout=subprocess.PIPE) as first:
             assert come(report)
             before = report.read_bytes()
-            ended = [conform(port, described, *more) for more in (options, ("--pcap", str(capture)))]
+            ended = [conform(other, described, *more) for more in (options, ("--pcap", str(capture)))]
             assert report.read_bytes() == before and capture.stat().st_size
             first.terminate()
         for path, one in zip((report, capture), ended):
