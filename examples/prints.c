@@ -37,9 +37,11 @@ static size_t next_part(void)
 /* Words for which there is room, behind those that wait. */
 static void put(const char *format, va_list values)
 {
-    memmove(waits, waits + first, end - first);
-    end -= first;
-    first = 0;
+    if (first > 0) {
+        memmove(waits, waits + first, end - first);
+        end -= first;
+        first = 0;
+    }
     int size = vsnprintf(waits + end, sizeof waits - end, format, values);
     end += size > 0 && (size_t)size < sizeof waits - end ? (size_t)size : 0;
 }
