@@ -56,6 +56,7 @@ def test_a_second_test_of_a_sign_does_not_begin() -> None:
                 process.wait(LONG)
         with mock.patch.dict(os.environ, at):
             UdpLink("127.0.0.1", port, RealClock()).close()
+        assert not list(folder.glob("wisangub-*")), "nothing stays of a test that has ended"
 
 
 def test_signs_of_other_addresses_are_tested_side_by_side() -> None:

@@ -1,6 +1,7 @@
 """One test of a sign at a time on this machine, since two would change what the other has just set: who tests a sign
 holds a file of its address in the user's folder of running programs, until the process ends, however it ends."""
 
+import contextlib
 import errno
 import fcntl
 import os
@@ -17,30 +18,54 @@ _BY_ANOTHER = (errno.EWOULDBLOCK, errno.EACCES)
 _MOST_PID = 20  # octets of a process's number
 
 
-def hold(address: tuple[str, int]) -> BinaryIO | None:
-    """Holds the sign at this address, as long as the file is open. Raises Refusal where another test has it. Where no
-    file can be had it is said that none is held, and the test begins."""
-    host, port = address
-    named = f"[{host}]:{port}" if ":" in host else f"{host}:{port}"
+class Held:
+    """A sign that is held: nobody else of this user tests it until this is closed, or the process is gone. Raises
+    Refusal where another holds it, and OSError where no file can be had."""
+
+    def __init__(self, address: tuple[str, int]) -> None:
+        host, port = address
+        self.named = f"[{host}]:{port}" if ":" in host else f"{host}:{port}"
+        self._path = _folder() / f"wisangub-conform-{urllib.parse.quote(self.named, safe=':[]%')}"
+        self._file = self._taken()
+        self._file.truncate(0)
+        self._file.write(f"{os.getpid()}\n".encode())
+
+    def _taken(self) -> BinaryIO:
+        """The file, locked; one that was taken away meanwhile is none."""
+        while True:
+            flags = os.O_RDWR | os.O_CREAT | os.O_NOFOLLOW
+            file = os.fdopen(os.open(self._path, flags, 0o600), "r+b", buffering=0)
+            try:
+                fcntl.flock(file, fcntl.LOCK_EX | fcntl.LOCK_NB)
+                if os.path.samestat(os.fstat(file.fileno()), self._path.stat()):
+                    return file
+            except FileNotFoundError:
+                pass
+            except OSError as fault:
+                by = file.read(_MOST_PID).decode("ascii", "replace").strip()
+                file.close()
+                if fault.errno not in _BY_ANOTHER:
+                    raise
+                who = f"process {by}" if by.isdigit() else "another process"
+                words = f"a test of the sign at {self.named} runs already: {who}; two would disturb each other"
+                raise Refusal(words) from None
+            file.close()
+
+    def close(self) -> None:
+        """The sign is free again."""
+        with contextlib.suppress(OSError):
+            self._path.unlink()
+        self._file.close()
+
+
+def hold(address: tuple[str, int]) -> Held | None:
+    """Holds the sign at this address. Raises Refusal where another test has it. Where no file can be had it is said
+    that this is not known, and the test begins."""
     try:
-        path = _folder() / f"wisangub-conform {urllib.parse.quote(named, safe=':[]%')}"
-        file = os.fdopen(os.open(path, os.O_RDWR | os.O_CREAT | os.O_NOFOLLOW, 0o600), "r+b", buffering=0)
+        return Held(address)
     except OSError as fault:
-        LOG.info(f"whether another test of the sign at {named} runs is not known: {reason(fault)}")
+        LOG.info(f"whether another test of this sign runs on this machine is not known: {reason(fault)}")
         return None
-    try:
-        fcntl.flock(file, fcntl.LOCK_EX | fcntl.LOCK_NB)
-    except OSError as fault:
-        by = file.read(_MOST_PID).decode("ascii", "replace").strip()
-        file.close()
-        if fault.errno not in _BY_ANOTHER:
-            LOG.info(f"whether another test of the sign at {named} runs is not known: {reason(fault)}")
-            return None
-        who = f"process {by}" if by.isdigit() else "another process"
-        raise Refusal(f"a test of the sign at {named} runs already: {who}; two would disturb each other") from None
-    file.truncate(0)
-    file.write(f"{os.getpid()}\n".encode())
-    return file
 
 
 def _places(user: int) -> tuple[str, ...]:
