@@ -50,6 +50,8 @@ def test_a_second_test_of_a_sign_does_not_begin() -> None:
                 assert refused(command(folder, f"127.0.0.1:{port}", "--repeat", "tick"), at) == said
                 describe = [sys.executable, "-m", "wisangub.tester", "describe", "--to", f"127.0.0.1:{port}"]
                 assert said in refused([*describe, "--communities", "public", "admin"], at)
+                vectors = [sys.executable, "-m", "wisangub.tester", "vectors", "--to", f"127.0.0.1:{port}"]
+                assert refused(vectors, at) == said
                 assert report.read_bytes() == before and not (folder / "other.json").exists()
             finally:
                 process.send_signal(signal.SIGKILL)
@@ -65,6 +67,14 @@ def test_signs_of_other_addresses_are_tested_side_by_side() -> None:
         for link in links:
             link.close()
         UdpLink("127.0.0.1", 9, RealClock()).close()
+
+
+def test_an_address_of_one_interface_alone_is_held_with_it() -> None:
+    with tempfile.TemporaryDirectory() as place, mock.patch.dict(os.environ, {"XDG_RUNTIME_DIR": place}):
+        every = [held.Held(("fe80::1", 9, 0, number)) for number in (0, 1, 2)]
+        assert [one.named for one in every] == ["[fe80::1]:9", "[fe80::1%1]:9", "[fe80::1%2]:9"]
+        for one in every:
+            one.close()
 
 
 def test_without_such_a_folder_there_is_one_among_temporary_files() -> None:

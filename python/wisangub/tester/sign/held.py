@@ -16,15 +16,15 @@ from wisangub.refusal import Refusal, reason
 
 _BY_ANOTHER = (errno.EWOULDBLOCK, errno.EACCES)
 _MOST_PID = 20  # octets of a process's number
+Address = tuple[str | int, ...]  # of either family, as a socket has it
 
 
 class Held:
     """A sign that is held: nobody else of this user tests it until this is closed, or the process is gone. Raises
     Refusal where another holds it, and OSError where no file can be had."""
 
-    def __init__(self, address: tuple[str, int]) -> None:
-        host, port = address
-        self.named = f"[{host}]:{port}" if ":" in host else f"{host}:{port}"
+    def __init__(self, address: Address) -> None:
+        self.named = _named(address)
         self._path = _folder() / f"wisangub-conform-{urllib.parse.quote(self.named, safe=':[]%')}"
         self._file = self._taken()
         self._file.truncate(0)
@@ -58,7 +58,15 @@ class Held:
         self._file.close()
 
 
-def hold(address: tuple[str, int]) -> Held | None:
+def _named(address: Address) -> str:
+    """HOST:PORT, an IPv6 host in brackets, with its interface's number where it is of one alone."""
+    first, port, *more = address
+    host = str(first).partition("%")[0]
+    interface = f"%{more[1]}" if len(more) > 1 and more[1] else ""
+    return f"[{host}{interface}]:{port}" if ":" in host else f"{host}:{port}"
+
+
+def hold(address: Address) -> Held | None:
     """Holds the sign at this address. Raises Refusal where another test has it. Where no file can be had it is said
     that this is not known, and the test begins."""
     try:

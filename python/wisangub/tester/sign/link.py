@@ -73,7 +73,7 @@ class UdpLink:
         self.socket.connect(address)
         self.clock, self._behind = clock, 0
         try:
-            self._held = hold(self.addresses()[1])
+            self._held = hold(self.socket.getpeername())
         except Refusal:
             self.socket.close()
             raise

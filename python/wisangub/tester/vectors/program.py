@@ -20,6 +20,7 @@ from wisangub import junit
 from wisangub.process.places import TOP, add_version, called
 from wisangub.refusal import Refusal, reason
 from wisangub.tester.options import above_nothing, address
+from wisangub.tester.sign.held import hold
 from wisangub.tester.sign.link import resolved
 from wisangub.whole import WholeFile
 
@@ -110,7 +111,7 @@ def main() -> int:
     every = _cases(TOP / "vectors/requests.jsonl")
     wanted = [case for case in every if not case["changes"]]
     try:
-        with socket.socket(family, socket.SOCK_DGRAM) as udp_socket:
+        with socket.socket(family, socket.SOCK_DGRAM) as udp_socket, contextlib.closing(hold(to) or udp_socket):
             udp_socket.settimeout(options.wait)
             tried, is_silent = _compare(udp_socket, to, wanted)
     except OSError as fault:  # no way there, say
