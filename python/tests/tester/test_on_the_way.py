@@ -151,6 +151,35 @@ def test_what_is_wrong_once_before_the_chapters_is_told_with_what_it_read() -> N
         assert told in said and f"reads {word}.0 = 14" not in said, said
 
 
+class HasAtTimesNoSuchName(Around):
+    """An object is none of the sign's in those reads, by their numbers from 1 on."""
+
+    def __init__(self, name: Name, reads: set[int]) -> None:
+        super().__init__()
+        self.name, self.reads, self.count = name, reads, 0
+
+    def answer(self, octets: bytes, message: wire.Message) -> bytes | None:
+        names = [name for name, _ in message.bindings]
+        if message.kind != wire.GET or self.name not in names:
+            return self.right(octets)
+        self.count += 1
+        if self.count not in self.reads:
+            return self.right(octets)
+        refusal = replace(message, kind=wire.RESPONSE, status=wire.NO_SUCH_NAME, index=1 + names.index(self.name))
+        return wire.written(refusal)
+
+
+def test_a_setting_that_is_at_times_not_there_is_put_back_as_it_was() -> None:
+    """A read of many names that is refused is done once more for each."""
+    at = DEFAULTS.index(PAGE_ON)
+    for reads in ({1, 2}, {2, 3}, {2, 3, 4}, {1, 2, 4}):
+        sign = HasAtTimesNoSuchName(PAGE_ON, reads)
+        sign.state.defaults[at] = 77
+        results = tried(sign, "getnext")
+        assert sign.state.defaults[at] == 77 and results.first[PAGE_ON] == integer(77), reads
+        assert results.verdict() is Verdict.DIFFERS and sign.count > max(reads), reads
+
+
 def test_a_setting_that_reads_wrong_at_first_is_put_back_as_it_was() -> None:
     """It is told, and what was read again stands as the sign's own, also where that is none of both."""
     at = DEFAULTS.index(PAGE_ON)

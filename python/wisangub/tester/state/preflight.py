@@ -75,11 +75,13 @@ class Preflight:
                 self.results.set_back.append(said)
 
     def read_surely(self, names: list[Name]) -> dict[Name, Value | None]:
-        """What the sign reads, twice: where both differ that is told, and what it reads a third time stands."""
+        """What the sign reads, twice: where both differ that is told, and of three reads what was read most stands, or
+        last."""
         have, again = self.reset.read(names), self.reset.read(names)
         for name in [name for name in names if have[name] != again[name]]:
             first, then = ("nothing" if read is None else value_words(read, name) for read in (have[name], again[name]))
-            have[name] = self.reset.read([name])[name]
+            reads = [one for one in (self.reset.read([name])[name], again[name], have[name]) if one is not None]
+            have[name] = max(reads, key=reads.count) if reads else None
             exchange = self.on_both(get(name))
             exchange.ours, exchange.mismatch = exchange.theirs, Mismatch(Kind.VALUE, (name,))
             self._wrong_once(exchange, f"it read {first} first and {then} then, {READ_AGAIN}")
