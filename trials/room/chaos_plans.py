@@ -2,6 +2,7 @@
 
 import datetime
 import random
+import re
 import secrets
 from collections import Counter
 
@@ -18,6 +19,9 @@ FIRST, EVERY, LASTS = 8.0, 14.0, 12.0  # seconds until a schedule begins, from o
 BY_HAND = 0.3  # of the looks at which there is something to do
 PRIORITY = 30  # of the first plan's text, by which its commands are known
 _ADDRESS = "192.0.2.1"
+_AGAIN = re.compile(
+    r", (?=as plan |which answers again)"
+)  # after another plan that hid a text, and where its sign was away
 
 
 class Plans:
@@ -109,17 +113,18 @@ def look_at_plans(found: Outcome, store: Store, held: Plans) -> str:
     found.holds("no sign was left out of a plan", not any(said for _, _, _, said in runs))
     begun = Counter(whole(plan) for plan, _, _, _ in runs)
     notes = Counter(str(what[0]) for what in store.database.run("SELECT what FROM audit WHERE what LIKE 'plan %'"))
-    again = Counter(note.partition(", as plan ")[0] for note in notes.elements())
+    again = Counter(_AGAIN.split(note)[0] for note in notes.elements())
     signs = {plan.id: plan.signs for plan in plans.listed(store.database)}
     names = {whole(row): str(name) for row, name in store.database.run("SELECT id, name FROM signs")}
     for at, plan in enumerate(held.numbers):
         for word in ("begins", "ends"):
             found.holds(f"plan {at} {word} once each time", notes[f"plan plan {at} {word}"] == begun[plan])
         for sign in signs[plan]:
-            lines = command_lines(store, sign)
-            times = begun[plan] + again[f"plan plan {at} goes on at {names[sign]}"]  # after each plan that hid it
+            lines, name = command_lines(store, sign), names[sign]
+            times = begun[plan] + again[f"plan plan {at} goes on at {name}"]
             found.holds(f"plan {at} put its text on sign {sign} once each time", lines[held.line(at)] == times)
-            found.holds(f"plan {at} took it off once at most", lines[held.off(at)] <= begun[plan])
+            times = begun[plan] + notes[f"plan plan {at} ends: {name} answers again"]
+            found.holds(f"plan {at} took it off once at most", lines[held.off(at)] <= times)
             rows = store.database.run(
                 "SELECT line, outcome FROM commands WHERE sign = ? ORDER BY id DESC LIMIT 1", sign
             )

@@ -13,8 +13,10 @@ from trials.room.chaos_plans import Plans, look_at_plans
 from trials.room.chaos_targets import Target, look_at_alarms
 from wisangub.room.notices import Webhook
 from wisangub.room.store import alarms, plans
+from wisangub.room.store.readings import Said
 from wisangub.room.store.store import Store
 
+from . import test_plans
 from .bench import bench
 from .people import person
 
@@ -54,6 +56,31 @@ def test_what_does_not_hold_of_plans_is_found(
             assert look_at_plans(found, at.store, held) == "2 times that plans were on, 1 of them by schedules"
             assert any(name.startswith(what) for name in found.failed) is is_broken, found.failed
             assert is_broken or not found.failed
+
+
+def test_what_is_asked_again_of_a_sign_that_was_away_breaks_no_law(
+    tmp_path: pathlib.Path, monkeypatch: pytest.MonkeyPatch
+) -> None:
+    monkeypatch.setattr(chaos_plans, "SCHEDULES", 0)
+    with bench(tmp_path, str(tmp_path / "database")) as at:
+        person(at.store.database, NAME)
+        held = Plans([at.sign_id], random.Random(1))
+        held.enter(at.store)
+        silent = "UPDATE commands SET line_number = id, outcome = 'failed at step 7: no reply', ended = {clock} - 1"
+        for is_end in (False, True):
+            if is_end:
+                plans.end(at.store.database, held.numbers[0], NAME)
+            else:
+                plans.begin(at.store.database, held.numbers[0], NAME)
+            at.store.database.run(f"{silent} WHERE outcome IS NULL")
+            at.store.readings.keep([Said(at.sign_id, -1, 5, '{"mode": 8}')])
+            test_plans.look(at.store)
+            at.store.database.run("UPDATE commands SET outcome = 'accepted' WHERE outcome IS NULL")
+        lines = [line for _, _, line in test_plans.lines(at.store.database)]
+        assert lines == [*[held.line(0)] * 2, *[held.off(0)] * 2]
+        found = Outcome()
+        look_at_plans(found, at.store, held)
+        assert found.failed == ["plans were begun by schedules"]
 
 
 def test_where_no_schedule_was_begun_there_is_a_longer_one(
