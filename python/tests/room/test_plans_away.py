@@ -1,6 +1,7 @@
 """A sign that is away while a plan begins or ends: what the plan asked for is asked for again once it answers."""
 
 import pathlib
+from dataclasses import replace
 
 import pytest
 
@@ -8,7 +9,7 @@ from . import needs
 
 needs.modules("aiohttp", "jinja2")
 
-from wisangub.room.store import history, plans
+from wisangub.room.store import history, plan_returns, plans
 from wisangub.room.store.commands import GIVEN_UP
 from wisangub.room.store.readings import Said
 from wisangub.room.store.sqlite import Sqlite
@@ -16,7 +17,7 @@ from wisangub.room.store.sqlite import Sqlite
 from .people import person
 from .test_alarms import look as look_for_alarms
 from .test_clock import jump
-from .test_database import BLANK
+from .test_database import BLANK, SIGN
 from .test_plans import look
 from .test_plans_together import asked, bench, done, kept, off, text
 
@@ -208,3 +209,21 @@ def test_commands_of_years_that_had_no_reply_cost_little(tmp_path: pathlib.Path)
     at.held.connection.set_progress_handler(lambda: did.append(1), 1000)  # instructions of SQLite
     look(at.store)
     assert len(did) < 500, len(did)
+
+
+def test_many_signs_that_are_back_at_once_have_their_turns(where: str, monkeypatch: pytest.MonkeyPatch) -> None:
+    """Some in each transaction, which keeps all others out; those of which nothing may be asked hold nobody up."""
+    monkeypatch.setattr(plan_returns, "_AT_ONCE", 4)
+    at = Away(where)
+    person(at.held, "gone")
+    signs = list(at.store.signs.enter([replace(SIGN, name=f"{number}", port=2000 + number) for number in range(15)]))
+    for name, who, some in (("first", "gone", signs[:5]), ("second", "me", signs[5:])):
+        plan = plans.keep(at.held, name, [(sign, text(name)) for sign in some], who)
+        plans.begin(at.held, plan, who)
+    at.ends()
+    at.held.run("UPDATE users SET disabled = 1 WHERE name = 'gone'")
+    at.store.readings.keep([Said(sign, -1, 5, '{"mode": 8}') for sign in signs])
+    counts = [len(at.asked()) - len(signs) for _ in range(6)]
+    assert counts == [0, 3, 7, 10, 10, 10], counts
+    rows = at.held.run("SELECT sign FROM commands WHERE outcome IS NULL ORDER BY sign")
+    assert [row[0] for row in rows] == sorted(signs[5:])

@@ -16,6 +16,7 @@ from .commands import GIVEN_UP, Commands
 from .connection import Database
 from .values import time_of, whole
 
+_AT_ONCE = 100  # commands that are asked for again in one transaction, which keeps all others out
 _STEPS = ", ".join(f"'failed at step {step}: no reply'" for step in range(1, 9))
 _AWAY = (
     "SELECT commands.sign, batches.id, commands.id, commands.line, commands.asked_at, batches.who, batches.what,"
@@ -56,19 +57,20 @@ class Returns:
 
     def look(self) -> None:
         """Asks for what is due again, within a transaction: blanks and texts in the order in which they were asked
-        for, of texts those that have to be shown."""
+        for, of texts those that have to be shown. Where many signs are back at once some have their turn later."""
         due = [one for one in self._missed() if one.is_first or self._is_back(one)]
         hidden = plan_runs.hidden(self.database, {one.sign for one in due}) if due else []
         shown = {one.command: one for one in hidden}
-        for one in due:
+        wanted = [one for one in due if one.is_end or one.command in shown]
+        for one in sorted(wanted, key=lambda one: one.command in self._said)[:_AT_ONCE]:
             if one.is_end:
                 name = plan_runs.name_of(self.database, one.sign)
                 note(self.database, one.who, f"{one.what}: {name} answers again")
                 Commands(self.database).put_more(one.batch, [(one.sign, one.line)], one.who)
-            elif one.command in shown:
-                is_new = one.command not in self._said
-                if not plan_runs.put_up_again(self.database, shown[one.command], "which answers again", is_new):
-                    self._said.add(one.command)
+                continue
+            is_new = one.command not in self._said
+            if not plan_runs.put_up_again(self.database, shown[one.command], "which answers again", is_new):
+                self._said.add(one.command)
 
     def _missed(self) -> Iterable[_Missed]:
         """Of each sign and what was asked for together the newest command."""
