@@ -104,9 +104,9 @@ def main() -> int:
     parser = argparse.ArgumentParser(description=__doc__, formatter_class=argparse.RawDescriptionHelpFormatter)
     parser.add_argument("--often", type=int, default=_OFTEN, help=f"how many calls are traced, then twice ({_OFTEN})")
     parser.add_argument("--window", type=int, default=_WINDOW, help=f"instructions a store is on its way ({_WINDOW})")
-    parser.add_argument("topic")
-    parser.add_argument("name")
-    parser.add_argument("side", choices=["proved", "by-hand"])
+    parser.add_argument("topic", help="of the measure, as `measure --list` has it")
+    parser.add_argument("name", help="of the measure, as `measure --list` has it")
+    parser.add_argument("side", choices=["proved", "by-hand"], help="whose calls")
     asked = parser.parse_args()
     with tempfile.TemporaryDirectory() as folder:
         stalls, of = compiled(folder), ["--count", asked.topic, asked.name, asked.side]
